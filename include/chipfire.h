@@ -19,9 +19,9 @@
  *     4 end of an edge, 5 mult, 6 loop, 7 edge out of the sink           the edge, from 0
  *     8 no way leads to the sink                                         the least such vertex
  *     9 chips are not one number for each vertex; of many games: 12      no place
- *     10 more than 2^40 chips, 11 limit                                  the game or the drop, from 0
+ *     10 more than 2^40 chips, 11 limit                                  the game, the drop or the configuration, from 0
  *     12 slices that belong together have other lengths                  no place
- *     13 the limit stopped the play of a drop, or of the game before it  the drop, or 0
+ *     13 the limit stopped the play of a drop, or of the game before it  the drop, or 0; or the configuration
  *     14 there is no pile                                                no place
  *     26 a drop on no vertex                                             the drop
  *     53 what was claimed is not how the game ends                       the least vertex that differs
@@ -104,6 +104,75 @@ uint64_t chipfire_verify(uint64_t vertices, uint64_t sink,
                          const uint64_t *fired, size_t fired_len,
                          const uint64_t *ends, size_t ends_len,
                          uint64_t *place);
+
+/* ---- Recurrent configurations
+ *
+ * Configurations on one graph: numbers of chips by vertex, those of one behind those of another. Numbers at the sink do
+ * not count, and 0 is written there. Each call stabilizes some configurations, and each of these has up to 2^40 chips off
+ * the sink, and lets no vertex fire more than 2^40 times: else there is fault 10 or 13, at the configuration, or at 0. On
+ * a fault all slices stay as they were. */
+
+/* Finds the least burning script: how often each vertex fires when a recurrent configuration burns.
+ *
+ * script   one number for each vertex: gets how often it fires
+ * chips    as many: gets how many chips that takes from each vertex on balance */
+uint64_t chipfire_burning(uint64_t vertices, uint64_t sink,
+                          const uint64_t *tails, size_t tails_len,
+                          const uint64_t *heads, size_t heads_len,
+                          const uint64_t *mults, size_t mults_len,
+                          uint64_t *script, size_t script_len,
+                          uint64_t *chips, size_t chips_len,
+                          uint64_t *place);
+
+/* Says which configurations are recurrent.
+ *
+ * chips    the configurations
+ * flags    one number for each configuration: gets 1 if it is, else 0 */
+uint64_t chipfire_are_recurrent(uint64_t vertices, uint64_t sink,
+                                const uint64_t *tails, size_t tails_len,
+                                const uint64_t *heads, size_t heads_len,
+                                const uint64_t *mults, size_t mults_len,
+                                const uint64_t *chips, size_t chips_len,
+                                uint64_t *flags, size_t flags_len,
+                                uint64_t *place);
+
+/* Puts in place of each of so many configurations the one recurrent configuration that is equivalent to it. */
+uint64_t chipfire_recurrent(uint64_t vertices, uint64_t sink,
+                            const uint64_t *tails, size_t tails_len,
+                            const uint64_t *heads, size_t heads_len,
+                            const uint64_t *mults, size_t mults_len,
+                            size_t rows,
+                            uint64_t *chips, size_t chips_len,
+                            uint64_t *place);
+
+/* Puts in place of each of so many configurations the one superstable configuration that is equivalent to it. */
+uint64_t chipfire_superstable(uint64_t vertices, uint64_t sink,
+                              const uint64_t *tails, size_t tails_len,
+                              const uint64_t *heads, size_t heads_len,
+                              const uint64_t *mults, size_t mults_len,
+                              size_t rows,
+                              uint64_t *chips, size_t chips_len,
+                              uint64_t *place);
+
+/* Puts in place of each of so many configurations the recurrent one whose stable sum with it is the identity, if it is
+ * recurrent; else that of its recurrent representative. */
+uint64_t chipfire_inverse(uint64_t vertices, uint64_t sink,
+                          const uint64_t *tails, size_t tails_len,
+                          const uint64_t *heads, size_t heads_len,
+                          const uint64_t *mults, size_t mults_len,
+                          size_t rows,
+                          uint64_t *chips, size_t chips_len,
+                          uint64_t *place);
+
+/* Finds the identity of the sandpile group.
+ *
+ * chips    one number for each vertex: gets the identity */
+uint64_t chipfire_identity(uint64_t vertices, uint64_t sink,
+                           const uint64_t *tails, size_t tails_len,
+                           const uint64_t *heads, size_t heads_len,
+                           const uint64_t *mults, size_t mults_len,
+                           uint64_t *chips, size_t chips_len,
+                           uint64_t *place);
 
 /* ---- Piles that are kept
  *

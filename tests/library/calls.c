@@ -156,6 +156,86 @@ static void try_drops(void)
     FAULT(avalanches, (c.at[1] = 3, c.amounts[0] = UINT64_MAX), 10, 0);
 }
 
+static uint64_t find_burning(struct call *c)
+{
+    return chipfire_burning(c->vertices, c->sink, c->tails, c->edges, c->heads, c->heads_len, c->mults, c->edges,
+                            c->fired, c->fired_len, c->chips, c->chips_len, &c->place);
+}
+
+static uint64_t are_recurrent(struct call *c)
+{
+    return chipfire_are_recurrent(c->vertices, c->sink, c->tails, c->edges, c->heads, c->heads_len, c->mults, c->edges,
+                                  c->chips, c->chips_len, c->stopped, c->games, &c->place);
+}
+
+static uint64_t recurrent(struct call *c)
+{
+    return chipfire_recurrent(c->vertices, c->sink, c->tails, c->edges, c->heads, c->heads_len, c->mults, c->edges,
+                              c->games, c->chips, c->chips_len, &c->place);
+}
+
+static uint64_t superstable(struct call *c)
+{
+    return chipfire_superstable(c->vertices, c->sink, c->tails, c->edges, c->heads, c->heads_len, c->mults, c->edges,
+                                c->games, c->chips, c->chips_len, &c->place);
+}
+
+static uint64_t inverse(struct call *c)
+{
+    return chipfire_inverse(c->vertices, c->sink, c->tails, c->edges, c->heads, c->heads_len, c->mults, c->edges,
+                            c->games, c->chips, c->chips_len, &c->place);
+}
+
+static uint64_t identity(struct call *c)
+{
+    return chipfire_identity(c->vertices, c->sink, c->tails, c->edges, c->heads, c->heads_len, c->mults, c->edges,
+                             c->chips, c->chips_len, &c->place);
+}
+
+/* Chips a, b beside the sink are in the class of a + 2b modulo 3. Its recurrent configurations are 1, 1 and 1, 0 and 0, 1,
+ * and its superstable ones 0, 0 and 1, 0 and 0, 1, in the order of the classes. */
+static void try_groups(void)
+{
+    const struct call start = begin();
+    struct call one = start, c;
+    one.chips_len = one.fired_len = N;
+    c = one;
+    EXPECT(find_burning(&c) == 0 && c.place == 0 && are(c.fired, 3, NUMBERS(1, 1, 0)) && are(c.chips, 3, NUMBERS(1, 1, 0)));
+    c = one;
+    EXPECT(identity(&c) == 0 && c.place == 0 && are(c.chips, 3, NUMBERS(1, 1, 0)));
+    c = start;
+    EXPECT(are_recurrent(&c) == 0 && c.place == 0 && are(c.stopped, 2, NUMBERS(0, 1)));
+    c = start;
+    EXPECT(recurrent(&c) == 0 && c.place == 0 && are(c.chips, 6, NUMBERS(1, 0, 0, 1, 1, 0)));
+    c = start;
+    EXPECT(superstable(&c) == 0 && c.place == 0 && are(c.chips, 6, NUMBERS(1, 0, 0, 0, 0, 0)));
+    c = start;
+    EXPECT(inverse(&c) == 0 && c.place == 0 && are(c.chips, 6, NUMBERS(0, 1, 0, 1, 1, 0)));
+    try_graphs(find_burning, one);
+    try_graphs(are_recurrent, start);
+    try_graphs(recurrent, start);
+    try_graphs(superstable, start);
+    try_graphs(inverse, start);
+    try_graphs(identity, one);
+    FAULT(find_burning, c.fired_len = 6, 12, 0);
+    FAULT(are_recurrent, c.games = 1, 12, 0);
+    FAULT(recurrent, c.chips_len = 5, 12, 0);
+    FAULT(superstable, c.games = 3, 12, 0);
+    FAULT(inverse, (c.games = 1, c.sink = 9), 12, 0);
+    FAULT(identity, c.chips_len = 6, 12, 0);
+    FAULT(recurrent, (c.chips[3] = UINT64_C(1) << 40), 10, 1);
+    FAULT(superstable, (c.chips[1] = UINT64_MAX), 10, 0);
+    FAULT(inverse, (c.chips[4] = UINT64_C(1) << 40), 10, 1);
+    /* (on the sink they do not count) */
+    c = start, c.chips[2] = UINT64_MAX;
+    EXPECT(recurrent(&c) == 0 && are(c.chips, 6, NUMBERS(1, 0, 0, 1, 1, 0)));
+    /* (on the path to the sink the farther vertex fires twice for each chip on it) */
+    c = start, c.edges = c.heads_len = 3, c.tails[1] = 1, c.heads[1] = 0, c.tails[2] = 1, c.heads[2] = 2;
+    c.chips[0] = 0, c.chips[3] = (UINT64_C(1) << 40) - 1, c.chips[4] = 0;
+    const struct call far = c;
+    do { struct call start = far; FAULT(recurrent, c.place = GUARD, 13, 1); } while (0);
+}
+
 static uint64_t pile_new(struct chipfire_pile *pile, struct call *c)
 {
     return chipfire_pile_new(pile, c->vertices, c->sink, c->tails, c->edges, c->heads, c->heads_len, c->mults, c->edges,
@@ -393,6 +473,8 @@ static void try_nulls(void)
     chipfire_pile_free(&pile);
     EXPECT(chipfire_verify(1, 0, NULL, 0, NULL, 0, NULL, 0, 9, NULL, 0, NULL, 0, NULL, 0, &place) == 9);
     EXPECT(chipfire_verify(1, 0, NULL, 0, NULL, 0, NULL, 0, 9, NUMBERS(4), 1, NUMBERS(0), 1, NUMBERS(4), 1, &place) == 0);
+    EXPECT(chipfire_recurrent(1, 0, NULL, 0, NULL, 0, NULL, 0, 0, NULL, 0, &place) == 0 && place == 0);
+    EXPECT(chipfire_are_recurrent(1, 0, NULL, 0, NULL, 0, NULL, 0, NULL, 0, NULL, 0, &place) == 0);
     EXPECT(chipfire_sent(NULL, 0, 0) == 46 && chipfire_got(NULL, 0, &parent, 0) == 46);
     EXPECT(chipfire_may_ack(NULL, 0, NULL, 0, 0, 0, 1, &told) == 46);
     EXPECT(chipfire_acked(NULL, 0, NULL, 0, &parent, 0, 1, 0) == 46);
@@ -428,6 +510,7 @@ int main(void)
     try_faults_of_piles();
     try_stopped_piles();
     try_claims();
+    try_groups();
     try_detector();
     return wrong;
 }

@@ -12,6 +12,7 @@ use chip_library::{CallFault, EdgeLists, VERSION, avalanches, stabilize_all, ver
 use std::alloc::Global;
 
 mod detector;
+mod group;
 mod pile;
 
 /// The version of the library: 1,000,000 for each of the first number, 1,000 for each of the second, and the third.

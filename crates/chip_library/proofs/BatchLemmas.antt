@@ -1,32 +1,15 @@
 -- Serves Batch.antt.
 -- The rows of games, one after another.
-use Rattle.std.proofs.Common.{◌≡◌, ℕ, ◌*◌, ◌+◌, ◌<◌, ◌≤◌, List, [], ◌∷◌, ◌++◌, length, take, drop, refl, sym, ap, ◌∙◌, arith}
-use Rattle.std.proofs.Common.{length-append, length-drop, mul-le-mul_right, zero-mul}
-use Rattle.std.proofs.lemmas.List.{take_all, take-append-le, drop-append-le, get_or_append_left, get_or_push, length_push}
+use Rattle.std.proofs.Common.{ℕ, ◌+◌, ◌<◌, List, [], ◌∷◌, ◌++◌, length, refl, sym, ◌∙◌, arith}
+use Rattle.std.proofs.Common.{length-append, zero-mul}
+use Rattle.std.proofs.lemmas.List.{get_or_append_left, get_or_push, length_push}
 use borrow.Author.Count.{below_more}
-use Rattle.std.proofs.Math.Seq.{drop-append_seam}
 use Rattle.chip_graph.specs.Multigraph.{Multigraph}
 use Rattle.chip_graph.specs.ChipGame.{IsGame}
 use Rattle.chip_sequence.specs.Play.{IsPlayed}
 use Rattle.chip_sequence.specs.declared.outcome.Outcome.{Outcome}
-use Rattle.chip_library.specs.Batch.{row, game_at, Games, ArePlayed}
-
--- a row before the last of k lies within them
-pub room_for_row : (n i k : ℕ) → i < k → i * n + n ≤ k * n
-room_for_row n i k before = let next : i + 1 ≤ k = omega arith in let a = mul-le-mul_right n next in omega arith
-
--- a row before the last of k stays the same if more numbers come behind
-row_front : (n k : ℕ) (xs ys : List ℕ) → length xs ≡ k * n → (i : ℕ) → i < k → row n (xs ++ ys) i ≡ row n xs i
-row_front n k xs ys long i before =
-    let room = room_for_row n i k before in
-    let first : i * n ≤ length xs = omega arith in
-    let rest : n ≤ length (drop (i * n) xs) = omega (arith, length-drop (i * n) xs) in
-    rw (drop-append-le (i * n) xs ys first) (take-append-le n (drop (i * n) xs) ys rest)
-
--- the numbers that come behind k rows are the next
-row_next : (n k : ℕ) (xs ys : List ℕ) → length xs ≡ k * n → length ys ≡ n → row n (xs ++ ys) k ≡ ys
-row_next n k xs ys long each =
-    ap (take n) (ap (λ (j : ℕ). drop j (xs ++ ys)) (sym long) ∙ drop-append_seam xs ys) ∙ take_all n ys (omega arith)
+use Rattle.chip_recurrent.proofs.RowLemmas.{row_front, row_next}
+use Rattle.chip_library.specs.Batch.{game_at, Games, ArePlayed}
 
 -- no game was played
 pub played_none : (G : Multigraph) (limit : ℕ) (chips : List ℕ)

@@ -1,19 +1,16 @@
 -- Many games on one graph, the numbers of one after those of another.
-use Rattle.std.specs.Prelude.{◌≡◌, ◌⊎◌, ℕ, ◌*◌, ◌<◌, List, [], length, take, drop, slice_index, Result, Ok, Err}
+use Rattle.std.specs.Prelude.{◌≡◌, ◌⊎◌, ℕ, ◌*◌, ◌<◌, List, [], length, slice_index, Result, Ok, Err}
 use Rattle.chip_graph.specs.Multigraph.{Multigraph, IsGraph}
 use Rattle.chip_graph.specs.ChipGame.{ChipGame, IsGame}
 use Rattle.chip_sequence.specs.Counted.{game_from}
 use Rattle.chip_sequence.specs.Play.{IsPlayed}
 use Rattle.chip_sequence.specs.declared.outcome.Outcome.{Outcome}
+pub use Rattle.chip_recurrent.specs.Rows.{row}
 use Rattle.chip_library.specs.declared.edges.EdgeLists.{EdgeLists}
 use Rattle.chip_library.specs.declared.fault.CallFault.{CallFault}
 use Rattle.chip_library.specs.declared.fault.CallFault.TheVariants.{Lengths, NoMemory}
 use Rattle.chip_library.specs.EdgeLists.{HasWholeRows, graph_of}
 use Rattle.chip_library.specs.CallFaults.{IsFaultOfGraph, IsFaultOfGame}
-
--- the numbers of game i, if each game has n
-abbrev pub row : ℕ → List ℕ → ℕ → List ℕ
-row n numbers i = take n (drop (i * n) numbers)
 
 -- game i, which begins with its row of these chips
 abbrev pub game_at : Multigraph → ℕ → List ℕ → ℕ → ChipGame

@@ -6,3 +6,4 @@ pub mod Drops
 pub mod PartBooks
 pub mod Worked
 pub mod KeptGames
+pub mod GroupCalls

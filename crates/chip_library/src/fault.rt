@@ -12,9 +12,10 @@ pub enum CallFault {
     Game(GameFault, u64),
     /// This drop is on no vertex.
     Vertex(u64),
-    /// With this drop there are too many chips.
+    /// With this drop, or in a stabilization of this row, there are too many chips.
     Total(u64),
-    /// The limit has stopped the play of this drop; if that is 0, of this drop or of the game before it.
+    /// The limit has stopped the play of this drop, or a stabilization of this row. At 0 it may be that of the game before
+    /// all drops.
     Stopped(u64),
     /// This vertex is the least of which another outcome is claimed.
     Differs(u64),

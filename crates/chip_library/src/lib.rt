@@ -3,10 +3,12 @@
 //! A call answers that all is well and writes its slices, or tells the first fault and leaves them as they were.
 #![tactic(auto)]
 
+pub use chip_recurrent::Form;
 pub use claims::{verify, verify_watched};
 pub use drops::avalanches;
 pub use edges::EdgeLists;
 pub use fault::CallFault;
+pub use group::{are_recurrent, burning, identity, representatives};
 pub use kept::KeptPile;
 pub use stabilize::{stabilize_all, stabilize_all_watched};
 
@@ -16,6 +18,7 @@ mod drops;
 pub mod edges;
 mod fault;
 mod game;
+mod group;
 mod kept;
 pub mod laws;
 mod stabilize;

@@ -5,8 +5,9 @@ use Rattle.std.proofs.lemmas.List.{drop-drop}
 use Rattle.chip_graph.specs.Multigraph.{Multigraph}
 use Rattle.chip_graph.specs.ChipGame.{ChipGame, IsGame}
 use Rattle.chip_sequence.specs.Play.{IsPlayed}
+use Rattle.chip_recurrent.proofs.RowLemmas.{room_for_row}
 use Rattle.chip_library.specs.Batch.{game_at, row}
-use Rattle.chip_library.proofs.BatchLemmas.{played_none, played_more, room_for_row}
+use Rattle.chip_library.proofs.BatchLemmas.{played_none, played_more}
 use Rattle.chip_library.proofs.stabilize.play_each.Goals as goal
 
 pub loop-number-init : goal.loop-number-init

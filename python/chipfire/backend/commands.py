@@ -418,7 +418,9 @@ def explain(number: int | None = None, *, program: AnyProgram = None) -> str:
 
 
 def identity(graph: AnyGraph, *, program: AnyProgram = None) -> Configuration:
-    """The recurrent identity: of the recurrent configurations, the one that adds nothing to any of them."""
+    """The recurrent identity: of the recurrent configurations, the one that adds nothing to any of them.
+    Proved: the identity, where the library finds it in one call; else the stabilizations. Not proved: that it is passed
+    on, or else the difference between them."""
     return known_graph(graph, program).identity(program=program)
 
 

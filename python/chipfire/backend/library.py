@@ -46,6 +46,16 @@ _NAME = "libchipfire.so"
 _NUMBER = ctypes.c_uint64
 _SLICE = (ctypes.c_void_p, ctypes.c_size_t)
 
+#: The calls on rows of configurations, and what each takes behind the graph.
+_ROW_CALLS = {
+    "chipfire_burning": (*_SLICE, *_SLICE),
+    "chipfire_are_recurrent": (*_SLICE, *_SLICE),
+    "chipfire_recurrent": (ctypes.c_size_t, *_SLICE),
+    "chipfire_superstable": (ctypes.c_size_t, *_SLICE),
+    "chipfire_inverse": (ctypes.c_size_t, *_SLICE),
+    "chipfire_identity": _SLICE,
+}
+
 #: No numbers, one number, and a slice of length 0, which points to something.
 _NONE = array("Q")
 _ZERO = array("Q", [0])
@@ -137,17 +147,17 @@ def _load(file: str) -> ctypes.CDLL:
         (found.chipfire_verify, 3),
     )
     for call, slices in calls:
-        call.restype = _NUMBER
-        call.argtypes = [
-            _NUMBER,
-            _NUMBER,
-            *3 * _SLICE,
-            _NUMBER,
-            *slices * _SLICE,
-            ctypes.POINTER(_NUMBER),
-        ]
+        _declare(call, _NUMBER, *slices * _SLICE)
+    for name, words in _ROW_CALLS.items():
+        _declare(getattr(found, name), *words)
     _declare_piles(found)
     return found
+
+
+def _declare(call: Any, *words: Any) -> None:
+    """Says what a call takes: a graph, these words, and where to write the place of a fault."""
+    call.restype = _NUMBER
+    call.argtypes = [_NUMBER, _NUMBER, *3 * _SLICE, *words, ctypes.POINTER(_NUMBER)]
 
 
 def _declare_piles(found: ctypes.CDLL) -> None:
@@ -234,21 +244,23 @@ def slice_of(name: str, numbers: Any) -> tuple[int, int]:
     raise TypeError(f"the {name} are no {kind}: {type(numbers).__name__}")
 
 
-def _call(call: Any, graph: Graph, limit: int, *arrays: Any, but: int = 0) -> int:
-    """Makes a call of the library. A fault is raised, `but` this one, whose number is returned; 0 if there is none."""
+def _call(call: Any, graph: Graph, number: int | None, *arrays: Any, but: int = 0) -> int:
+    """Makes a call of the library, with a number between graph and arrays, or None. A fault is raised, `but` this one,
+    whose number is returned; 0 if there is none."""
     place = _NUMBER()
     of_graph = (min(graph.vertices, 2**64 - 1), min(graph.sink, 2**64 - 1))
     # As long as there are views no array gets another length.
     views = [memoryview(numbers) for numbers in arrays]
     words = [
-        word for numbers in (*graph.long_columns, *arrays) for word in slice_of("numbers", numbers)
+        word for column in (*graph.long_columns, *arrays) for word in slice_of("numbers", column)
     ]
-    number: int = call(*of_graph, *words[:6], limit, *words[6:], place)
+    numbers = [] if number is None else [number]
+    status: int = call(*of_graph, *words[:6], *numbers, *words[6:], place)
     for view in views:
         view.release()
-    if number not in (0, but):
-        raise refused(number, place.value, graph)
-    return number
+    if status not in (0, but):
+        raise refused(status, place.value, graph)
+    return status
 
 
 def _call_on(call: str, graph: Graph, limit: int, **arrays: Any) -> None:
@@ -353,3 +365,55 @@ def is_end(
         return None
     arrays = (array("Q", numbers) for numbers in (chips, fired, ends))
     return _call(found.chipfire_verify, graph, min(limit, at_most), *arrays, but=53) == 0
+
+
+def _row_call(name: str, graph: Graph, rows: Sequence[int], program: FileName | None) -> Any:
+    """The call of this name, if there is a library and what it plays is short: rows, and each degree twice."""
+    found = loaded() if program is None else None
+    width = graph.vertices or 1
+    heaviest = max([sum(rows[at : at + width]) for at in range(0, len(rows), width)], default=0)
+    if not found or heaviest + 2 * sum(graph.degrees()) >= most(graph):
+        return None
+    return getattr(found, name)
+
+
+def burning(graph: Graph, program: FileName | None) -> tuple[array[int], array[int]] | None:
+    """The least burning script and its chips; or None if that is Python's to find."""
+    call = _row_call("chipfire_burning", graph, (), program)
+    if not call:
+        return None
+    script, chips = _ZERO * graph.vertices, _ZERO * graph.vertices
+    _call(call, graph, None, script, chips)
+    return script, chips
+
+
+def are_recurrent(graph: Graph, rows: Sequence[int], program: FileName | None) -> array[int] | None:
+    """Of each configuration 1 if it is recurrent, else 0; or None if that is Python's to find."""
+    call = _row_call("chipfire_are_recurrent", graph, rows, program)
+    if not call:
+        return None
+    flags = _ZERO * (len(rows) // graph.vertices)
+    _call(call, graph, None, array("Q", rows), flags)
+    return flags
+
+
+def representative(
+    graph: Graph, form: str, chips: Sequence[int], program: FileName | None
+) -> array[int] | None:
+    """The `recurrent`, the `superstable` or the `inverse` configuration of a class; or None if that is Python's to find."""
+    call = _row_call(f"chipfire_{form}", graph, chips, program)
+    if not call:
+        return None
+    found = array("Q", chips)
+    _call(call, graph, 1, found)
+    return found
+
+
+def identity(graph: Graph, program: FileName | None) -> array[int] | None:
+    """The identity of the sandpile group; or None if that is Python's to find."""
+    call = _row_call("chipfire_identity", graph, (), program)
+    if not call:
+        return None
+    found = _ZERO * graph.vertices
+    _call(call, graph, None, found)
+    return found

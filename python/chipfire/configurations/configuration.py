@@ -165,6 +165,9 @@ class Configuration(Drawn, Sums):
 
     def equivalent_superstable(self, *, program: FileName | None = None) -> Configuration:
         """The superstable configuration that is equivalent: `chipfire.superstable_representative`."""
+        chips = _from_library("superstable", self, program)
+        if chips is not None:
+            return chips
         most = self.graph.max_stable()
         return most - recurrent_representative(most - self, program)
 
@@ -232,11 +235,15 @@ def burning_test(
         return burning_test(
             graph.loop_free, [tuple(map(operator.sub, row, graph.loops)) for row in rows], program
         )
-    fuel = burning(graph, program)[1]
     width = graph.vertices
     none = (0,) * graph.vertices
     # (no play comes back to what has less than no chip somewhere)
-    burnt = (map(operator.add, row if min(row) >= 0 else none, fuel) for row in rows)
+    played = [row if min(row) >= 0 else none for row in rows]
+    flags = library.are_recurrent(graph, [*itertools.chain.from_iterable(played)], program)
+    if flags is not None:
+        return [bool(flag) and row is start for flag, row, start in zip(flags, rows, played)]
+    fuel = burning(graph, program)[1]
+    burnt = (map(operator.add, row, fuel) for row in played)
     left, _ = stabilized_rows(graph, [*itertools.chain.from_iterable(burnt)], program)
     left[graph.sink :: width] = array("Q", bytes(8 * len(rows)))
     return [
@@ -264,6 +271,8 @@ def burning(graph: Graph, program: FileName | None) -> tuple[Sequence[int], Sequ
     """The least burning script, and the chips that it takes away, by numbers; `chipfire.burning_script` tells how."""
     none = [0] * graph.vertices
     graph = graph.loop_free
+    if found := library.burning(graph, program):
+        return found
     # (each vertex fires once from as many chips as that takes, so what lies there then came in)
     entering = graph.position_after(graph.degrees(), [1] * graph.vertices)
     start = Configuration(graph, [max(count - 1, 0) for count in entering])
@@ -276,8 +285,18 @@ def burning(graph: Graph, program: FileName | None) -> tuple[Sequence[int], Sequ
 @cached_on_graph
 def identity(graph: Graph, program: FileName | None) -> Sequence[int]:
     """The recurrent identity, by numbers: with `m` the most stable chips, 2m less its stabilization, stabilized."""
+    if not graph.loops and (found := library.identity(graph, program)):
+        return found
     twice = 2 * graph.max_stable()
     return (twice - twice.stabilize(program=program)).stabilize(program=program).numbers
+
+
+def _from_library(form: str, held: Configuration, program: FileName | None) -> Configuration | None:
+    """The equivalent configuration of this form, if no chips are below 0 and the library finds it; else None."""
+    if held.graph.loops or min(held.numbers) < 0:
+        return None
+    chips = library.representative(held.graph, form, held.numbers, program)
+    return None if chips is None else Configuration(held.graph, chips)
 
 
 def recurrent_representative(held: Configuration, program: FileName | None) -> Configuration:
@@ -289,6 +308,9 @@ def recurrent_representative(held: Configuration, program: FileName | None) -> C
         held += (
             max(-(count // more) for count, more in zip(held.numbers, lift.numbers) if more) * lift
         )
+    chips = _from_library("recurrent", held, program)
+    if chips is not None:
+        return chips
     # (a sum is recurrent if one of the two is, and no chips of the other are below 0)
     found = (held + identity(held.graph, program)).stabilize(program=program)
     if not found.is_recurrent(program=program):

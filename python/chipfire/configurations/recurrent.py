@@ -24,15 +24,15 @@ def burning_script(graph: AnyGraph, *, program: AnyProgram = None) -> Configurat
     """The least burning script, by Speer: how often each vertex fires when a recurrent configuration burns: at least
     once, on an undirected graph exactly once, and so that no vertex has more chips than before. It is one more than the
     counts of a play that begins with one chip less on each vertex than edges lead in.
-    Proved: the counts of that play. Not proved: that they are the script."""
+    Proved: the script, where the library finds it in one call; else the counts of that play. Not proved: that the script is
+    passed on."""
     known = known_graph(graph, program)
     return Configuration(known, burning(known, program)[0])
 
 
 def burning_configuration(graph: AnyGraph, *, program: AnyProgram = None) -> Configuration:
     """The chips that `burning_script` takes away. Added to a recurrent configuration and stabilized, it comes back.
-    Proved: the counts of the play that `burning_script` tells of. Not proved: that they come to these chips.
-    """
+    Proved and not proved: as of `burning_script`."""
     known = known_graph(graph, program)
     return Configuration(known, burning(known, program)[1])
 
@@ -42,7 +42,8 @@ def is_recurrent(graph: AnyGraph, chips: Chips, *, program: AnyProgram = None) -
 
     This is the burning test, for directed multigraphs too: a configuration is recurrent exactly if it comes back when
     `burning_configuration` is added to it and the sum is stabilized.
-    Proved: the stabilizations. Not proved: the comparison, and that the test is right."""
+    Proved: whether it is, where the library says it in one call; else the stabilizations, and that the test is right. Not
+    proved: that it is passed on, or else the comparison."""
     return as_configuration(graph, chips, program).is_recurrent(program=program)
 
 
@@ -60,9 +61,10 @@ def recurrent_representative(
     graph: AnyGraph, chips: Chips, *, program: AnyProgram = None
 ) -> Configuration:
     """The one recurrent configuration to which firings, also backward, lead from this one; chips may be below 0. A
-    configuration equivalent to zero is added until no chips are below 0, and then the identity. The stable sum is
-    tested.
-    Proved: the stabilizations. Not proved: the sums between them."""
+    configuration equivalent to zero is added in Python until no chips are below 0.
+    Proved: the rest, where the library finds it in one call. Else the identity is added, and the stable sum is tested:
+    then the stabilizations are proved. Not proved: that the chips are lifted right, and passed on.
+    """
     return as_configuration(graph, chips, program).equivalent_recurrent(program=program)
 
 
@@ -70,8 +72,9 @@ def superstable_representative(
     graph: AnyGraph, chips: Chips, *, program: AnyProgram = None
 ) -> Configuration:
     """The one superstable configuration that is equivalent to this one, the q-reduced one; chips may be below 0.
-    With `m` the maximal stable one, it is `m` less the recurrent representative of `m` less this one, and so tested.
-    Proved: the stabilizations. Not proved: the sums between them."""
+    With `m` the maximal stable one, it is `m` less the recurrent representative of `m` less this one.
+    Proved: the configuration, where no chips are below 0 and the library finds it in one call; else what is proved of
+    `recurrent_representative`. Not proved: that it is passed on, or else the two differences."""
     return as_configuration(graph, chips, program).equivalent_superstable(program=program)
 
 

@@ -101,7 +101,15 @@ pub fn work_off_in_turn(
             return made;
         }
         first += 1;
-        match turn(graph, limit, vertex, listed - 1, &mut queue[first..], chips, fired) {
+        match turn(
+            graph,
+            limit,
+            vertex,
+            listed - 1,
+            &mut queue[first..],
+            chips,
+            fired,
+        ) {
             Some(more) => listed = more,
             None => return made,
         }

@@ -180,7 +180,7 @@ first_more number told t column i long inside =
     rw add-one (drop-cons column (length told) 0 (omega arith)) in
     let first = length-map told number in
     let written = set_at (map number told) (slice_index column (length told)) (drop (length told + 1) column) (number t)
-        i (omega arith) in
+    i (omega arith) in
     let more = map-append number told (t ∷ []) in
     let longer = length_push told t in
     rw (rest, longer, more, append_assoc) written

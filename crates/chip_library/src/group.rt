@@ -74,11 +74,7 @@ pub fn representatives(
 
 /// Writes the identity of the sandpile group, a number for each vertex and 0 at the sink. On a fault `chips` stays as it
 /// was.
-pub fn identity(
-    alloc: Global,
-    edges: EdgeLists<'_>,
-    chips: &mut [u64],
-) -> Result<(), CallFault>
+pub fn identity(alloc: Global, edges: EdgeLists<'_>, chips: &mut [u64]) -> Result<(), CallFault>
     ensures { FindsIdentity edges.entry chips.old chips.new result }
 {
     if !has_rows(edges, 1, chips) {

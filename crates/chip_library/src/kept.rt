@@ -150,12 +150,7 @@ impl KeptPile {
 
     /// Drops chips on a pile that is stable, and plays on to the end: the avalanche, or `None` if the limit has stopped
     /// it.
-    fn drop_on_stable(
-        self,
-        alloc: Global,
-        vertex: u64,
-        count: u64,
-    ) -> (KeptPile, Option<Avalanche>)
+    fn drop_on_stable(self, alloc: Global, vertex: u64, count: u64) -> (KeptPile, Option<Avalanche>)
         requires stable { self.state ≡ PileState.Stable }
         requires is_vertex { vertex < self.pile.game.graph.vertices }
         requires few_chips { sum self.pile.game.start + count ≤ max_total }

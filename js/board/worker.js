@@ -4,6 +4,9 @@ import { ChipfireFault, Graph, load } from "../chipfire.js";
 
 const STOPPED = 13;
 const SIZES = 1024;
+const DEGREES = { square: 4, triangular: 6, hexagonal: 3 };
+/** How many vertices are compared before all are. */
+const FEW = 200;
 /** How borders are joined, and how many chips each firing loses, since without a border none would leave. */
 const BORDERS = {
   open: { periodic: [false, false], loss: 0 },
@@ -94,22 +97,26 @@ function withoutSink(chips) {
   return chips;
 }
 
-/** A graph's edges with one number for each tail and head, as a text: that of another order is the same. */
-function textOf(edges) {
+/** Whether two graphs have the same edges, in any order, out of the vertices below some number. */
+function areSame(one, other, most) {
   const sums = new Map();
-  for (const [tail, head, mult] of edges) {
-    const ends = tail * 2 ** 21 + head;
-    sums.set(ends, (sums.get(ends) ?? 0) + mult);
+  for (const [{ tails, heads, mults }, sign] of [[one, 1], [other, -1]]) {
+    for (let edge = 0; edge < tails.length; edge++) {
+      const tail = Number(tails[edge]);
+      if (tail >= most) continue;
+      const ends = tail * 2 ** 21 + Number(heads[edge]);
+      sums.set(ends, (sums.get(ends) ?? 0) + sign * Number(mults[edge]));
+    }
   }
-  return [...sums].sort(([one], [other]) => one - other).join(" ");
+  return Array.from(sums.values()).every((sum) => sum === 0);
 }
 
 const rowsOf = ({ tails, heads, mults }) =>
   Array.from(tails, (tail, edge) => [Number(tail), Number(heads[edge]), Number(mults[edge])]);
 
 /** The sizes that a lattice with these edges may have: the squares beside the first one tell the columns. */
-function sizesOf(edges, sink) {
-  const beside = edges.filter(([tail]) => tail === 0).map(([, head]) => head);
+function sizesOf({ tails, heads }, sink) {
+  const beside = Array.from(heads, Number).filter((_, edge) => tails[edge] === 0n);
   const widths = new Set([sink, ...beside.flatMap((head) => [head, head + 1, sink - head])]);
   const sizes = [...widths].map((columns) => ({ rows: sink / columns, columns }));
   return sizes.filter(({ rows, columns }) => Number.isInteger(rows) && rows <= SIZES && columns <= SIZES);
@@ -118,14 +125,17 @@ function sizesOf(edges, sink) {
 /** The board whose graph this is. */
 function boardOf({ vertices, sink, edges }) {
   if (sink !== vertices - 1 || sink < 1) throw new Error("its sink is not the last vertex");
-  const wanted = textOf(edges);
-  for (const size of sizesOf(edges, sink)) {
-    for (const lattice of ["square", "triangular", "hexagonal"]) {
+  const wanted = Graph.fromEdges(vertices, sink, edges);
+  const degree = sumOf(numbersOf(wanted.mults)) / sink;
+  for (const size of sizesOf(wanted, sink)) {
+    for (const lattice of Object.keys(DEGREES)) {
       for (const borders of Object.keys(BORDERS)) {
         const how = { ...size, lattice, borders };
+        if (DEGREES[lattice] + BORDERS[borders].loss !== degree) continue;
         const isEven = (size.rows % 2 === 0 || borders !== "all") && (size.columns % 2 === 0 || borders === "open");
         if (lattice === "hexagonal" && !isEven) continue;
-        if (textOf(rowsOf(gridOf(how))) === wanted) return how;
+        const own = gridOf(how);
+        if ([FEW, vertices].every((most) => areSame(wanted, own, most))) return how;
       }
     }
   }

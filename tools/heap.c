@@ -1,7 +1,7 @@
 /* The heap of chipfire.wasm, over the memory of the module: what the kit's heap defines over the C library's malloc.
  *
  * Free blocks are a list by their addresses, and each block begins with its size. Where no free block is large enough
- * the memory grows, and where it cannot, the answer is no, as malloc's. The module has one thread. Nothing here is
+ * the memory grows; where it cannot, there is no memory, as of malloc. The module has one thread. Nothing here is
  * proved. */
 typedef unsigned long long word;
 /* (as wide as a pointer) */

@@ -114,7 +114,7 @@ function areSame(one, other, most) {
 const rowsOf = ({ tails, heads, mults }) =>
   Array.from(tails, (tail, edge) => [Number(tail), Number(heads[edge]), Number(mults[edge])]);
 
-/** The sizes that a lattice with these edges may have: the squares beside the first one tell the columns. */
+/** The sizes that a lattice with these edges may have: the squares beside the first one show the columns. */
 function sizesOf({ tails, heads }, sink) {
   const beside = Array.from(heads, Number).filter((_, edge) => tails[edge] === 0n);
   const widths = new Set([sink, ...beside.flatMap((head) => [head, head + 1, sink - head])]);

@@ -1,4 +1,4 @@
-// A large grid beside what the native library has answered, which lies in the file that CHIPFIRE_LARGE names.
+// A large grid beside what the native library has returned, which lies in the file that CHIPFIRE_LARGE names.
 import assert from "node:assert/strict";
 import { readFileSync } from "node:fs";
 import { test } from "node:test";

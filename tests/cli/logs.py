@@ -3,13 +3,14 @@
 What must come is known from the definitions alone, by all consistent cuts: a cut is a number of rows of each process, and is
 consistent if it can be reached from the empty one row by row, each met where it stands. The logs are small; some have a
 row lost, doubled or moved, or their rows in another order. A second run has the rows of the processes mixed in another
-way, and must write the same.
+way, and must write the same. Of a log in no order, a terminal also gets where the waits lead.
 """
 import subprocess
 import tempfile
 from collections import Counter
 
 import listed
+import terminal
 
 LOGS = 1000
 BASIC = {"send": 1, "receive": -1}
@@ -155,6 +156,35 @@ def judged(log, with_past, first=False, processes=0):
     return lines_of(log, least_of, with_past, first)
 
 
+def furthest_of(rows):
+    """A log, and the cut at its greatest progress."""
+    log = Log(rows)
+    return log, max(log.cuts(log.empty), key=sum)
+
+
+def waits_of(log, furthest):
+    """The words of where the waits lead from the least process with a row left at this cut. A process waits for the one that
+    sends on the stream of its next row."""
+    made = dict(zip(log.processes, furthest))
+    left = {p: log.steps[p][made[p]] for p in log.processes if made[p] < len(log.steps[p])}
+    senders = {stream(*step): p for p in log.processes for step in log.steps[p] if delta(step[0]) > 0}
+    way = [min(left)]
+    while (sender := senders.get(stream(*left[way[-1]]))) in left and sender not in way:
+        way.append(sender)
+    last = way[-1]
+    if sender in way:
+        waits, last = way.index(sender), sender
+        names = ", ".join(map(str, way[waits:]))
+        end = f"{'; ' * (waits > 0)}each of these waits for the next, and the last for the first: {names}"
+    else:
+        waits, (kind, channel) = len(way) - 1, left[last]
+        got = log.steps[last][:made[last]].count((kind, channel))
+        message = f"{'control ' * (kind in CONTROL)}message {got} of channel {channel}"
+        nobody = "no process sends there" if sender is None else f"process {sender}, which sends there, has no row left"
+        end = f"{', which' if waits else 'it'} waits at its row {made[last]} for {message}, and {nobody}"
+    return f"from there {waits} wait{'s' * (waits > 1)} lead{'s' * (waits == 1)} to process {last}" * (waits > 0) + end
+
+
 def random_log(draw, most=9, slips=0.05):
     """A log of up to so many rows and an `active` of each of up to four processes. Slips are how many of them may be
     wrong."""
@@ -222,6 +252,10 @@ def faults_of(draw, program):
             must, came = expected(them, *options), answer(program, room, them, *options)
             if must != came:
                 faults.append(f"{them} with {options}: expected {must}, came {came}")
+    if " 70 " in must[2]:
+        place = must[2].partition("Stuck ")[2].strip()
+        waits = waits_of(*furthest_of(rows))
+        faults += terminal.told_of_waits(program, [f"{p},{kind},{channel}" for p, kind, channel in rows], place, waits)
     return faults
 
 

@@ -1,6 +1,6 @@
 """What a person at a terminal is told of a fault, tried in a pseudo-terminal: below the line of the fault stand the file and
-the row, or what is wrong with the arguments. Where standard error is no terminal there is that line alone. And standard
-input where it is closed, and where it is the file of a trace.
+the row, or what is wrong with the arguments; of a log in no order also where its waits lead. Where standard error is no
+terminal there is that line alone. And standard input where it is closed, and where it is the file of a trace.
 """
 import functools
 import os
@@ -9,6 +9,8 @@ import subprocess
 import tempfile
 
 SECONDS = 60
+# How many rows a long log has.
+ROWS = 100_000
 FILES = {
     "graph.json": '{"edges":[[0,1,1],[0,2,1],[1,0,1],[1,2,1]],"sink":2,"version":1,"vertices":3}',
     "far.json": '{"edges":[],"sink":1,"version":1,"vertices":2}',
@@ -53,6 +55,36 @@ TOLD = {
     "verify graph.json chips.csv played.json":
         ("53 Differs 0", ["in played.json", "fault 53 Differs v: the report is not of this game, and v is the least vertex that differs"]),
 }
+# Logs in no order: their rows, the place of the fault, and where the waits lead from there, which is seen by hand.
+CYCLE = "each of these waits for the next, and the last for the first:"
+WAITS = {
+    "a cycle of two": ("0,hear,1 0,tell,0 1,hear,0 1,tell,1", "0 0", f"{CYCLE} 0, 1"),
+    "a cycle of three":
+        ("0,active,0 0,receive,2 0,send,0 0,tell,1 1,hear,1 1,tell,0 2,active,0 2,hear,0 2,send,2", "0 1", f"{CYCLE} 0, 2, 1"),
+    "a process that waits for itself": ("0,hear,0 0,tell,0", "0 0", f"{CYCLE} 0"),
+    "one wait before a cycle":
+        ("0,hear,1 1,hear,2 1,tell,1 2,hear,3 2,tell,2 2,tell,0 1,hear,0 2,hear,4 1,tell,3", "0 0",
+         f"from there 1 wait leads to process 1; {CYCLE} 1, 2"),
+    "two waits before a process that waits for itself":
+        ("0,hear,0 1,tell,0 1,hear,9 2,hear,1 2,tell,9 2,tell,1 0,hear,0 1,tell,0", "0 1",
+         f"from there 2 waits lead to process 2; {CYCLE} 2"),
+    "nobody sends":
+        ("0,passive,0 1,passive,0 1,receive,3", "1 1",
+         "it waits at its row 1 for message 0 of channel 3, and no process sends there"),
+    "nobody sends after one wait":
+        ("0,receive,1 3,active,0 3,hear,1 3,send,1", "0 0",
+         "from there 1 wait leads to process 3, which waits at its row 1 for control message 0 of channel 1, and no process sends there"),
+    "a sender without a row left":
+        ("0,tell,5 0,over,0 1,hear,5 1,hear,5", "1 1",
+         "it waits at its row 1 for control message 1 of channel 5, and process 0, which sends there, has no row left"),
+    "a sender without a row left after two waits":
+        ("2,hear,0 2,hear,0 2,tell,1 1,hear,1 1,tell,2 0,hear,2 3,tell,0", "0 0",
+         "from there 2 waits lead to process 2, which waits at its row 1 for control message 1 of channel 0, and "
+         "process 3, which sends there, has no row left"),
+    "a basic message of a channel with control messages":
+        ("0,active,0 0,tell,4 1,hear,4 1,receive,4 0,passive,0", "1 1",
+         "it waits at its row 1 for message 0 of channel 4, and no process sends there"),
+}
 # Commands that are none, and the words that have to stand below the fault.
 WRONG = {
     "run graph.json chips.csv --wrokers 3": ["--wrokers", "--workers"],
@@ -81,10 +113,11 @@ WRONG = {
 }
 
 
-def run(program, words, is_terminal, **how):
-    """The status of a run, and what it wrote on standard output and on standard error, which may be a terminal."""
+def run(program, words, is_terminal, more=(), **how):
+    """The status of a run, and what it wrote on standard output and on standard error, which may be a terminal. There are the
+    files, and more."""
     with tempfile.TemporaryDirectory(prefix="chipfire-terminal-") as room:
-        for name, text in FILES.items():
+        for name, text in [*FILES.items(), *more]:
             with open(f"{room}/{name}", "w", encoding="utf-8") as file:
                 file.write(text)
         ours, theirs = pty.openpty() if is_terminal else os.pipe()
@@ -113,6 +146,32 @@ def told_of(program, words):
     wanted = (status, "", line + below, True), (status, "", line, True)
     got = run(program, words, True), run(program, words, False)
     return [] if got == wanted else [f"expected {wanted}, got {got}"]
+
+
+def told_of_waits(program, rows, place, waits, words="judge log.csv --large"):
+    """What is told wrongly of a log in no order, in a file, and as standard input."""
+    log = "process,kind,channel\n" + "".join(f"{row}\n" for row in rows)
+    line = f"chipfire: fault 70 Stuck {place}\n"
+    meaning = "fault 70 Stuck v i: the rows of a trace or a log fit together in no order"
+    below = "".join(f"  {it}\n" for it in [f"in {words.split()[1]}", meaning, waits, "`chipfire explain 70` says more."])
+    wanted = (1, "", line + below, True), (1, "", line, True)
+    how = {"more": [("log.csv", log)], "preexec_fn": take_log}
+    got = run(program, words, True, **how), run(program, words, False, **how)
+    return [] if got == wanted else [f"expected {wanted}, got {got}"]
+
+
+def ring(count):
+    """The rows of so many processes, each of which hears of the one before it, and the first of the last."""
+    for process in range(count):
+        yield f"{process},hear,{(process - 1) % count}"
+        yield f"{process},tell,{process}"
+
+
+def chain(count):
+    """The rows of so many processes, each of which hears of the one after it; of the last one, nobody tells."""
+    for process in range(count):
+        yield f"{process},hear,{process + 1}"
+        yield f"{process},tell,{process}"
 
 
 def told_of_wrong(program, words):
@@ -144,7 +203,32 @@ def take_chips():
     os.dup2(os.open("chips.csv", os.O_RDONLY), 0)
 
 
+def take_log():
+    """Has standard input be the log."""
+    os.dup2(os.open("log.csv", os.O_RDONLY), 0)
+
+
+def waits_tests(program):
+    """Logs in no order, of which some are long."""
+    for name, (rows, place, waits) in WAITS.items():
+        yield f"waits: {name}", functools.partial(told_of_waits, program, rows.split(), place, waits)
+    rows, place, waits = WAITS["a cycle of two"]
+    for words in ("judge - --large", "judge log.csv --first", "judge log.csv --past --processes 2"):
+        yield f"waits: chipfire {words}", functools.partial(told_of_waits, program, rows.split(), place, waits, words)
+    for count in (8, 9, ROWS // 2):
+        more = f", and {count - 8} more" if count > 8 else ""
+        named = ", ".join(["0", *(str(count - it) for it in range(1, 8))])
+        cycle = f"{CYCLE} {named}{more}"
+        yield f"waits: a cycle of {count}", functools.partial(told_of_waits, program, [*ring(count)], "0 0", cycle)
+    for count in (3, ROWS // 2):
+        lead = f"from there {count - 1} waits lead to process {count - 1}, which waits at its row 0"
+        end = f"for control message 0 of channel {count}, and no process sends there"
+        chained = f"{lead} {end}"
+        yield f"waits: a chain of {count}", functools.partial(told_of_waits, program, [*chain(count)], "0 0", chained)
+
+
 def tests(program):
+    yield from waits_tests(program)
     for words in TOLD:
         yield f"chipfire {words}", functools.partial(told_of, program, words)
     for words in WRONG:

@@ -188,23 +188,27 @@ impl<R: Files<File = File> + Input + Clock + Eprint + AllocGlobal> Console<'_, R
         )
     }
 
-    /// Judges the claims of a log.
+    /// Judges the claims of a log. If its rows fit in no order, `waits` gets where the waits lead.
     pub fn judge<O: Opener, W: Write>(
         &self,
         files: &O,
         asked: &JudgeArguments<'_>,
+        waits: &mut String,
         output: &mut W,
     ) -> Result<Ended, Fault>
         ensures { Judges O.known asked.now (W.contents output.old) (W.contents output.new) result }
     {
         let mut log = files.open(&asked.log)?;
-        judge_engine_with(
+        let mut progress = ClaimProgress::start(self);
+        let ended = judge_engine_with(
             self.rt.alloc(),
             &mut log,
             judge_options(asked),
-            &mut ClaimProgress::start(self),
+            &mut progress,
             output,
-        )
+        );
+        *waits = progress.waits;
+        ended
     }
 }
 

@@ -4,9 +4,10 @@
 //! out.
 
 use crate::console::Console;
+use crate::terminal::say_waits;
 use chip_fire::{GivenUse, Play, Search, Watch};
 use chip_graph::Game;
-use chip_judge::ClaimWatch;
+use chip_judge::{ClaimWatch, Waits};
 use std::rt::Clock;
 
 /// Writes how far a play on one thread is: what it does, its rounds and its firings.
@@ -92,16 +93,21 @@ impl<R: Clock + Eprint> Watch for RoundProgress<'_, R> {
     }
 }
 
-/// Writes which claim of a log is judged.
+/// Writes which claim of a log is judged, and keeps what there is to say of waits.
 #[derive(Drop)]
 pub struct ClaimProgress<'a, R: Clock + Eprint> {
     console: &'a Console<'a, R>,
+    /// Where the waits of a log lead that is in no order, if there is memory for that.
+    pub waits: String,
 }
 
-impl<'a, R: Clock + Eprint> ClaimProgress<'a, R> {
+impl<'a, R: Clock + Eprint + AllocGlobal> ClaimProgress<'a, R> {
     /// Before the first claim.
     pub fn start(console: &'a Console<'a, R>) -> ClaimProgress<'a, R> {
-        ClaimProgress { console }
+        ClaimProgress {
+            console,
+            waits: String::new(console.rt.alloc()),
+        }
     }
 }
 
@@ -110,6 +116,12 @@ impl<R: Clock + Eprint> ClaimWatch for ClaimProgress<'_, R> {
         if self.console.is_due() {
             let claim = claim.saturating_add(1);
             let _ = eprintln!(self.console.rt; "chipfire: progress: claim {claim} of {claims}");
+        }
+    }
+
+    fn waits(&mut self, waits: &Waits) {
+        if say_waits(&mut self.waits, waits).is_err() {
+            self.waits.clear();
         }
     }
 }

@@ -49,7 +49,9 @@ const FOUR_CHIPS: &str = "vertex,chips\n0,4\n";
 fn main(rt: HostRuntime) -> ExitCode {
     // What the command-line library says of the arguments, or the name of the file that was opened or read last.
     let mut about = String::new(rt.alloc());
-    let ended = run(&rt, &mut about);
+    // Where the waits of a log lead that is in no order.
+    let mut waits = String::new(rt.alloc());
+    let ended = run(&rt, &mut about, &mut waits);
     // If even this cannot be written, the status still says it.
     match &ended {
         Ok(ended) if ended.cut => {
@@ -59,7 +61,7 @@ fn main(rt: HostRuntime) -> ExitCode {
         Err(fault) => {
             let _ = eprintln!(&rt; "chipfire: {fault}");
             if rt.stderr().is_terminal() {
-                let _ = tell_more(&rt, fault, &about);
+                let _ = tell_more(&rt, fault, &about, &waits);
             }
         }
     }
@@ -76,7 +78,8 @@ fn exit_code(ended: &Result<Ended, Fault>) -> ExitCode
     }
 }
 
-/// Does what the program's arguments ask for. Of a fault, `about` gets what it is about, if there is memory for that.
+/// Does what the program's arguments ask for. Of a fault, `about` gets what it is about, and `waits` where the waits of a log
+/// lead, if there is memory for that.
 fn run<
     R: Env
         + Files<File = File>
@@ -88,7 +91,7 @@ fn run<
         + Threads
         + Wait
         + Sync,
->(rt: &R, about: &mut String) -> Result<Ended, Fault> {
+>(rt: &R, about: &mut String, waits: &mut String) -> Result<Ended, Fault> {
     let arguments: Vec<String> = match env::args(rt) {
         Ok(arguments) => arguments.collect(rt.alloc())?,
         Err(error) => {
@@ -104,7 +107,7 @@ fn run<
     match parse(rt.alloc(), &arguments) {
         Ok(request) => {
             let console = Console::start(rt, request.has_progress());
-            let ended = serve(&console, &request, &mut output);
+            let ended = serve(&console, &request, waits, &mut output);
             if let Some(place) = console.last_argument() {
                 if let Some(argument) = arguments.get(place) {
                     let _ = about.push_str(argument.as_str());
@@ -129,7 +132,12 @@ fn run<
 fn serve<
     R: Files<File = File> + Input + Clock + Eprint + AllocGlobal + Threads + Wait + Sync,
     W: io::Write,
->(console: &Console<'_, R>, request: &Request<'_>, output: &mut W) -> Result<Ended, Fault> {
+>(
+    console: &Console<'_, R>,
+    request: &Request<'_>,
+    waits: &mut String,
+    output: &mut W,
+) -> Result<Ended, Fault> {
     let alloc = console.rt.alloc();
     match request {
         Request::Help(text) => conclude(output, text.as_bytes(), Ended::of(Status::Done)),
@@ -141,7 +149,7 @@ fn serve<
         Request::Replay(asked) => console.replay(&console, asked, output),
         Request::Resume(asked) => console.resume(&console, asked, output),
         Request::Verify(asked) => console.verify(&console, asked, output),
-        Request::Judge(asked) => console.judge(&console, asked, output),
+        Request::Judge(asked) => console.judge(&console, asked, waits, output),
         Request::Explain(number) => explain_engine(
             alloc,
             "fault",

@@ -1,7 +1,7 @@
 """Which rows of a log wait for a message that nobody sends: how far its rows can be met, and who waits for whom there.
 
 The program names the least process that waits at greatest progress, which is proved. What is found here is tested, and
-not proved.
+not proved. At a terminal the program says the same of a log in a file.
 """
 
 from __future__ import annotations

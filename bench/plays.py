@@ -15,9 +15,9 @@ import os
 import random
 import time
 
-import frame  # (it has Python find the next)
+import library  # (before the next, which has Python find that of tools/)
+import frame
 import inputs
-import library
 
 PATIENCE = 120.0
 

@@ -33,8 +33,10 @@ import importlib
 import importlib.util
 import json
 import multiprocessing
+import multiprocessing.util
 import os
 import resource
+import shutil
 import subprocess
 import sys
 import tempfile
@@ -61,6 +63,7 @@ SHARING = ("package",)
 #: it is listed it is dealt out to several processes.
 LONGEST = (
     "package",
+    "python test_browser",
     "hostile calls",
     "cli large",
     "hostile texts",
@@ -69,7 +72,6 @@ LONGEST = (
     "hostile memory",
     "docs pages",
     "library test_web",
-    "python test_browser",
     "python test_divisors",
     "library test_games",
     "library test_board",
@@ -318,15 +320,17 @@ def show(its, result):
 
 
 def use_room(room):
-    """Has a process of the pool write into a folder, which goes in the end."""
-    tempfile.tempdir = room
+    """Has a process of the pool write into a folder of its own. It takes that away when it ends, beside the others."""
+    tempfile.tempdir = tempfile.mkdtemp(dir=room)
+    # (some tests try there what another user may do)
+    os.chmod(tempfile.tempdir, 0o711)
+    multiprocessing.util.Finalize(None, shutil.rmtree, (tempfile.tempdir, True), exitpriority=0)
 
 
 def run_all(jobs, program, lanes):
     """Runs jobs side by side, shows what comes of each, and returns all of it."""
     results = []
     with tempfile.TemporaryDirectory(prefix="chipfire-tests-") as room:
-        # (some tests try there what another user may do)
         os.chmod(room, 0o711)
         fork = multiprocessing.get_context("fork")
         with concurrent.futures.ProcessPoolExecutor(lanes, fork, use_room, (room,)) as pool:

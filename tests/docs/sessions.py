@@ -158,15 +158,16 @@ def wrong_commands(commands, top):
 
 def faults_of(page):
     """Returns what is wrong with a page."""
+    import made
     import test_released
 
-    commands, top = commands_of(page), test_released.clone()
+    commands = commands_of(page)
     left_out = missing(commands)
-    made = [it for it in commands if it.block not in left_out]
-    found = [f"{name}: {fault}" for name, faults in wrong_commands(made, top) for fault in faults]
-    found += faults_of_page(page, top)
-    # (a process that is forked leaves its folders to the runner, which takes them away one by one in the end)
-    shutil.rmtree(top, ignore_errors=True)
+    with made.ending:
+        top = test_released.clone()
+        wrong = wrong_commands([it for it in commands if it.block not in left_out], top)
+        found = [f"{name}: {fault}" for name, faults in wrong for fault in faults]
+        found += faults_of_page(page, top)
     if left_out and not found:
         raise unittest.SkipTest("all but " + ", ".join(f"{block}, for want of {it}" for block, it in left_out.items()))
     return found

@@ -1,8 +1,9 @@
 """The packages that all tests here try: made once, by ./package in a checkout of its own that has the built program, and
 the libraries beside it.
 
-No command that is run here finds a proof kit.
+No command that is run here finds a proof kit. What a test makes in folders goes when it ends, but for what others use too.
 """
+import contextlib
 import functools
 import glob
 import os
@@ -49,6 +50,33 @@ def need(*tools):
             raise unittest.SkipTest(f"there is no {tool}")
 
 
+#: What goes, or is put back, when the test ends that runs.
+ending = contextlib.ExitStack()
+
+
+class Test(unittest.TestCase):
+    """A test whose folders go when it ends."""
+
+    def tearDown(self):
+        ending.close()
+
+
+def kept(make):
+    """Has a function make what it makes once; the folders of that stay until all tests end."""
+
+    @functools.cache
+    @functools.wraps(make)
+    def once(*given):
+        global ending
+        of_test, ending = ending, contextlib.ExitStack()
+        try:
+            return make(*given)
+        finally:
+            ending = of_test
+
+    return once
+
+
 @functools.cache
 def rooms():
     """Returns the folder of all that the tests write; it goes when they end."""
@@ -58,7 +86,9 @@ def rooms():
 
 def room():
     """Returns a new folder."""
-    return tempfile.mkdtemp(dir=rooms())
+    path = tempfile.mkdtemp(dir=rooms())
+    ending.callback(shutil.rmtree, path, ignore_errors=True)
+    return path
 
 
 def read(path):
@@ -85,7 +115,7 @@ def commit(top):
     run("git", *who, "commit", "-q", "--allow-empty", "-m", "tests", cwd=top, check=True)
 
 
-@functools.cache
+@kept
 def sources():
     """Returns a checkout of the repository as it is here, with nothing built in it, and no release; no test changes it."""
     top = room()
@@ -97,11 +127,35 @@ def sources():
     return top
 
 
-def checkout():
-    """Returns a new checkout of the same."""
-    top = room()
-    run("git", "clone", "-q", sources(), top, check=True)
+@functools.cache
+def idle_clones(_source):
+    """Returns the clones of a checkout that no test has."""
+    return []
+
+
+def clone_of(source):
+    """Returns a clone of a checkout, as it was cloned. When the test ends it is put back, and lent to the next one."""
+    clones = idle_clones(source)
+    if clones:
+        top = clones.pop()
+    else:
+        top = tempfile.mkdtemp(dir=rooms())
+        run("git", "clone", "-q", "--shared", source, top, check=True)
+    ending.callback(put_back, top, clones)
     return top
+
+
+def put_back(top, clones):
+    """Has a clone be as it was cloned, if it is still there."""
+    if os.path.isdir(top):
+        run("git", "reset", "-q", "--hard", "origin/HEAD", cwd=top, check=True)
+        run("git", "clean", "-q", "-ffdx", cwd=top, check=True)
+        clones.append(top)
+
+
+def checkout():
+    """Returns a checkout of the same, which a test may change."""
+    return clone_of(sources())
 
 
 def library(name):
@@ -130,7 +184,7 @@ def pythons():
     return dict(sorted(found.items()))
 
 
-@functools.cache
+@kept
 def bare_environment(python):
     """Returns an environment of a Python with nothing but pip in it; no test changes it."""
     top = room()
@@ -166,7 +220,7 @@ def package(top, *words, python=sys.executable, **more):
     return run(python, f"{top}/package.py", *words, **more)
 
 
-@functools.cache
+@kept
 def home():
     """Returns a checkout with the program and its packages, which are tried; no test changes it."""
     need("dpkg-deb")
@@ -191,7 +245,7 @@ def path_of(end, top=None):
     return next(f"{dist}/{it}" for it in os.listdir(dist) if it.endswith(end))
 
 
-@functools.cache
+@kept
 def unpacked():
     """Returns the folder that was in the archive."""
     need("tar", "xz")

@@ -1,7 +1,6 @@
 """The manual page and the completions have each command and option that --help has, and work."""
 import functools
 import re
-import unittest
 
 import made
 
@@ -36,7 +35,7 @@ def spaced(text):
     return " ".join(text.split())
 
 
-class Helps(unittest.TestCase):
+class Helps(made.Test):
     def test_all_that_the_tests_compare_with_is_found(self):
         self.assertEqual(words("check"), ["--help", "--large", "-h"])
         self.assertEqual(words(""), ["--help", "--version", "-V", "-h"])
@@ -44,7 +43,7 @@ class Helps(unittest.TestCase):
             "check", "plain", "avalanches", "run", "simulate", "replay", "resume", "verify", "judge", "explain"])
 
 
-class Manual(unittest.TestCase):
+class Manual(made.Test):
     @staticmethod
     @functools.cache
     def page():
@@ -84,7 +83,7 @@ class Manual(unittest.TestCase):
         self.assertRegex(self.page().splitlines()[-1], rf"^chipfire {re.escape(made.version())} ")
 
 
-class Bash(unittest.TestCase):
+class Bash(made.Test):
     def offered(self, *typed):
         """What a real bash offers for the last of these words."""
         script = ('source "$0"; COMP_WORDS=("$@") COMP_CWORD=$(($# - 1))\n'
@@ -115,7 +114,7 @@ class Bash(unittest.TestCase):
             self.assertEqual(self.offered(*typed), [], typed)
 
 
-class Fish(unittest.TestCase):
+class Fish(made.Test):
     def offered(self, line):
         """What fish offers for the last word of a line."""
         made.need("fish")
@@ -136,7 +135,7 @@ class Fish(unittest.TestCase):
         self.assertEqual(self.offered("chipfire explain triangle/gr"), [])
 
 
-class Zsh(unittest.TestCase):
+class Zsh(made.Test):
     def test_it_completes_in_a_terminal(self):
         made.need("zsh")
         setup = f"fpath=({made.unpacked()}/share/zsh/vendor-completions $fpath); autoload -Uz compinit; compinit -u -D"

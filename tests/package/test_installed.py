@@ -1,6 +1,5 @@
 """Each package is installed where there is nothing else, and answers."""
 import ast
-import functools
 import json
 import os
 import re
@@ -40,7 +39,7 @@ def grid():
     return {"version": 1, "vertices": sink + 1, "sink": sink, "edges": [[*ends, mult] for ends, mult in edges.items()]}
 
 
-@functools.cache
+@made.kept
 def game():
     """Returns the files of the grid and of 4,000 chips in its middle, and what examples/play.py answers to them."""
     folder = made.room()
@@ -51,7 +50,7 @@ def game():
     return graph, chips, played.stdout
 
 
-class Answers(unittest.TestCase):
+class Answers(made.Test):
     def answers(self, program):
         """Tries the game that is built in, the grid, and a fault."""
         graph, chips, report = game()
@@ -105,7 +104,7 @@ class Archive(Linked):
 
 class DebianPackage(Linked):
     @staticmethod
-    @functools.cache
+    @made.kept
     def root():
         """Returns a root with nothing but the package, as dpkg installs it."""
         made.need("dpkg")
@@ -156,7 +155,7 @@ class DebianPackage(Linked):
 
 class Wheel(Answers):
     @staticmethod
-    @functools.cache
+    @made.kept
     def room():
         """Returns an environment of Python with nothing but the wheel in it, which was installed without network."""
         room = made.virtual_environment()
@@ -211,7 +210,7 @@ class Wheel(Answers):
         self.assertIn("ProgramNotFound", made.run(sys.executable, *ask, PYTHONPATH=room, PATH=room).stderr)
 
 
-class Editable(unittest.TestCase):
+class Editable(made.Test):
     """What `pip install -e` installs: the package as it lies in a clone, where it can be edited."""
 
     ASK = """
@@ -244,7 +243,7 @@ print(chipfire.plain(chipfire.path(1), [3]).fired)
         self.assertEqual(sorted(os.listdir(f"{top}/python")), there)
 
 
-class OldPython(unittest.TestCase):
+class OldPython(made.Test):
     """A Python older than the package takes is told so."""
 
     #: A Python that takes itself for an older one begins with this.

@@ -1,11 +1,9 @@
 """./package --check takes what was packed of the sources that are checked out, and nothing else."""
-import functools
 import io
 import os
 import random
 import shutil
 import tarfile
-import unittest
 import zipfile
 
 import made
@@ -64,7 +62,7 @@ def repacked_debian(edit):
     return path
 
 
-@functools.cache
+@made.kept
 def bare():
     """Returns a checkout of the same sources where nothing was built."""
     top = made.room()
@@ -81,7 +79,7 @@ def source_changed():
     return top
 
 
-@functools.cache
+@made.kept
 def other():
     """Returns a checkout with other sources, and with packages of another program."""
     top = source_changed()
@@ -95,7 +93,7 @@ def other():
     return top
 
 
-class Checked(unittest.TestCase):
+class Checked(made.Test):
     def check(self, path, top=None):
         return made.package(top or made.home(), "--check", path)
 

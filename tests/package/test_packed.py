@@ -8,7 +8,6 @@ import shutil
 import sys
 import tarfile
 import time
-import unittest
 import zipfile
 
 import made
@@ -58,7 +57,7 @@ def proved_crates():
     return found
 
 
-class Made(unittest.TestCase):
+class Made(made.Test):
     def test_names(self):
         version = made.version()
         wheel = f"chipfire-{version}-py3-none-manylinux_2_34_x86_64.whl"
@@ -136,7 +135,7 @@ class Made(unittest.TestCase):
         self.assertRegex(made.read(f"{top}/dist/PROVED").decode(), "\ncommit [0-9a-f]{40}, changed\n")
 
 
-class Compressed(unittest.TestCase):
+class Compressed(made.Test):
     """What gzip packs begins alike, whatever Python writes there: no flags, no date, best compression, unknown system."""
 
     HEAD = b"\x1f\x8b\x08\0" + bytes(4) + b"\x02\xff"
@@ -178,7 +177,7 @@ class Compressed(unittest.TestCase):
             self.assertEqual(inside.read("chipfire/version").decode(), made.version())
 
 
-class NotMade(unittest.TestCase):
+class NotMade(made.Test):
     def refuses(self, top, why):
         answer = made.package(top)
         self.assertEqual((answer.returncode, answer.stdout), (1, ""))
@@ -191,8 +190,10 @@ class NotMade(unittest.TestCase):
     def test_where_a_source_is_newer_than_the_program(self):
         top = made.checkout()
         made.build(top)
-        later = time.time() + 9
-        os.utime(f"{top}/crates/chip_graph/src/lib.rt", (later, later))
+        path, later = f"{top}/crates/chip_graph/src/lib.rt", time.time() + 9
+        # (what is put back keeps its time if it has the same bytes)
+        self.addCleanup(os.utime, path)
+        os.utime(path, (later, later))
         self.refuses(top, "the program could not be proved and built")
 
     def test_where_the_program_has_another_version(self):
@@ -211,7 +212,7 @@ class NotMade(unittest.TestCase):
         self.refuses(top, "CHANGELOG.md does not begin with version")
 
 
-class OneVersion(unittest.TestCase):
+class OneVersion(made.Test):
     def test_it_is_that_of_each_package(self):
         version = made.version()
         with zipfile.ZipFile(made.path_of(".whl")) as wheel:
@@ -231,7 +232,7 @@ class OneVersion(unittest.TestCase):
         self.assertEqual(having, places)
 
 
-class Needs(unittest.TestCase):
+class Needs(made.Test):
     def test_libraries(self):
         for path in (made.PROGRAM, made.library(made.SHARED)):
             needed = re.findall(r"\(NEEDED\).*\[(.*)\]", readelf("--dynamic", path))

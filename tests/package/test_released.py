@@ -1,10 +1,8 @@
 """release/, which ./package --release makes: a clone answers by the program in it at once, and the gate compares it."""
-import functools
 import os
 import resource
 import shutil
 import sys
-import unittest
 import zipfile
 
 import made
@@ -13,7 +11,7 @@ import made
 ASK = "import chipfire; print(chipfire.find_program(), chipfire.plain(chipfire.path(1), [3]).fired)"
 
 
-@functools.cache
+@made.kept
 def released():
     """Returns a checkout that carries a release of its sources, and has nothing built; no test changes it."""
     top = made.checkout()
@@ -27,10 +25,8 @@ def released():
 
 
 def clone():
-    """Returns a clone of it."""
-    top = made.room()
-    made.run("git", "clone", "-q", released(), top, check=True)
-    return top
+    """Returns a clone of it, which a test may change."""
+    return made.clone_of(released())
 
 
 def archive_of(top):
@@ -56,7 +52,7 @@ def change_sources(top):
         file.write("// one line more\n")
 
 
-class Carried(unittest.TestCase):
+class Carried(made.Test):
     def test_it_is_the_archive_and_PROVED(self):
         top = released()
         self.assertEqual(sorted(os.listdir(f"{top}/release")), ["PROVED", os.path.basename(archive_of(top))])
@@ -90,7 +86,7 @@ class Carried(unittest.TestCase):
         self.assertIn("package: release: the sources are not those of a commit", answer.stderr)
 
 
-class Elsewhere(unittest.TestCase):
+class Elsewhere(made.Test):
     """On another system the starter and pip say the same of it."""
 
     SAID = "it is for Linux x86_64, and this is Darwin arm64\n"
@@ -113,7 +109,7 @@ class Elsewhere(unittest.TestCase):
         self.assertEqual((answer.returncode, answer.stdout, answer.stderr), (1, "", said))
 
 
-class Python(unittest.TestCase):
+class Python(made.Test):
     def asks(self, top, *python):
         """Asks the package that lies in a checkout, by a command that is Python."""
         return made.run(*python, "-c", ASK, PYTHONPATH=f"{top}/python", TMPDIR="/tmp")
@@ -146,7 +142,7 @@ class Python(unittest.TestCase):
         self.assertIn("ProgramNotFound", asked.stderr)
 
 
-class Packed(unittest.TestCase):
+class Packed(made.Test):
     def test_package_takes_it_and_proves_nothing(self):
         top = clone()
         made_of_it = made.package(top)
@@ -181,7 +177,7 @@ class Packed(unittest.TestCase):
         self.assertEqual(made.read(f"{top}/release/PROVED"), made.read(f"{released()}/release/PROVED"))
 
 
-class Installed(unittest.TestCase):
+class Installed(made.Test):
     """What pip installs of a clone alone."""
 
     def installs(self, what):
@@ -229,7 +225,7 @@ class Installed(unittest.TestCase):
         self.assertIn("ProgramNotFound", asked.stderr)
 
 
-class Compared(unittest.TestCase):
+class Compared(made.Test):
     def compare(self, top, folder=os.path.dirname(made.PROGRAM), kit=made.KIT):
         """Compares what a kit built in a folder with what a checkout carries, as the gate does."""
         return made.run(f"{top}/tools/release.py", "--compare", folder, kit)

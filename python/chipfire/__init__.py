@@ -48,6 +48,9 @@ event; `chipfire.machine` has the machine's words (schedules, replies, books, tr
 `judge_log` judges the logs of any distributed program, with the program's verdicts. `read_json_lines` and `read_shiviz`
 read such logs, and `model_log` makes one of a schedule of the model.
 
+`Detector` knows when a program of one's own is over, on threads, in asyncio or by multiprocessing, and `Books` are the
+counters of one process, for programs that send by their own means.
+
 A graph, chips, a schedule, a trace or a report may be the name of its file. `Graph.chips` tells in which forms chips
 come, and `Report.picture` what can be drawn. A vertex has a number from 0 on, and may have a name. Sequences and arrays
 go by numbers, dicts and Series of pandas by names. Numbers of chips and firings go up to 2^40. A graph has up to
@@ -120,8 +123,10 @@ from chipfire.lab import (
     machine,
     model as model,
 )
+from chipfire.lab.books import Books
 from chipfire.lab.choosing import choice_page
 from chipfire.lab.computations import Computation
+from chipfire.lab.detector import Detector
 from chipfire.lab.explorer import explore
 from chipfire.lab.judging import judge
 from chipfire.lab.logs import judge_log, read_json_lines, read_shiviz
@@ -130,7 +135,6 @@ from chipfire.lab.machine import (
     SCHEDULE_HEADER as SCHEDULE_HEADER,
     TRACE_HEADER as TRACE_HEADER,
     Board as Board,
-    Books as Books,
     Event as Event,
     Firing as Firing,
     Reply as Reply,
@@ -165,11 +169,13 @@ warn_without_program()
 #: What is imported besides is reachable too; `chipfire.machine` describes it.
 __all__ = [
     "Avalanche",
+    "Books",
     "Chains",
     "Check",
     "Chips",
     "Computation",
     "Configuration",
+    "Detector",
     "Divisor",
     "Drops",
     "Fault",

@@ -61,6 +61,13 @@ print(chipfire.stabilize_many(grid, [chips, 4])[0], chipfire.are_recurrent(grid,
 print(chipfire.chains(grid, 2, 3, 1).size, chipfire.random_recurrent(grid, 1))
 log = chipfire.model_log(setting, Own, []) + chipfire.read_json_lines([], channel=lambda it: it["to"])
 print(chipfire.judge_log(log, cut=True).claims, chipfire.read_shiviz("", str.strip), chipfire.judge_log("log").is_right)
+books = chipfire.Books([0], [1, 2], process=3, log=[])
+pairs: list[tuple[int, int]] = books.acknowledge(passive=True)
+detector = chipfire.Detector(["a", "b"], log=None)
+detector.begin("a", 5)
+for content in detector["a"]:
+    detector["a"].send("b", content)
+print(detector.wait(5), detector.check().is_right, pairs)
 print(chipfire.Schedule().take(4), chipfire.MAX_CHIPS, chipfire.find_program(), chipfire.CHIPS_HEADER, chipfire.RULES)
 """
 
@@ -170,7 +177,7 @@ class Modules(unittest.TestCase):
     def test_the_words_of_the_machine_are_in_its_module_and_reachable(self):
         told = pydoc.plain(pydoc.render_doc(chipfire))
         self.assertIn("class Configuration", told)
-        for name in ("Board", "Books", "Event", "Schedule", "Setting", "Simulation", "TraceRow", "write_trace"):
+        for name in ("Board", "Event", "Schedule", "Setting", "Simulation", "TraceRow", "write_trace"):
             self.assertIs(getattr(chipfire, name), getattr(chipfire.machine, name))
             self.assertNotIn(f"class {name}", told)
 

@@ -360,7 +360,7 @@ class Detector(WithFolder):
         simulation = chipfire.simulate(*game, books=True)
         self.assertEqual((len(simulation.replies), len(simulation.boards)), (23, 23))
         # after A got b: docs/DETECTOR.md, step 7
-        engaged = {0: chipfire.Books(3, 1, {1: 1, 3: 1}), 1: chipfire.Books(0, 2, {0: 1})}
+        engaged = {0: chipfire.machine.Books(3, 1, {1: 1, 3: 1}), 1: chipfire.machine.Books(0, 2, {0: 1})}
         self.assertEqual(simulation.boards[13], chipfire.Board(1, engaged))
         self.assertEqual(simulation.boards[-1], chipfire.Board(0, {}))
         self.assertEqual(chipfire.simulate(*game).replies, simulation.replies)

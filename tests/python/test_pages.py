@@ -236,7 +236,7 @@ class Disagreements(unittest.TestCase):
     def test_books_that_are_others(self):
         self.refused("the root's deficit", boards=self.with_board(3, root_deficit=2))
         self.refused("the books", boards=self.with_board(3, engaged={}))
-        for books in (chipfire.Books(5, 1, {4: 1}), chipfire.Books(4, 2, {4: 1}), chipfire.Books(4, 1, {4: 2})):
+        for books in (chipfire.machine.Books(5, 1, {4: 1}), chipfire.machine.Books(4, 2, {4: 1}), chipfire.machine.Books(4, 1, {4: 2})):
             self.refused("the books", boards=self.with_board(3, engaged={0: books}))
 
     def test_replies_that_are_others(self):

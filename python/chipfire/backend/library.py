@@ -45,6 +45,19 @@ MOST_WORK = 2**28
 _NAME = "libchipfire.so"
 _NUMBER = ctypes.c_uint64
 _SLICE = (ctypes.c_void_p, ctypes.c_size_t)
+_OUT = ctypes.POINTER(_NUMBER)
+
+#: What the calls on the books of a process take.
+_BOOKS: dict[str, tuple[Any, ...]] = {
+    "sent": (*_SLICE, _NUMBER),
+    "got": (*_SLICE, _OUT, _NUMBER),
+    "may_ack": (*2 * _SLICE, _NUMBER, _NUMBER, _NUMBER, _OUT),
+    "acked": (*2 * _SLICE, _OUT, _NUMBER, _NUMBER, _NUMBER),
+    "settled": (*_SLICE, _NUMBER, _NUMBER, _OUT),
+    "deficit": (*_SLICE, _OUT),
+    "is_over": (*_SLICE, _NUMBER, _OUT),
+    "books_check": (*2 * _SLICE, _NUMBER),
+}
 
 #: The calls on rows of configurations, and what each takes behind the graph.
 _ROW_CALLS = {
@@ -151,13 +164,17 @@ def _load(file: str) -> ctypes.CDLL:
     for name, words in _ROW_CALLS.items():
         _declare(getattr(found, name), *words)
     _declare_piles(found)
+    for name, words in _BOOKS.items():
+        call = getattr(found, f"chipfire_{name}")
+        call.restype = _NUMBER
+        call.argtypes = [*words]
     return found
 
 
 def _declare(call: Any, *words: Any) -> None:
     """Says what a call takes: a graph, these words, and where to write the place of a fault."""
     call.restype = _NUMBER
-    call.argtypes = [_NUMBER, _NUMBER, *3 * _SLICE, *words, ctypes.POINTER(_NUMBER)]
+    call.argtypes = [_NUMBER, _NUMBER, *3 * _SLICE, *words, _OUT]
 
 
 def _declare_piles(found: ctypes.CDLL) -> None:
@@ -180,8 +197,9 @@ def _declare_piles(found: ctypes.CDLL) -> None:
 
 
 @functools.cache
-def _beside() -> tuple[ctypes.CDLL | None, str]:
-    """The library of the program that is found, and an empty text; or None, and why it is not loaded."""
+def _beside(named: str | None = None) -> tuple[ctypes.CDLL | None, str]:
+    """The library of the program that is found, and an empty text; or None, and why it is not loaded. It is kept for
+    each program that CHIPFIRE `named`."""
     folder = os.path.dirname(os.path.realpath(find_program()))
     file = next(filter(os.path.isfile, _places(folder)), None)
     if file is None:
@@ -192,7 +210,8 @@ def _beside() -> tuple[ctypes.CDLL | None, str]:
             return _load(file), ""
     except (OSError, AttributeError) as error:
         why = f"{file} cannot be loaded: {error}"
-    warnings.warn(f"{why}: each call starts the program, slower", stacklevel=2)
+    if not named:
+        warnings.warn(f"{why}: each call starts the program, slower", stacklevel=2)
     return None, why
 
 
@@ -211,6 +230,17 @@ def _why_none() -> str:
 def find_library() -> str | None:
     """The library's file, or None if each call starts the program."""
     return str(found._name) if (found := loaded()) else None
+
+
+def books() -> ctypes.CDLL:
+    """The library, for its calls on the books of processes. They take no program's place, so CHIPFIRE may name one: then
+    it is the library that lies beside that."""
+    named = os.environ.get("CHIPFIRE")
+    found, why = _beside(named) if named else _beside()
+    if found is None:
+        remedy = "`./chipfire` in a clone of the repository puts both into target/, and a wheel carries both"
+        raise ProgramNotFound(2, f"books are calls of the library, and {why}; {remedy}", _NAME)
+    return found
 
 
 def most(graph: Graph) -> int:

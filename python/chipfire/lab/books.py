@@ -1,0 +1,254 @@
+"""The books of a process: its counters for the detector of Dijkstra and Scholten, kept by calls of the library.
+
+The calls are proved; docs/tasks/detect-your-own.md says of what, and which duties are the caller's. Each duty may also
+write a row for `judge`, so that the logs of all processes show what the books of one cannot.
+"""
+
+from __future__ import annotations
+
+import bisect
+import ctypes
+from array import array
+from collections.abc import Iterable
+from typing import Any, TextIO, Union
+
+from chipfire.backend import library
+from chipfire.backend.process import Fault
+from chipfire.lab.logs import Row
+from chipfire.utils import as_int, FILE, FileName
+
+#: The parent of a process that no message engages: the number of no edge.
+_NEUTRAL = 2**64 - 1
+
+#: Faults: a count or an edge that the books refuse, and a passive process that sends.
+_REFUSED, _PASSIVE = 46, 32
+
+#: Where rows go: the end of a file, whose rows have no header, or of a list.
+Log = Union[FileName, "list[Row]"]
+
+
+class _Side:
+    """The tallies of the edges into a process, or out of it: three words each, by ascending edges."""
+
+    def __init__(self, edges: Iterable[int]) -> None:
+        self.edges = sorted(as_int(edge, "an edge", 0, _NEUTRAL - 1) for edge in edges)
+        if len(set(self.edges)) < len(self.edges):
+            raise ValueError("an edge is named twice")
+        self.words = array("Q", [word for edge in self.edges for word in (edge, 0, 0)])
+
+    def slice(self) -> tuple[int, int]:
+        """Where the tallies begin, and how many there are. An address stays until an edge is added."""
+        if not self.edges:
+            return _NOTHING.buffer_info()[0], 0
+        return self.words.buffer_info()[0], len(self.edges)
+
+    def add(self, edge: int) -> None:
+        """Adds an edge with counts 0."""
+        place = bisect.bisect_left(self.edges, edge)
+        if self.edges[place : place + 1] == [edge]:
+            raise ValueError(f"edge {edge} is there")
+        self.edges.insert(place, edge)
+        self.words[3 * place : 3 * place] = array("Q", (edge, 0, 0))
+
+    def __contains__(self, edge: int) -> bool:
+        place = bisect.bisect_left(self.edges, edge)
+        return self.edges[place : place + 1] == [edge]
+
+    def counts(self, edge: int) -> tuple[int, int]:
+        """How many messages the edge had, and how many of these are acknowledged; zeros if it is not there."""
+        place = bisect.bisect_left(self.edges, edge)
+        if self.edges[place : place + 1] != [edge]:
+            return 0, 0
+        messages, answered = self.words[3 * place + 1 : 3 * place + 3]
+        return messages, answered
+
+
+_NOTHING = array("Q", [0])
+
+
+class Books:
+    """The books of one process, with the numbers of the edges into it and out of it.
+
+    The duties are calls, and nobody else can see to their moment:
+
+        sent(edge)          before the message can be got
+        got(edge)           with the message, before it is worked on
+        acknowledge(passive)  at any time; `passive` is true if the process sends nothing until it gets a message
+        settled(edge, count)  at any time, with what `acknowledge` of the edge's head returned
+        is_over()           of the root alone, once it sends no more
+
+    One thread at a time may call. The `root` alone begins at work, and no edge leads to it. What is refused is raised as
+    a `Fault`, and changes nothing: 46 for an edge or a count, 32 if the process sends while it is passive.
+
+    `log` is a file or a list that gets a row (process, kind, channel) for `judge` at each duty, by the number `process`;
+    rows in files have no header. Books pickle, with a list as its copy.
+    """
+
+    def __init__(
+        self,
+        ins: Iterable[int] = (),
+        outs: Iterable[int] = (),
+        *,
+        root: bool = False,
+        process: int = 0,
+        log: Log | None = None,
+    ) -> None:
+        self._ins = _Side(ins)
+        self._outs = _Side(outs)
+        if root and self._ins.edges:
+            raise ValueError("no edge leads to the root: put one of your own before the process")
+        self._library = library.books()
+        self._parent = _NEUTRAL
+        self._owed = set[int]()
+        self.process = as_int(process, "process")
+        self.is_root = root
+        #: Whether the process may send: the root from the beginning, others from a message on, until they are passive.
+        self.is_active = root
+        self._has_claimed = False
+        self._log = log
+        self._file: TextIO | None = None
+        if root:
+            self._note("active")
+
+    def __getstate__(self) -> dict[str, Any]:
+        return {**self.__dict__, "_file": None, "_library": None}
+
+    def __setstate__(self, state: dict[str, Any]) -> None:
+        self.__dict__.update(state)
+        self._library = library.books()
+
+    def __repr__(self) -> str:
+        state = "active" if self.is_active else "passive"
+        return f"<Books of process {self.process}, {state}, deficit {self.deficit}>"
+
+    @property
+    def deficit(self) -> int:
+        """How many acknowledgements the process waits for."""
+        count = ctypes.c_uint64()
+        self._call("deficit", "its books are not sound", *self._outs.slice(), count)
+        return count.value
+
+    @property
+    def parent(self) -> int | None:
+        """The edge of the message that engaged the process; None if it is neutral."""
+        return None if self._parent == _NEUTRAL else self._parent
+
+    def add_in(self, edge: int) -> None:
+        """Adds an edge into the process, as if it had been there with counts 0 from the start."""
+        if self.is_root:
+            raise ValueError("no edge leads to the root")
+        self._ins.add(as_int(edge, "an edge", 0, _NEUTRAL - 1))
+
+    def add_out(self, edge: int) -> None:
+        """Adds an edge out of the process, as if it had been there with counts 0 from the start."""
+        self._outs.add(as_int(edge, "an edge", 0, _NEUTRAL - 1))
+
+    def has_in(self, edge: int) -> bool:
+        """Whether the edge leads to the process."""
+        return edge in self._ins
+
+    def sent(self, edge: int) -> None:
+        """Notes a message out of the process, before anybody can get it."""
+        if not self.is_active:
+            raise _fault(_PASSIVE, self.process, f"it sends on edge {edge} while it is passive")
+        self._call("sent", f"no message can be sent on edge {edge}", *self._outs.slice(), edge)
+        self._note("send", edge)
+
+    def got(self, edge: int) -> None:
+        """Notes a message into the process, with it and before it is worked on."""
+        parent = ctypes.c_uint64(self._parent)
+        self._call("got", f"no message can be got on edge {edge}", *self._ins.slice(), parent, edge)
+        self._parent = parent.value
+        self._owed.add(edge)
+        self.is_active = True
+        self._note("receive", edge)
+
+    def acknowledge(self, passive: bool) -> list[tuple[int, int]]:
+        """Acknowledges all that may be: pairs of an edge and how many of its messages are acknowledged so far.
+
+        Each goes to the tail of its edge, for `settled`; a later pair of an edge makes an earlier one needless. `passive`
+        says that the process sends nothing, and nothing but a message makes it work again."""
+        if passive:
+            self._rest()
+        pairs = [self._acknowledged(edge, passive) for edge in sorted(self._owed, key=self._last)]
+        return [(edge, count) for edge, more, count in pairs if more]
+
+    def settled(self, edge: int, count: int) -> int:
+        """Notes how many messages of an edge are acknowledged so far, as its head says or said before. Returns how many
+        of these are new."""
+        more = ctypes.c_uint64()
+        why = f"{count} acknowledgements on edge {edge} are more than its messages"
+        self._call("settled", why, *self._outs.slice(), edge, count, more)
+        self._note("hear", edge, more.value)
+        return more.value
+
+    def is_over(self, ended: bool = True) -> bool:
+        """Whether all is over, as the root sees it. It has `ended` if it sends no more; that stays."""
+        if not self.is_root:
+            raise ValueError(f"process {self.process} is not the root, which alone can know")
+        if ended:
+            self._rest()
+        over = ctypes.c_uint64()
+        has_ended = not self.is_active
+        self._call("is_over", "its books are not sound", *self._outs.slice(), has_ended, over)
+        if over.value and not self._has_claimed:
+            self._has_claimed = True
+            self._note("over")
+        return bool(over.value)
+
+    def _last(self, edge: int) -> tuple[bool, int]:
+        """Sorts the parent behind the others, since its last message waits for all of theirs."""
+        return edge == self._parent, edge
+
+    def _acknowledged(self, edge: int, passive: bool) -> tuple[int, int, int]:
+        """Acknowledges what may be on an edge: how many messages that are, and with those before them."""
+        more, parent = ctypes.c_uint64(), ctypes.c_uint64(self._parent)
+        sides = (*self._ins.slice(), *self._outs.slice())
+        why = f"its acknowledgements on edge {edge}"
+        self._call("may_ack", why, *sides, self._parent, edge, passive, more)
+        self._call("acked", why, *sides, parent, edge, passive, more)
+        self._parent = parent.value
+        messages, answered = self._ins.counts(edge)
+        if messages == answered:
+            self._owed.discard(edge)
+        self._note("tell", edge, more.value)
+        return edge, more.value, answered
+
+    def _rest(self) -> None:
+        """Notes that the process is passive, if it was not."""
+        if self.is_active:
+            self.is_active = False
+            self._note("passive")
+
+    def _call(self, name: str, why: str, *words: Any) -> None:
+        """Makes a call of the library; `why` says what a refusal means."""
+        number = getattr(self._library, f"chipfire_{name}")(*words)
+        if number:
+            raise _fault(number, self.process, why)
+
+    def _note(self, kind: str, channel: int = 0, times: int = 1) -> None:
+        """Writes rows, if there is a log."""
+        if self._log is None:
+            return
+        row = (self.process, kind, channel)
+        if not isinstance(self._log, FILE):
+            self._log += [row] * times
+            return
+        if self._file is None:
+            self._file = open(self._log, "a", buffering=1, encoding="ascii")
+        self._file.write(f"{self.process},{kind},{channel}\n" * times)
+
+
+def read_books_log(file: FileName) -> list[Row]:
+    """The rows of a file that books wrote."""
+    with open(file, encoding="ascii") as lines:
+        fields = [line.rstrip("\n").split(",") for line in lines]
+    return [(int(process), kind, int(channel)) for process, kind, channel in fields]
+
+
+def _fault(number: int, process: int, why: str) -> Fault:
+    """The refusal of a duty of a process."""
+    names = {_REFUSED: "Books", _PASSIVE: "Passive"}
+    name = names.get(number, "NotYet")
+    words = f"process {process}: {why}"
+    return Fault(number, name, (process,), "", 1, words)

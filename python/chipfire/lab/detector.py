@@ -1,0 +1,373 @@
+"""When a program of one's own is over: a detector around its threads, coroutines or processes.
+
+    detector = chipfire.Detector(["crawler", "writer"])
+    detector.begin("crawler", "https://example.org")
+
+Each process goes through its messages, and sends others:
+
+    for page in detector["crawler"]:
+        detector["crawler"].send("writer", fetch(page))
+
+All these loops end once `detector.wait()` returns: then no message is in transit, and nobody is at work. In asyncio they
+are `async for`, and one awaits the detector. `chipfire.lab.books` says what is proved.
+"""
+
+from __future__ import annotations
+
+import glob
+import importlib
+import itertools
+import os
+import pickle
+import queue
+import threading
+import time
+from collections.abc import AsyncIterator, Callable, Generator, Hashable, Iterable, Iterator
+from typing import Any, NamedTuple, Union
+
+from chipfire.backend.process import Fault
+from chipfire.lab.books import Books, read_books_log
+from chipfire.lab.logs import judge_log, JudgedLog, Row
+from chipfire.utils import FileName
+
+#: The name of the process that every detector has for itself. No edge leads to it, and it alone begins active.
+ROOT = "root"
+
+#: What comes to an inbox when all is over.
+_OVER = None
+
+
+class Message(NamedTuple):
+    """A message of the computation, on an edge from `tail`."""
+
+    edge: int
+    tail: Hashable
+    content: Any
+
+
+class Answer(NamedTuple):
+    """How many messages of an edge its head has acknowledged so far."""
+
+    edge: int
+    acknowledged: int
+
+
+#: What an inbox may have: a refusal goes to the root, and the last is that all is over.
+Item = Union[Message, Answer, Fault, None]
+
+
+class _Numbers:
+    """The numbers of edges, each greater by one than those before, for the threads of one process."""
+
+    def __init__(self) -> None:
+        self._lock = threading.Lock()
+        self._count = itertools.count()
+
+    def take(self) -> int:
+        """A number that nobody else takes."""
+        with self._lock:
+            return next(self._count)
+
+
+class _SharedNumbers:
+    """The same for several processes of the system."""
+
+    def __init__(self, context: Any) -> None:
+        self._count = context.Value("Q", 0)
+
+    def take(self) -> int:
+        """A number that nobody else takes."""
+        with self._count.get_lock():
+            number = int(self._count.value)
+            self._count.value += 1
+        return number
+
+
+def _same(content: Any) -> Any:
+    """The content of a message, as it is."""
+    return content
+
+
+class _Backend(NamedTuple):
+    """What back ends do not share: what makes an inbox, which has no end of room; the numbers of edges; whether one
+    awaits; and how the content of a message is packed. What cannot be pickled is so refused before it is noted.
+    """
+
+    inbox: Callable[[], Any]
+    numbers: Any
+    is_async: bool = False
+    pack: Callable[[Any], Any] = _same
+    unpack: Callable[[Any], Any] = _same
+
+
+class Process:
+    """One process of a detector. `Detector` has it under its name.
+
+    A loop over it gets its messages, one after another, and ends when all is over. Several threads, or coroutines, may
+    loop over one process. With `receive` in place of the loop, `done` has to be called once for each message, when
+    nothing that it set off is at work any more.
+    """
+
+    def __init__(
+        self, name: Hashable, books: Books, inboxes: dict[Hashable, Any], backend: _Backend
+    ) -> None:
+        self.name = name
+        self.books = books
+        self._inboxes = inboxes
+        self._backend = backend
+        self._edges: dict[Hashable, int] = {}
+        self._tails: dict[int, Hashable] = {}
+        #: How many messages are worked on.
+        self._busy = 0
+        self._lock = threading.Lock()
+
+    def __getstate__(self) -> dict[str, Any]:
+        # (what makes inboxes stays with the detector)
+        return {**self.__dict__, "_lock": None, "_backend": self._backend._replace(inbox=list)}
+
+    def __setstate__(self, state: dict[str, Any]) -> None:
+        self.__dict__.update(state)
+        self._lock = threading.Lock()
+
+    def __repr__(self) -> str:
+        return f"<Process {self.name!r}, at work on {self._busy}>"
+
+    def send(self, to: Hashable, content: Any = None) -> None:
+        """Sends a message to a process, by one that is at work on a message."""
+        if to not in self._inboxes or to == ROOT:
+            raise KeyError(f"there is no process {to!r} to send to")
+        packed = self._backend.pack(content)
+        with self._lock:
+            edge = self._edge_to(to)
+            self._noted(self.books.sent, edge)
+        self._inboxes[to].put_nowait(Message(edge, self.name, packed))
+
+    def receive(self, timeout: float | None = None) -> Message | None:
+        """The next message; None when all is over. The process is at work on it until `done`."""
+        if self._backend.is_async:
+            raise TypeError("in asyncio one loops by `async for`, or awaits receive_async()")
+        while True:
+            item = self._inboxes[self.name].get(True, timeout)
+            if self._is_for_caller(item):
+                return self._unpacked(item)
+
+    async def receive_async(self) -> Message | None:
+        """The same as `receive` in asyncio."""
+        while True:
+            item = await self._inboxes[self.name].get()
+            if self._is_for_caller(item):
+                return self._unpacked(item)
+
+    def done(self) -> None:
+        """Says that a message, and all that it set off here, is worked on. With the last one the process is passive."""
+        with self._lock:
+            if self._busy == 0:
+                raise RuntimeError(f"process {self.name!r} is done with more messages than it got")
+            self._busy -= 1
+        self._acknowledge()
+
+    def __iter__(self) -> Iterator[Any]:
+        while (message := self.receive()) is not None:
+            yield message.content
+            self.done()
+
+    async def __aiter__(self) -> AsyncIterator[Any]:
+        while (message := await self.receive_async()) is not None:
+            yield message.content
+            self.done()
+
+    def _unpacked(self, item: Item) -> Message | None:
+        """A message as it was sent; None if it is none."""
+        if not isinstance(item, Message):
+            return None
+        return item._replace(content=self._backend.unpack(item.content))
+
+    def _edge_to(self, to: Hashable) -> int:
+        """The edge to a process, which is made when something is first sent there."""
+        if to not in self._edges:
+            self._edges[to] = self._backend.numbers.take()
+            self.books.add_out(self._edges[to])
+        return self._edges[to]
+
+    def _is_for_caller(self, item: Item) -> bool:
+        """Notes what comes, and says whether the caller gets it: a message, or that all is over."""
+        if isinstance(item, Answer):
+            self._settle(item)
+            return False
+        if isinstance(item, Message):
+            self._get(item)
+        else:
+            # (so that the next of several loops ends too)
+            self._inboxes[self.name].put_nowait(_OVER)
+        return True
+
+    def _get(self, message: Message) -> None:
+        """Notes a message. Its edge may be new here."""
+        with self._lock:
+            if not self.books.has_in(message.edge):
+                self.books.add_in(message.edge)
+                self._tails[message.edge] = message.tail
+            self._noted(self.books.got, message.edge)
+            self._busy += 1
+
+    def _settle(self, answer: Answer) -> None:
+        """Notes acknowledgements, after which more may be acknowledged."""
+        with self._lock:
+            self._noted(self.books.settled, answer.edge, answer.acknowledged)
+        self._acknowledge()
+
+    def _acknowledge(self) -> None:
+        """Acknowledges what may be."""
+        with self._lock:
+            pairs = self._noted(self.books.acknowledge, self._busy == 0)
+        for edge, count in pairs:
+            self._inboxes[self._tails[edge]].put_nowait(Answer(edge, count))
+
+    def _noted(self, duty: Callable[..., Any], *words: Any) -> Any:
+        """Calls a duty. A refusal goes to the root too, so that nobody waits in vain."""
+        try:
+            return duty(*words)
+        except Fault as fault:
+            self._inboxes[ROOT].put_nowait(fault)
+            raise
+
+
+class Detector:
+    """Knows when processes of one's own are over. `processes` are their names.
+
+    backend   "threading"; "asyncio", where all is one loop's; or "multiprocessing", or a context of that module: then
+              each process of the detector goes to one of the system as an argument, before it is used
+    log       a folder, which is made, in which each process writes a file of rows; then `check` judges them
+
+    A message goes to the one inbox that each process has, which has no end of room; edges come as they are needed.
+    `begin` sends the first messages, by a root of the detector's own. `wait`, or `await` in asyncio, returns when all is
+    over, and raises what a process was refused.
+    """
+
+    def __init__(
+        self,
+        processes: Iterable[Hashable],
+        backend: Any = "threading",
+        *,
+        log: FileName | None = None,
+    ) -> None:
+        self._backend = _backend(backend)
+        self._log = log
+        if log is not None:
+            os.makedirs(log, exist_ok=True)
+            if glob.glob(os.path.join(glob.escape(os.fspath(log)), "*.rows")):
+                raise FileExistsError(f"{os.fspath(log)} has rows of a run before")
+        self._inboxes: dict[Hashable, Any] = {}
+        self._processes: dict[Hashable, Process] = {}
+        #: Held by who adds a process, or says that all is over.
+        self._lock = threading.Lock()
+        self._is_over = False
+        self._root = self._added(ROOT)
+        for name in processes:
+            self._added(name)
+
+    def __getitem__(self, name: Hashable) -> Process:
+        """The process of this name."""
+        return self._processes[name]
+
+    def join(self, name: Hashable) -> Process:
+        """Adds a process, also while others run."""
+        if isinstance(self._backend.numbers, _SharedNumbers):
+            raise ValueError(
+                "processes of the system share no inbox that comes later: name all at the start"
+            )
+        return self._added(name)
+
+    def begin(self, name: Hashable, content: Any = None) -> None:
+        """Wakes a process by a message. A process that is not woken so works only when another one sends to it."""
+        self._root.send(name, content)
+
+    def wait(self, timeout: float | None = None) -> None:
+        """Returns when all is over. From here on nothing begins. After `timeout` seconds it raises TimeoutError."""
+        inbox = self._inboxes[ROOT]
+        if self._backend.is_async:
+            raise TypeError("in asyncio a detector is awaited")
+        until = None if timeout is None else time.monotonic() + timeout
+        while not self._ends():
+            left = None if until is None else max(0.0, until - time.monotonic())
+            try:
+                item = inbox.get(True, left)
+            except queue.Empty:
+                raise TimeoutError(f"it is not over after {timeout} seconds") from None
+            self._hear(item)
+
+    def __await__(self) -> Generator[Any, None, None]:
+        return self._wait_async().__await__()
+
+    def check(self) -> JudgedLog:
+        """What the program says of the rows that all processes wrote: whether the claim was right in every order."""
+        if self._log is None:
+            raise ValueError("the detector has no log")
+        names = list(self._processes)
+        rows: list[Row] = []
+        for process in range(len(names)):
+            file = self._file(process)
+            if file is not None and os.path.isfile(file):
+                rows += [(names[it], kind, edge) for it, kind, edge in read_books_log(file)]
+        return judge_log(rows, processes=[ROOT])
+
+    async def _wait_async(self) -> None:
+        """The same as `wait` in asyncio."""
+        while not self._ends():
+            self._hear(await self._inboxes[ROOT].get())
+
+    def _file(self, process: int) -> str | None:
+        """The file of a process's rows, if there is a log."""
+        return None if self._log is None else os.path.join(self._log, f"{process}.rows")
+
+    def _added(self, name: Hashable) -> Process:
+        """Adds a process. One that comes when all is over has nothing to do."""
+        with self._lock:
+            if name in self._processes:
+                raise ValueError(f"there is a process {name!r}")
+            number = len(self._processes)
+            books = Books(root=name == ROOT, process=number, log=self._file(number))
+            inbox = self._inboxes[name] = self._backend.inbox()
+            added = Process(name, books, self._inboxes, self._backend)
+            self._processes[name] = added
+            if self._is_over:
+                inbox.put_nowait(_OVER)
+        return added
+
+    def _ends(self) -> bool:
+        """Whether all is over. If it is, all processes are told."""
+        with self._root._lock:
+            is_over = self._root.books.is_over()
+        if is_over:
+            self._tell_all()
+        return is_over
+
+    def _hear(self, item: Item) -> None:
+        """Notes what comes to the root: an acknowledgement, or a refusal, with which nothing can be known any more."""
+        if isinstance(item, Fault):
+            self._tell_all()
+            raise item
+        if isinstance(item, Answer):
+            self._root._settle(item)
+
+    def _tell_all(self) -> None:
+        """Has the loops of all processes end."""
+        with self._lock:
+            self._is_over = True
+            for name, inbox in self._inboxes.items():
+                if name != ROOT:
+                    inbox.put_nowait(_OVER)
+
+
+def _backend(backend: Any) -> _Backend:
+    """What a back end has, by its name, or by a context of multiprocessing."""
+    if backend == "threading":
+        return _Backend(queue.SimpleQueue, _Numbers())
+    if backend == "asyncio":
+        return _Backend(importlib.import_module("asyncio").Queue, _Numbers(), is_async=True)
+    context = importlib.import_module(backend) if backend == "multiprocessing" else backend
+    if not hasattr(context, "Value"):
+        known = "threading, asyncio, multiprocessing or a context of that module"
+        raise ValueError(f"there is no back end {backend!r}: it is {known}")
+    shared = _SharedNumbers(context)
+    return _Backend(context.Queue, shared, False, pickle.dumps, pickle.loads)

@@ -16,10 +16,13 @@ import without
 
 WAYS = PROCESS, LIBRARY, WITHOUT = ("process", "library", "without")
 SHARED, STATIC = "libchipfire.so", "libchipfire.a"
-#: The modules that test what the library answers, and those that ask for what may be hidden. All go by the process.
+#: The modules that test what the library answers, and those that ask for what may be hidden. All go by the process, but
+#: for those of which no process answers anything.
 BY_LIBRARY = (
+    "test_books",
     "test_configurations",
     "test_counts",
+    "test_detector",
     "test_divisors",
     "test_drops",
     "test_ensembles",
@@ -35,6 +38,7 @@ BY_LIBRARY = (
     "test_sandpiles",
     "test_wrong_inputs",
 )
+NOT_BY_PROCESS = ("test_books", "test_detector")
 BY_WITHOUT = (
     "test_configurations",
     "test_counts",
@@ -63,7 +67,8 @@ def once(tests):
 
 def modules(way, every):
     """Returns the modules of tests/python, among all of them, that go a way."""
-    chosen = {PROCESS: every, LIBRARY: BY_LIBRARY, WITHOUT: BY_WITHOUT}[way]
+    by_process = [it for it in every if it not in NOT_BY_PROCESS]
+    chosen = {PROCESS: by_process, LIBRARY: BY_LIBRARY, WITHOUT: BY_WITHOUT}[way]
     return [it for it in every if it in chosen]
 
 

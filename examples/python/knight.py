@@ -2,11 +2,10 @@
 """In how many moves a knight reaches each square from a corner, by threads that know no order.
 
 Each square is a part. A message tells it a number of moves, and if these are fewer than it knew, it tells the squares
-that are one move further. Threads take messages from one queue. Only the books that libchipfire keeps say when the last
+that are one move further. Threads take messages from one queue. Only `chipfire.Books` say when the last
 message is worked on: all are acknowledged, by messages too, and the root, which sent the first one, sees it.
 """
 import argparse
-import ctypes
 import math
 import queue
 import threading
@@ -14,87 +13,16 @@ from concurrent.futures import ThreadPoolExecutor
 
 import chipfire
 
-WORD, NEUTRAL = ctypes.c_uint64, 2**64 - 1
 ROOT = None
 STEPS = [(1, 2), (2, 1), (2, -1), (1, -2), (-1, -2), (-2, -1), (-2, 1), (-1, 2)]
-
-
-class Tally(ctypes.Structure):
-    """The messages of one edge: how many there were, and how many of them are acknowledged."""
-
-    _fields_ = [("edge", WORD), ("messages", WORD), ("answered", WORD)]
-
-
-SLICE, OUT = [ctypes.POINTER(Tally), ctypes.c_size_t], ctypes.POINTER(WORD)
-CALLS = {
-    "sent": [*SLICE, WORD],
-    "got": [*SLICE, OUT, WORD],
-    "may_ack": [*SLICE, *SLICE, WORD, WORD, WORD, OUT],
-    "acked": [*SLICE, *SLICE, OUT, WORD, WORD, WORD],
-    "settled": [*SLICE, WORD, WORD, OUT],
-    "is_over": [*SLICE, WORD, OUT],
-}
-
-
-def load(file):
-    """Returns the calls of a libchipfire."""
-    library = ctypes.CDLL(file)
-    for name, types in CALLS.items():
-        function = getattr(library, f"chipfire_{name}")
-        function.restype, function.argtypes = WORD, types
-    return library
-
-
-class Books:
-    """The books of a part with these edges into it and out of it. One thread at a time may call."""
-
-    def __init__(self, library, ins, outs):
-        self.library = library
-        self.ins, self.outs = ((Tally * len(edges))(*((it,) for it in sorted(edges))) for edges in (ins, outs))
-        self.of_ins, self.of_outs = (self.ins, len(self.ins)), (self.outs, len(self.outs))
-        self.parent = WORD(NEUTRAL)
-
-    def call(self, name, *words):
-        """Makes a call. What the books do not allow is refused, and raised."""
-        refusal = getattr(self.library, f"chipfire_{name}")(*words)
-        if refusal:
-            raise RuntimeError(f"refusal {refusal}: `chipfire explain {refusal}` says more")
-
-    def sent(self, edge):
-        """Before the message can be got, by a part that is not passive."""
-        self.call("sent", *self.of_outs, edge)
-
-    def got(self, edge):
-        """With the message, before it is worked on."""
-        self.call("got", *self.of_ins, self.parent, edge)
-
-    def acknowledge(self, passive):
-        """Acknowledges all that may be. Returns the edges, each with how many messages are acknowledged so far."""
-        answers, count = [], WORD()
-        # (the parent edge comes last: its last message waits for all others)
-        for tally in sorted(self.ins, key=lambda it: it.edge == self.parent.value):
-            self.call("may_ack", *self.of_ins, *self.of_outs, self.parent, tally.edge, passive, count)
-            self.call("acked", *self.of_ins, *self.of_outs, self.parent, tally.edge, passive, count)
-            if count.value:
-                answers.append((tally.edge, tally.answered))
-        return answers
-
-    def settle(self, edge, word):
-        """Notes how many messages are acknowledged so far, as the head says or said before."""
-        self.call("settled", *self.of_outs, edge, word, WORD())
-
-    def is_over(self, ended):
-        """Whether it is over, as the root sees it. It has ended if it sends no more."""
-        over = WORD()
-        self.call("is_over", *self.of_outs, ended, over)
-        return bool(over.value)
 
 
 class Part:
     """A square, or the root, with the edges out of it. Who reads or writes the rest holds the lock."""
 
-    def __init__(self, library, ins, outs):
-        self.lock, self.books, self.outs = threading.Lock(), Books(library, ins, outs), outs
+    def __init__(self, number, ins, outs):
+        self.lock, self.outs = threading.Lock(), outs
+        self.books = chipfire.Books(ins, outs, root=number == 0, process=number)
         self.moves = math.inf
         self.busy = 0  # how many threads work on a message to it
 
@@ -102,15 +30,15 @@ class Part:
 class Search:
     """The search on a board with so many squares on a side. Edge 0 leads from the root to the corner."""
 
-    def __init__(self, library, side):
+    def __init__(self, side):
         squares = [(line, column) for line in range(side) for column in range(side)]
         self.ends = [(ROOT, (0, 0))]
         for y, x in squares:
             self.ends += [((y, x), (y + dy, x + dx)) for dy, dx in STEPS if (y + dy, x + dx) in squares]
         self.parts = {}
-        for it in [ROOT, *squares]:
+        for number, it in enumerate([ROOT, *squares]):
             ins, outs = ([edge for edge, ends in enumerate(self.ends) if ends[end] == it] for end in (1, 0))
-            self.parts[it] = Part(library, ins, outs)
+            self.parts[it] = Part(number, ins, outs)
         self.mail = queue.SimpleQueue()
 
     def send(self, edge, moves):
@@ -145,8 +73,8 @@ class Search:
         tail = self.ends[edge][0]
         part = self.parts[tail]
         with part.lock:
-            part.books.settle(edge, word)
-            is_over = tail is ROOT and part.books.is_over(True)
+            part.books.settled(edge, word)
+            is_over = tail is ROOT and part.books.is_over()
         if is_over:
             self.mail.put(None)
         self.acknowledge(part)
@@ -175,10 +103,8 @@ def main():
     parser = argparse.ArgumentParser(description=__doc__, formatter_class=argparse.RawDescriptionHelpFormatter)
     parser.add_argument("--side", type=int, default=8, help="how many squares a side of the board has, 8 if not said")
     parser.add_argument("--threads", type=int, default=4, help="how many threads work, 4 if not said")
-    parser.add_argument("--library", help="the file of libchipfire, else that beside the program")
     asked = parser.parse_args()
-    library = load(asked.library or chipfire.find_library() or "libchipfire.so.0")
-    moves = Search(library, asked.side).find(asked.threads)
+    moves = Search(asked.side).find(asked.threads)
     for line in range(asked.side):
         print(*(moves[line, column] for column in range(asked.side)))
 

@@ -17,7 +17,9 @@ import time
 import types
 import unittest
 
-from library import BUILT, INCLUDE, PROGRAM, ROOT, SHARED, STATIC, Room, need, run
+import chipfire
+import ways
+from library import BUILT, INCLUDE, PROGRAM, ROOT, STATIC, Room, need, run
 
 #: How many runs there are, of a wrong use at most, and after how many early ends there are no more.
 SOAK = int(os.environ.get("CHIPFIRE_SOAK") or 0)
@@ -47,8 +49,8 @@ KNIGHT_COUNTED = [
      "        finished(edge)\n        with part.lock:\n            part.busy -="),
     ("            self.mail.put((edge, None, word))", "            told(edge, word)\n"
      "                self.mail.put((edge, None, word))"),
-    ("part.books.settle(edge, word)", "part.books.settle(edge, word)\n            heard(edge, word)"),
-    ("part.books.is_over(True)", "judged(part.books)"),
+    ("part.books.settled(edge, word)", "part.books.settled(edge, word)\n            heard(edge, word)"),
+    ("part.books.is_over()", "judged(part.books)"),
 ]
 KNIGHT_WRONG = {
     "got after the work": [("part.books.got(edge)\n            ", ""),
@@ -59,7 +61,8 @@ KNIGHT_WRONG = {
     "passive too early": [("acknowledge(part.busy == 0)", "acknowledge(True)")],
 }
 EDITED_IN = ["opened", "received", "finished", "told", "heard", "judged"]
-Outcome = collections.namedtuple("Outcome", "runs early missed wrong")
+#: How many runs ended early or were missed, found what is wrong, or were stopped since the books refused something.
+Outcome = collections.namedtuple("Outcome", "runs early missed wrong refused", defaults=(0,))
 
 
 def edited(path, edits):
@@ -89,7 +92,7 @@ class Judge:
 
     def __init__(self):
         self.lock, self.draw = threading.Lock(), random.Random("library: knight")
-        self.early = self.missed = self.tasks = 0
+        self.early = self.missed = self.refused = self.tasks = 0
         self.search, self.last = None, math.inf
         threading.Thread(target=self.watch, daemon=True).start()
 
@@ -136,7 +139,7 @@ class Judge:
 
     def judged(self, books):
         with self.lock:
-            over = books.is_over(True)
+            over = books.is_over()
             self.row("over", 0, 0, over)
             self.early += over and self.tasks > 0
         return over
@@ -159,10 +162,14 @@ class Judge:
             self.ends, self.numbers = search.ends, {part: number for number, part in enumerate(search.parts)}
             self.at_work, self.acknowledged, self.rows = collections.Counter(), collections.Counter(), []
             self.row("active", 0, 0)
-        found = search.find(4)
+        try:
+            found = search.find(4)
+        except chipfire.Fault:
+            self.refused += 1
+            found = None
         with self.lock:
             self.search = None
-        return found, self.early + self.missed == before
+        return found, self.early + self.missed == before and found is not None
 
 
 def knights(edits, runs, most_early, folder):
@@ -171,13 +178,13 @@ def knights(edits, runs, most_early, folder):
     judge, example = Judge(), types.ModuleType("knight")
     example.__dict__.update({it: getattr(judge, it) for it in EDITED_IN})
     exec(compile(edited(KNIGHT, KNIGHT_COUNTED + edits), KNIGHT, "exec"), example.__dict__)
-    library, right, run, wrong = example.load(SHARED), moves_of_a_knight(3), 0, 0
-    while run < runs and judge.early < most_early:
-        found, is_timely = judge.run(example.Search(library, 3))
+    right, run, wrong = moves_of_a_knight(3), 0, 0
+    while run < runs and judge.early + judge.refused < most_early:
+        found, is_timely = judge.run(example.Search(3))
         with open(f"{folder}/{run % LOGS}.csv", "w", encoding="ascii") as file:
             file.writelines(["process,kind,channel\n", *judge.rows])
         run, wrong = run + 1, wrong + (is_timely and found != right)
-    return Outcome(run, judge.early, judge.missed, wrong)
+    return Outcome(run, judge.early, judge.missed, wrong, judge.refused)
 
 
 class Soak(Room):
@@ -198,8 +205,8 @@ class Soak(Room):
     def are_caught(self, wrong_uses):
         for name in wrong_uses:
             outcome, judged = self.outcome(name, WRONG_RUNS)
-            self.assertGreater(outcome.early, 0, name)
-            self.assertGreaterEqual(judged[2], outcome.early if outcome.runs <= LOGS else 1, name)
+            self.assertGreater(outcome.early + outcome.refused, 0, name)
+            self.assertGreaterEqual(judged[2], min(outcome.early, 1 if outcome.runs > LOGS else outcome.early), name)
             self.assertLessEqual(set(judged), {0, 2, 3}, name)
 
 
@@ -226,18 +233,22 @@ class Steal(Soak):
 
 
 class Knight(Soak):
-    #: knight.py imports the package.
-    ENVIRONMENT = {**os.environ, "PYTHONPATH": f"{ROOT}/python"}
+    def setUp(self):
+        super().setUp()
+        #: knight.py imports a package that carries the library, and what edits it the modules of the tests.
+        places = ways.carried(self.room, PROGRAM), f"{ROOT}/tests"
+        self.environment = {**os.environ, "PYTHONPATH": os.pathsep.join(places)}
+        self.environment.pop("CHIPFIRE", None)
 
     def test_it_finds_what_one_finds_move_by_move(self):
-        found = self.runs(sys.executable, KNIGHT, "--library", SHARED, env=self.ENVIRONMENT)
+        found = self.runs(sys.executable, KNIGHT, env=self.environment)
         right = moves_of_a_knight(8)
         self.assertEqual(found, "".join(" ".join(str(right[y, x]) for x in range(8)) + "\n" for y in range(8)))
 
     def outcome(self, name, runs):
         """Runs knight.py or a wrong use in a process of its own, since tests of memory follow in this one."""
         words = os.path.realpath(__file__), name, str(runs), str(MOST_EARLY)
-        return self.told(f"knight.py, {name}", sys.executable, *words, env=self.ENVIRONMENT)
+        return self.told(f"knight.py, {name}", sys.executable, *words, env=self.environment)
 
     def test_it_ends_when_it_is_over(self):
         self.is_right()

@@ -1,5 +1,6 @@
 """Detectors around threads, coroutines and processes, beside a count of what is open that they never read."""
 import asyncio
+import itertools
 import multiprocessing
 import os
 import sys
@@ -8,6 +9,7 @@ import threading
 import unittest
 
 import chipfire
+from test_examples import script
 
 NAMES = ["a", "b", "c"]
 #: How many messages come of one that has so many steps before it: each is sent on to two processes.
@@ -230,6 +232,19 @@ class Rules(unittest.TestCase):
             await detector
 
         asyncio.run(play())
+
+
+class Examples(unittest.TestCase):
+    def test_programs_that_know_when_they_are_over(self):
+        primes = [it for it in range(2, 300) if all(it % other for other in range(2, it))]
+        self.assertEqual(script("coordinator.py", "--below", 300), f"{len(primes)} primes\n")
+        places = itertools.permutations(range(5))
+        ways = [it for it in places if all(abs(it[a] - it[b]) != b - a for b in range(5) for a in range(b))]
+        self.assertEqual(script("queens.py", "--side", 5), f"{len(ways)} ways\n")
+        with tempfile.TemporaryDirectory(prefix="chipfire-python-") as folder:
+            said = script("crawler.py", "--pages", 30, "--log", f"{folder}/log").splitlines()
+        self.assertEqual((said[0], said[-1]), ("30 pages", "end claimed"))
+        self.assertRegex(said[1], "^over root [0-9]+ right$")
 
 
 if __name__ == "__main__":

@@ -67,7 +67,8 @@ detector = chipfire.Detector(["a", "b"], log=None)
 detector.begin("a", 5)
 for content in detector["a"]:
     detector["a"].send("b", content)
-print(detector.wait(5), detector.check().is_right, pairs)
+detector.wait(5)
+print(detector.check().is_right, pairs)
 print(chipfire.Schedule().take(4), chipfire.MAX_CHIPS, chipfire.find_program(), chipfire.CHIPS_HEADER, chipfire.RULES)
 """
 

@@ -241,7 +241,8 @@ class Detector:
 
     A message goes to the one inbox that each process has, which has no end of room; edges come as they are needed.
     `begin` sends the first messages, by a root of the detector's own. `wait`, or `await` in asyncio, returns when all is
-    over, and raises what a process was refused.
+    over. What a process is refused is raised there, and by `wait` too if that has not returned yet. In asyncio the
+    detector is made inside the running loop.
     """
 
     def __init__(

@@ -19,7 +19,6 @@ SHARED, STATIC = "libchipfire.so", "libchipfire.a"
 #: The modules that test what the library answers, and those that ask for what may be hidden. All go by the process, but
 #: for those of which no process answers anything.
 BY_LIBRARY = (
-    "test_books",
     "test_configurations",
     "test_counts",
     "test_detector",
@@ -32,13 +31,14 @@ BY_LIBRARY = (
     "test_kept",
     "test_library",
     "test_loops",
+    "test_own_books",
     "test_package",
     "test_polynomials",
     "test_sandpile_words",
     "test_sandpiles",
     "test_wrong_inputs",
 )
-NOT_BY_PROCESS = ("test_books", "test_detector")
+NOT_BY_PROCESS = ("test_own_books", "test_detector")
 BY_WITHOUT = (
     "test_configurations",
     "test_counts",

@@ -32,7 +32,8 @@ def burning_script(graph: AnyGraph, *, program: AnyProgram = None) -> Configurat
 
 def burning_configuration(graph: AnyGraph, *, program: AnyProgram = None) -> Configuration:
     """The chips that `burning_script` takes away. Added to a recurrent configuration and stabilized, it comes back.
-    Proved and not proved: as of `burning_script`."""
+    Proved: the chips, where the library finds them in one call; else the counts of the script's play. Not proved: that the
+    chips are passed on, or that they follow from the script."""
     known = known_graph(graph, program)
     return Configuration(known, burning(known, program)[1])
 

@@ -20,7 +20,7 @@ from unittest import mock
 
 import chipfire
 import without
-from chipfire.backend import library
+from chipfire.backend import kept, library
 from test_counts import GRAPHS, slow_report
 from test_drops import rows_of, slow_rows
 from test_package import CHIPS_FILE, TRIANGLE, TRIANGLE_FILE, WithFolder
@@ -197,10 +197,11 @@ class Ways(WithFolder):
             with self.counted() as started:
                 call()
             self.assertGreater(started.call_count, 0)
-        for name, call in [("most", lambda: chipfire.stabilize_many(grid, [{5: 9}] * 2)),
-                           ("avalanches", lambda: chipfire.drops(grid, 0, [5] * 9))]:
-            fault = chipfire.Fault(13, "Stopped", (0,), "", 1)
-            with mock.patch.object(library, name, side_effect=fault if name == "avalanches" else None, return_value=0):
+        for owner, name, result, call in [
+            (library, "most", 0, lambda: chipfire.stabilize_many(grid, [{5: 9}] * 2)),
+            (kept.KeptPile, "drops", (kept.STOPPED, 0), lambda: chipfire.drops(grid, 0, [5] * 9)),
+        ]:
+            with mock.patch.object(owner, name, return_value=result):
                 with self.counted() as started:
                     call()
             self.assertGreater(started.call_count, 0)

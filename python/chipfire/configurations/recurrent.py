@@ -24,16 +24,16 @@ def burning_script(graph: AnyGraph, *, program: AnyProgram = None) -> Configurat
     """The least burning script, by Speer: how often each vertex fires when a recurrent configuration burns: at least
     once, on an undirected graph exactly once, and so that no vertex has more chips than before. It is one more than the
     counts of a play that begins with one chip less on each vertex than edges lead in.
-    Proved: the script, where the library finds it in one call; else the counts of that play. Not proved: that the script is
-    passed on."""
+    Proved: the script, where the library finds it in one call; else the counts of that play.
+    Not proved: that the script is passed on."""
     known = known_graph(graph, program)
     return Configuration(known, burning(known, program)[0])
 
 
 def burning_configuration(graph: AnyGraph, *, program: AnyProgram = None) -> Configuration:
     """The chips that `burning_script` takes away. Added to a recurrent configuration and stabilized, it comes back.
-    Proved: the chips, where the library finds them in one call; else the counts of the script's play. Not proved: that the
-    chips are passed on, or that they follow from the script."""
+    Proved: the chips, where the library finds them in one call; else the counts of the script's play.
+    Not proved: that the chips are passed on, or that they follow from the script."""
     known = known_graph(graph, program)
     return Configuration(known, burning(known, program)[1])
 
@@ -43,8 +43,8 @@ def is_recurrent(graph: AnyGraph, chips: Chips, *, program: AnyProgram = None) -
 
     This is the burning test, for directed multigraphs too: a configuration is recurrent exactly if it comes back when
     `burning_configuration` is added to it and the sum is stabilized.
-    Proved: whether it is, where the library says it in one call; else the stabilizations, and that the test is right. Not
-    proved: that it is passed on, or else the comparison."""
+    Proved: whether it is, where the library says it in one call; else the stabilizations, and that the test is right.
+    Not proved: that it is passed on, or else the comparison."""
     return as_configuration(graph, chips, program).is_recurrent(program=program)
 
 

@@ -36,6 +36,7 @@ BY_LIBRARY = (
     "test_polynomials",
     "test_sandpile_words",
     "test_sandpiles",
+    "test_spread",
     "test_wrong_inputs",
 )
 NOT_BY_PROCESS = ("test_own_books", "test_detector")
@@ -55,6 +56,7 @@ BY_WITHOUT = (
     "test_powers",
     "test_sandpile_words",
     "test_sandpiles",
+    "test_spread",
     "test_without",
     "test_wrong_inputs",
 )

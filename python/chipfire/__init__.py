@@ -37,7 +37,9 @@ The usual words of sandpiles are found under these names:
     avalanche                  avalanche(graph, chips, vertex), avalanches(graph, chips, vertices); by the million:
                                drops(graph, chips, vertices), with random_drops(graph, count, seed); drops that
                                depend on one another: Pile(graph, chips).drop(vertex)
-    many series of drops       chains(graph, n, drops, seed), from random_recurrent(graph, seed); power_law(sizes)
+    many series of drops       chains(graph, n, drops, seed), from random_recurrent(graph, seed); power_law(sizes),
+                               moments(chains), collapse(sizes by length)
+    mean sizes, resistances    green(graph), the inverse of the reduced Laplacian
     tables, files of results   Drops.to_dataframe(), Drops.save(file), Drops.load(file), and those of Chains
 
 `image` and `show` draw reports and configurations, `frames` draws plays. `page` makes a page on which one watches a run
@@ -91,6 +93,7 @@ from chipfire.backend.library import find_library as find_library
 from chipfire.backend.process import Fault, TraceCut
 from chipfire.backend.report import Report
 from chipfire.configurations.configuration import CHIPS_HEADER as CHIPS_HEADER, Chips, Configuration
+from chipfire.configurations.green import Green, green
 from chipfire.configurations.group import Group
 from chipfire.configurations.laplacian import invariant_factors, laplacian, order, reduced_laplacian
 from chipfire.configurations.recurrent import (
@@ -112,6 +115,7 @@ from chipfire.ensembles.chains import Chains, Firings, chains
 from chipfire.ensembles.drops import Drops
 from chipfire.ensembles.pile import Drop as Drop, Pile
 from chipfire.ensembles.power_law import PowerLaw, plot_sizes, power_law
+from chipfire.ensembles.scaling import Collapse, Moments, collapse, moments
 from chipfire.ensembles.wilson import random_recurrent
 from chipfire.graphs.convert import from_edges, from_networkx, from_sage, to_networkx, to_scipy
 from chipfire.graphs.families import complete, cycle, path, torus, wheel
@@ -173,6 +177,7 @@ __all__ = [
     "Chains",
     "Check",
     "Chips",
+    "Collapse",
     "Computation",
     "Configuration",
     "Detector",
@@ -182,7 +187,9 @@ __all__ = [
     "Firings",
     "Frames",
     "Graph",
+    "Green",
     "Group",
+    "Moments",
     "PALETTES",
     "Picture",
     "Pile",
@@ -203,6 +210,7 @@ __all__ = [
     "chains",
     "check",
     "choice_page",
+    "collapse",
     "complete",
     "cycle",
     "drops",
@@ -214,6 +222,7 @@ __all__ = [
     "from_networkx",
     "from_sage",
     "genus",
+    "green",
     "grid",
     "grid_for",
     "identity",
@@ -227,6 +236,7 @@ __all__ = [
     "level_polynomial",
     "machine",
     "model_log",
+    "moments",
     "order",
     "page",
     "path",

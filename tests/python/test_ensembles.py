@@ -2,6 +2,7 @@
 
 Chains take the library: with CHIPFIRE, which names a program, they are refused.
 """
+import contextlib
 import copy
 import itertools
 import os
@@ -16,7 +17,6 @@ from unittest import mock
 
 import chipfire
 from chipfire import utils as values
-from chipfire.ensembles import chains as chain_module
 from test_counts import slow_report
 from test_drops import rows_of, slow_rows
 from test_package import CHIPS_FILE, TRIANGLE
@@ -61,10 +61,10 @@ class Recurrent(unittest.TestCase):
                 self.assertEqual(chipfire.random_recurrent(graph, 1, 1100), together)
 
     def test_what_there_is_no_memory_for_is_refused_before_it_begins(self):
-        # (a configuration of 6 squares and the sink takes 7 numbers of 8 bytes; a drop three)
-        for call, count in [("chains(g, 2**40, 4, 1)", 2**40 * (4 * 24 + 7 * 8)),
-                            ("chains(g, 1, 2**50, 1)", 24 * 2**50 + 56),
-                            ("chains(g, 1, 2**30, 1)", 24 * 2**30 + 56), ("random_recurrent(g, 1, 2**40)", 56 * 2**40)]:
+        # (a configuration of 6 squares and the sink takes 7 numbers of 8 bytes, and its start as many; a drop three)
+        for call, count in [("chains(g, 2**40, 4, 1)", 2**40 * (4 * 24 + 7 * 16)),
+                            ("chains(g, 1, 2**50, 1)", 24 * 2**50 + 112),
+                            ("chains(g, 1, 2**30, 1)", 24 * 2**30 + 112), ("random_recurrent(g, 1, 2**40)", 56 * 2**40)]:
             lines = ["import chipfire, resource", "resource.setrlimit(resource.RLIMIT_AS, (2**31, 2**31))",
                      "g = chipfire.grid(3, 2)", f"chipfire.{call}"]
             ran = subprocess.run([sys.executable, "-c", "\n".join(lines)], stderr=subprocess.PIPE, timeout=60)
@@ -129,12 +129,12 @@ class Chains(unittest.TestCase):
         self.assertEqual(*([it.tolist() for it in of.size] for of in (one, other)))
 
     def test_as_many_threads_play_as_there_are_processors_for_this_process(self):
-        grid, side_by_side = chipfire.grid(3, 3), "chipfire.ensembles.chains.run_in_threads"
+        grid, threads = chipfire.grid(3, 3), "chipfire.ensembles.spread.ThreadPoolExecutor"
         for given in ({5}, {1, 2, 6}):
             with mock.patch("os.sched_getaffinity", return_value=given), mock.patch("os.cpu_count", return_value=40):
-                with mock.patch(side_by_side, wraps=chain_module.run_in_threads) as played:
+                with mock.patch(threads, wraps=ThreadPoolExecutor) as pool:
                     chipfire.chains(grid, 9, 5, 1)
-                self.assertEqual(played.call_args[0][2], len(given))
+                self.assertEqual(pool.call_args[0][0], len(given))
                 with mock.patch("chipfire.pictures.animation.ThreadPoolExecutor", wraps=ThreadPoolExecutor) as pool:
                     chipfire.frames(grid, 5)
                 self.assertEqual(pool.call_args[0][0], len(given))
@@ -168,9 +168,9 @@ class Chains(unittest.TestCase):
     def test_the_numbers_without_numpy_are_the_same(self):
         grid = chipfire.grid(5, 3)
         found = chipfire.chains(grid, 3, 2000, 1)
-        without = {"return_value": None}
-        with mock.patch("chipfire.ensembles.chains.import_optional", **without), \
-                mock.patch("chipfire.ensembles.wilson.import_optional", **without):
+        with contextlib.ExitStack() as hidden:
+            for module in ("chains", "player", "wilson"):
+                hidden.enter_context(mock.patch(f"chipfire.ensembles.{module}.import_optional", return_value=None))
             other = chipfire.chains(grid, 3, 2000, 1)
         for name in ("size", "extent", "lost", "chips"):
             self.assertEqual([it.tolist() for it in getattr(other, name)], getattr(found, name).tolist())

@@ -40,7 +40,7 @@ class PowerLaw(unittest.TestCase):
             law = chipfire.power_law(drawn(exponent, least, most, 100_000, seed), least, most)
             self.assertLess(abs(law.exponent - exponent), 0.02)
             self.assertLess(abs(law.exponent - exponent), 4 * law.error)
-            self.assertEqual(law[2:], (least, most, 100_000))
+            self.assertEqual(law[2:5], (least, most, 100_000))
 
     def test_the_error_is_how_far_the_exponents_of_many_draws_lie_apart(self):
         laws = [chipfire.power_law(drawn(1.5, 1, 100, 500, seed), 1, 100) for seed in range(60)]
@@ -75,7 +75,7 @@ class PowerLaw(unittest.TestCase):
         for size in (10**4, 10**6):
             law = chipfire.power_law([size] * 100 + [size + 1])
             self.assertLess(abs(law.exponent / (size * -math.log(201 / 100)) - 1), 3 / size)
-            self.assertEqual(law[2:], (1, size + 1, 101))
+            self.assertEqual(law[2:5], (1, size + 1, 101))
         # (of two sizes, one of which is far more often: 2 ** exponent is 10^18)
         for sign, counts in [(1, {1: 10**18, 2: 1}), (-1, {1: 1, 2: 10**18})]:
             self.assertAlmostEqual(chipfire.power_law(counts).exponent, sign * 18 * math.log2(10))

@@ -3,10 +3,9 @@
 from __future__ import annotations
 
 import itertools
-import random
-import threading
 from array import array
-from collections.abc import Callable, Sequence
+from collections.abc import Sequence
+from concurrent.futures import Executor
 from dataclasses import dataclass
 from typing import Any, NamedTuple
 
@@ -15,20 +14,24 @@ from chipfire.backend.commands import AnyGraph, known_graph, read_chips
 from chipfire.backend.finding import ProgramNotFound
 from chipfire.configurations.configuration import Chips
 from chipfire.ensembles import archive
-from chipfire.ensembles.drops import COLUMNS, in_calls
+from chipfire.ensembles.checkpoint import opened
+from chipfire.ensembles.player import COLUMNS, places_of, Plan, spanning, stabilize, Table
 from chipfire.ensembles.power_law import sizes_figure
-from chipfire.ensembles.wilson import recurrent_rows
+from chipfire.ensembles.spread import Spread
 from chipfire.graphs.graph import Graph
+from chipfire.progress import AnyProgress, Progress
 from chipfire.utils import (
     as_int,
+    as_ints,
     FILE,
     FileName,
     import_optional,
     in_order,
     known_seed,
+    MAX_CHIPS,
     processors,
     require_memory,
-    run_in_threads,
+    with_unit,
 )
 
 
@@ -59,7 +62,11 @@ class Chains:
     chips   what lies on each vertex after the last one, by numbers; the sink has what it got in all
     fired   which vertices fired by each drop, if that was asked for, else None
     seed    the seed from which `chains` plays the same again: the one that was drawn, if None was given, and the number
-            that a `Generator` or a `SeedSequence` of NumPy gave
+            that a `Generator` or a `SeedSequence` of NumPy gave; None of chains of several seeds
+    first   the number of the first chain of that seed
+
+    The chains of two results add up to one result, whose rows are those of the first and then those of the second. If
+    these go on where the first ends, it is what one call for all has.
     """
 
     seeds: Sequence[str]
@@ -70,9 +77,15 @@ class Chains:
     chips: Any
     fired: Firings | None = None
     seed: int | float | str | bytes | None = None
+    first: int = 0
 
     def __repr__(self) -> str:
         return f"<Chains: {self._title()}>"
+
+    def __add__(self, other: Chains) -> Chains:
+        if not isinstance(other, Chains):
+            return NotImplemented
+        return _sum(self, other)
 
     def _title(self) -> str:
         return f"{len(self.seeds)} of up to {len(self.size[0])} drops"
@@ -96,7 +109,8 @@ class Chains:
     def save(self, file: FileName) -> None:
         """Writes all of it to a file of arrays (`.npz`) of NumPy, which `Chains.load` reads, as `Drops.save` does."""
         numpy = archive.numpy_of_files()
-        said = {"seeds": self.seeds, "seed": archive.plain(self.seed, "the seed"), "names": None}
+        seed = archive.plain(self.seed, "the seed")
+        said = {"seeds": self.seeds, "seed": seed, "first": self.first, "names": None}
         arrays = {name: numpy.array(getattr(self, name), "i8") for name in (*COLUMNS, *_OTHERS)}
         if self.fired is not None:
             vertices = numpy.asarray(self.fired.vertices)
@@ -135,7 +149,38 @@ def _chains_of(said: dict[str, Any], arrays: dict[str, Any]) -> Chains:
                 names[place] = archive.value_of(name)
             vertices = names[archive.whole(vertices)]
         fired = Firings(offsets, vertices, counts)
-    return Chains(seeds, size, extent, lost, made, chips, fired, archive.value_of(said["seed"]))
+    seed = archive.value_of(said["seed"])
+    first = as_int(said.get("first", 0), "the number of the first chain")
+    return Chains(seeds, size, extent, lost, made, chips, fired, seed, first)
+
+
+def _sum(one: Chains, other: Chains) -> Chains:
+    """The chains of two results."""
+    widths = [[len(rows[0]) for rows in (it.size, it.chips)] for it in (one, other)]
+    if widths[0] != widths[1] or (one.fired is None) != (other.fired is None):
+        raise ValueError("chains add up that have as many drops and vertices, and are told alike")
+    columns = {
+        name: _joined(getattr(one, name), getattr(other, name)) for name in (*COLUMNS, *_OTHERS)
+    }
+    fired = None
+    if one.fired is not None and other.fired is not None:
+        offsets = _joined(one.fired.offsets, other.fired.offsets[1:] + one.fired.offsets[-1])
+        vertices = _joined(one.fired.vertices, other.fired.vertices)
+        fired = Firings(offsets, vertices, _joined(one.fired.counts, other.fired.counts))
+    is_next = (
+        one.seed is not None
+        and one.seed == other.seed
+        and one.first + len(one.seeds) == other.first
+    )
+    seed = one.seed if is_next else None
+    seeds = (*one.seeds, *other.seeds)
+    return Chains(seeds, **columns, fired=fired, seed=seed, first=one.first if is_next else 0)
+
+
+def _joined(one: Any, other: Any) -> Any:
+    """The rows of one and of another."""
+    numpy = import_optional("numpy")
+    return numpy.concatenate([one, other]) if hasattr(one, "dtype") else one + other
 
 
 def chains(
@@ -144,54 +189,91 @@ def chains(
     drops: int,
     seed: Any,
     *,
+    first: int = 0,
     chips: Chips | None = None,
+    on: Any = None,
+    amounts: Any = None,
     workers: int | None = None,
+    executor: Executor | None = None,
     fired: bool = False,
     until: str | None = None,
+    progress: AnyProgress = None,
+    checkpoint: FileName | None = None,
+    partial: bool = False,
 ) -> Chains:
     """Drops chips on random vertices in n chains, each with its own seed and `drops` drops, each drop on what the play
     of the one before it left. It takes the library: without it that is a `ProgramNotFound`. The seeds of the chains are
-    made of `seed`, which is as in `random_drops`; the result has the one that None or a `Generator` drew.
+    made of `seed`, which is as in `random_drops`; the result has the one that None or a `Generator` drew. Chains have
+    numbers from `first` on, and the chain of a number is the same whoever plays it, beside whichever others.
 
     Each chain begins with `chips`: in one of their forms for all, or rows of an array or list, one for each. Without
-    them each begins with a `random_recurrent` configuration of its own, from which on the drops are stationary.
-    `workers` threads play, by default as many as there are processors for this process. An interrupt waits for chains
-    that have begun. A drop takes 24 bytes, and a vertex 8 in each chain: what there is no memory for does not begin.
+    them each begins with a `random_recurrent` configuration of its own, from which on the drops are stationary. Chips
+    fall `on` all vertices but the sink alike, or on those whose names are given, or on names by their weights. A drop
+    has one chip, or as many as `amounts` says: a number, or one for each drop.
+
+    `workers` threads play, by default as many as there are processors for this process; or an `executor` of
+    `concurrent.futures`, of Dask or of mpi4py, whose processes have this package and its library. A drop takes 24
+    bytes, and a vertex 16 in each chain: what there is no memory for does not begin.
 
     If it is asked for what `fired`, or `until` a drop has a "loss" of chips, or "spans" a grid, which is that the
     vertices that fired touch two opposite borders, each call makes one drop of many chains, by NumPy. `until` stops a
     chain after the first such drop. In a direction that is joined there are no borders, and "spans" does not know that.
+
+    `progress` shows how many drops are made: True by tqdm or lines, or a function of this number and of how many there
+    are. After an interrupt all stop soon; if `partial` is true, what was made is the result: `made` has the numbers of
+    drops, and chains that had not begun have no chips. A `checkpoint` is a file to which parts are written as they are
+    done: another call with the same arguments, or with more chains, goes on from it. Its numbers are believed, so it
+    should be one that only you can write.
+
     Proved: sizes, extents, losses and counts of the drops. Not proved: that they are evenly drawn, and what stops.
     """
     known = known_graph(graph)
     n = as_int(n, "the number of chains", 1)
     drops = as_int(drops, "the number of drops")
-    require_memory(n * (24 * drops + 8 * known.vertices), f"{n:,} chains of {drops:,} drops")
+    require_memory(n * (24 * drops + 16 * known.vertices), f"{n:,} chains of {drops:,} drops")
+    _refuse_options(until, fired, workers, executor)
+    if checkpoint is not None and (seed is None or hasattr(seed, "bit_generator")):
+        raise ValueError("a checkpoint takes a seed that is the same in the next call")
+    known.require()
+    if known.vertices < 2 and drops:
+        raise ValueError("the graph has only its sink, and so no vertex to drop on")
+    if until == "spans":
+        spanning(known)
+    plan = Plan(
+        graph=known,
+        seed=known_seed(seed),
+        first=as_int(first, "the number of the first chain"),
+        n=n,
+        drops=drops,
+        places=places_of(known, on),
+        amounts=_amounts(amounts, drops),
+        starts=None if chips is None else _starts(known, chips, n),
+        until=until,
+        fired=bool(fired),
+    )
+    threads = _threads(n, workers)
+    table = Table.of(plan)
+    with opened(checkpoint, plan) as file, Progress(progress, n * drops, "drops") as shown:
+        Spread(plan, table, executor, threads, file).play(shown, partial)
+    return _result(plan, table)
+
+
+def _refuse_options(
+    until: str | None, fired: bool, workers: int | None, executor: Executor | None
+) -> None:
+    """Refuses what does not go together, or takes what is not here."""
     if until not in (None, "loss", "spans"):
         raise ValueError(f"chains go on until 'loss' or 'spans', and not {until!r}")
     if fired or until:
         import_optional("numpy", "what fired, and when to stop, are found by NumPy")
-    if library.find_library() is None:
+    if executor is not None and workers is not None:
+        raise ValueError("either workers play, or an executor")
+    if executor is None and library.find_library() is None:
         raise ProgramNotFound(
             2,
             "chains take the library, which is not beside the program in this version",
             "chipfire",
         )
-    known.require()
-    if known.vertices < 2 and drops:
-        raise ValueError("the graph has only its sink, and so no vertex to drop on")
-    chips = read_chips(chips, known) if isinstance(chips, FILE) else chips
-    play = _Chains(known, n, drops, known_seed(seed), chips)
-    workers = _threads(n, workers)
-    pieces = []
-    if fired or until:
-        ends = [n * it // workers for it in range(workers + 1)]
-        pieces = run_in_threads(
-            lambda it: play.step(range(ends[it], ends[it + 1]), until, fired), workers, workers
-        )
-    else:
-        run_in_threads(play.whole, n, workers)
-    return play.result(_in_order(known, pieces, n * drops) if fired else None)
 
 
 def _threads(n: int, workers: int | None) -> int:
@@ -201,151 +283,49 @@ def _threads(n: int, workers: int | None) -> int:
     return min(n, as_int(workers, "workers", 1, 64))
 
 
-class _Chains:
-    """Chains as they are played: numbers of 64 bits, those of one chain behind those of another."""
-
-    def __init__(self, graph: Graph, n: int, drops: int, seed: Any, chips: Any) -> None:
-        self.known = graph
-        self.graph = graph.loop_free
-        self.drops = drops
-        self.seed = seed
-        self.seeds = [f"{seed} {chain}" for chain in range(n)]
-        self.inner = array("Q", (it for it in range(graph.vertices) if it != graph.sink))
-        self.made = array("Q", [drops]) * n
-        #: Each drop is one chip.
-        self.amounts = array("Q", [1]) * drops
-        #: How many drops the first call of the next chain makes.
-        self.drops_of_call = 1
-        #: What each thread has for itself.
-        self.of_thread = threading.local()
-        numpy = import_optional("numpy")
-        self.columns = [
-            numpy.zeros(n * drops, "u8") if numpy else array("Q", bytes(8 * n * drops))
-            for _ in range(3)
-        ]
-        self.chips = recurrent_rows(graph, seed, n) if chips is None else self._begun(chips)
-
-    def _begun(self, chips: Any) -> array[int]:
-        """The stable chips from which the chains begin, of the rows that were given, or of one form for all."""
-        graph = self.known
-        n = len(self.seeds)
-        found = chips
-        if getattr(chips, "ndim", 1) > 1:
-            found = in_order(chips, "chips are rows, or those of all chains")
-        if _are_rows(graph, found):
-            rows = [graph.chips(row) for row in found]
-        else:
-            rows = [graph.chips(chips)] * n
-        if len(rows) != n:
-            raise ValueError(f"there are chips for {len(rows)} chains, and {n} chains")
-        begun = array("Q", graph.without_loops([*itertools.chain.from_iterable(rows)]))
-        fired = array("Q", bytes(8 * len(begun)))
-        stopped = array("Q", bytes(8 * n))
-        _stabilize(self.graph, begun, fired, stopped)
-        return begun
-
-    def drawn(self, chain: int) -> Any:
-        """The vertices of a chain, as `random_drops` draws them; by NumPy's twister, which is Python's."""
-        draw = random.Random(self.seeds[chain])
-        numpy = import_optional("numpy")
-        if not numpy:
-            return array("Q", draw.choices(self.inner, k=self.drops))
-        if not hasattr(self.of_thread, "twister"):
-            self.of_thread.twister = numpy.random.RandomState(0)
-        state = draw.getstate()[1]
-        self.of_thread.twister.set_state(("MT19937", state[:-1], state[-1]))
-        places = (self.of_thread.twister.random_sample(self.drops) * len(self.inner)).astype("i8")
-        return numpy.frombuffer(self.inner, "u8")[places]
-
-    def whole(self, chain: int) -> None:
-        """Plays a chain to its end. Its first call has as many drops as the last one of another chain."""
-        width = self.graph.vertices
-        drops = self.drops
-        left = memoryview(self.chips)[chain * width : (chain + 1) * width]
-        rows = [memoryview(column)[chain * drops : (chain + 1) * drops] for column in self.columns]
-
-        def call(where: Any, many: Any, columns: list[Any]) -> bool:
-            library.avalanches(self.graph, where, many, left, columns[0], columns[1], columns[2])
-            return True
-
-        at = self.drawn(chain)
-        self.drops_of_call = in_calls(call, at, self.amounts, rows, self.drops_of_call)
-
-    def step(self, group: range, until: str | None, wants_fired: bool) -> list[Any]:
-        """Plays the chains of a group, a drop on each that goes on, and then the next. If it `wants_fired`, a piece of each
-        drop is returned, with three arrays: the numbers of drops, the vertices that fired, and how often.
-        """
-        numpy = import_optional("numpy")
-        drops = self.drops
-        sink = self.graph.sink
-        spans = _spans(self.graph) if until == "spans" else None
-        chips = numpy.frombuffer(self.chips, "u8").reshape(-1, self.graph.vertices)
-        made = numpy.frombuffer(self.made, "u8")
-        columns = [numpy.frombuffer(column, "u8") for column in self.columns]
-        drawn = numpy.array([self.drawn(chain) for chain in group])
-        # The chains that go on. In what follows row `i` is that of chain `live[i]`.
-        live = numpy.array(group)
-        pieces = []
-        for drop in range(drops if len(live) else 0):
-            numbers = live * drops + drop
-            after = chips[live]
-            after[numpy.arange(len(live)), drawn[live - group.start, drop]] += 1
-            fired = numpy.zeros_like(after)
-            _stabilize(self.graph, after, fired, numpy.zeros(len(live), "u8"))
-            lost = after[:, sink] - chips[live, sink]
-            for column, values in zip(columns, (fired.sum(1), (fired > 0).sum(1), lost)):
-                column[numbers] = values
-            chips[live] = after
-            if wants_fired:
-                row, vertex = numpy.nonzero(fired)
-                counts = fired[row, vertex].astype("i8")
-                pieces.append((numbers[row], vertex.astype("i4"), counts))
-            if until:
-                ended = spans(fired) if spans else lost > 0
-                made[live[ended]] = drop + 1
-                live = live[~ended]
-                if not len(live):
-                    break
-        return pieces
-
-    def result(self, fired: Firings | None) -> Chains:
-        """What was played, with a row for each chain in each column."""
-        numpy = import_optional("numpy")
-        n = len(self.seeds)
-        chips = self.known.with_loops(self.chips)
-        size, extent, lost, chips = (_by_rows(numpy, it, n) for it in (*self.columns, chips))
-        made = numpy.frombuffer(self.made, "q") if numpy else self.made
-        return Chains(tuple(self.seeds), size, extent, lost, made, chips, fired, self.seed)
+def _amounts(amounts: Any, drops: int) -> array[int]:
+    """How many chips each drop has."""
+    if amounts is None:
+        return array("Q", [1]) * drops
+    found = in_order(amounts, "the amounts of drops are one for all, or one for each drop")
+    if not isinstance(found, Sequence):
+        return array("Q", [as_int(found, "the number of chips of a drop", 0, MAX_CHIPS)]) * drops
+    many = as_ints(found, lambda drop: f"the number of chips of drop {drop}", 0, MAX_CHIPS)
+    if len(many) != drops:
+        raise ValueError(
+            f"there are {with_unit(drops, 'drop')}, and {with_unit(len(many), 'amount')}"
+        )
+    return array("Q", many)
 
 
-def _stabilize(graph: Graph, chips: Any, fired: Any, stopped: Any) -> None:
-    """Plays games to their ends, by the library."""
-    library.stabilize_all(graph, chips, fired, stopped)
-    if any(stopped):
-        raise ValueError("a vertex fired 2^40 times, and the chips are not stable then")
+def _starts(graph: Graph, chips: Any, n: int) -> array[int]:
+    """The stable chips from which n chains begin, of the rows that were given, or of one form for all."""
+    found = read_chips(chips, graph) if isinstance(chips, FILE) else chips
+    if getattr(found, "ndim", 1) > 1:
+        found = in_order(found, "chips are rows, or those of all chains")
+    if _are_rows(graph, found):
+        rows = [graph.chips(row) for row in found]
+    else:
+        rows = [graph.chips(found)] * n
+    if len(rows) != n:
+        raise ValueError(f"there are chips for {len(rows)} chains, and {n} chains")
+    begun = array("Q", graph.without_loops([*itertools.chain.from_iterable(rows)]))
+    fired = array("Q", bytes(8 * len(begun)))
+    stopped = array("Q", bytes(8 * n))
+    stabilize(graph.loop_free, begun, fired, stopped)
+    return begun
 
 
-def _spans(graph: Graph) -> Callable[[Any], Any]:
-    """What tells of each game whether the vertices that fired touch two opposite borders of the grid."""
-    if graph.shape is None:
-        raise ValueError("the graph is no grid, so nothing spans it")
-    height, width = graph.shape
-    places = [divmod(square, width) for square in graph.squares]
-    borders = [
-        [
-            vertex
-            for vertex, place in enumerate(places)
-            if place[way] == end and vertex != graph.sink
-        ]
-        for way, last in enumerate((height - 1, width - 1))
-        for end in (0, last)
-    ]
-
-    def by(fired: Any) -> Any:
-        top, bottom, left, right = (fired[:, border].any(1) for border in borders)
-        return top & bottom | left & right
-
-    return by
+def _result(plan: Plan, table: Table) -> Chains:
+    """What was played, with a row for each chain in each column."""
+    numpy = import_optional("numpy")
+    chips = table.chips
+    if plan.graph.loops:
+        chips = plan.graph.with_loops(memoryview(chips))
+    size, extent, lost, chips = (_by_rows(numpy, it, plan.n) for it in (*table.columns, chips))
+    made = numpy.frombuffer(table.made, "q") if numpy else array("q", table.made)
+    fired = _in_order(plan.graph, table.fired, plan.n * plan.drops) if plan.fired else None
+    return Chains(plan.seeds, size, extent, lost, made, chips, fired, plan.seed, plan.first)
 
 
 def _are_rows(graph: Graph, chips: Any) -> bool:
@@ -377,12 +357,10 @@ def _by_rows(numpy: Any, numbers: array[int], n: int) -> Any:
     return [array("q", numbers[it * width : (it + 1) * width]) for it in range(n)]
 
 
-def _in_order(graph: Graph, pieces: Sequence[Sequence[Any]], count: int) -> Firings:
-    """What `_Chains.step` returned in each thread, sorted by the numbers of `count` drops."""
+def _in_order(graph: Graph, pieces: Sequence[Any], count: int) -> Firings:
+    """The pieces of what fired, sorted by the numbers of `count` drops."""
     numpy = import_optional("numpy")
-    found = [*itertools.chain.from_iterable(pieces)]
-    if not found:
-        found = [[numpy.zeros(0, "i8")] * 3]
+    found = pieces or [[numpy.zeros(0, "i8")] * 3]
     drops, vertices, counts = map(numpy.concatenate, zip(*found))
     order = numpy.argsort(drops, kind="stable")
     fired_by_drop = numpy.bincount(drops, minlength=count)

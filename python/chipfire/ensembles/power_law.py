@@ -10,8 +10,9 @@ import math
 import operator
 from collections import Counter
 from collections.abc import Iterable, Mapping
-from typing import Any, NamedTuple
+from typing import Any, Literal, NamedTuple
 
+from chipfire.ensembles import goodness
 from chipfire.utils import as_int, as_ints, import_optional, is_of_networkx, listed
 
 #: The greatest size, and the most that one may be seen.
@@ -38,6 +39,8 @@ class PowerLaw(NamedTuple):
     exponent  the one by which the sizes that were seen are the most probable
     error     its standard error
     used      how many sizes lay in the range
+    distance  the distance of Kolmogorov and Smirnov between the sizes and the law; None if it was not asked for
+    p_value   the share of `trials` from the law whose distance is not less; None without trials
     """
 
     exponent: float
@@ -45,24 +48,69 @@ class PowerLaw(NamedTuple):
     least: int
     most: int
     used: int
+    distance: float | None = None
+    p_value: float | None = None
 
 
 def power_law(
-    sizes: Iterable[int] | Mapping[int, int], least: int = 1, most: int | None = None
+    sizes: Iterable[int] | Mapping[int, int],
+    least: int | Literal["best"] = 1,
+    most: int | None = None,
+    *,
+    trials: int = 0,
+    seed: int = 0,
 ) -> PowerLaw:
     """The power law of sizes from `least`, 1 or more, to `most`, or to the largest, by maximum likelihood. Sizes out of
     that range are left out, as those of 0 are. They come one by one, or as a histogram; two at least must differ.
     The range has up to 10,000,000 sizes.
 
-    A border ends the law of avalanches, so `most` is best far below the largest one."""
-    told = _counts(sizes)
-    least = as_int(least, "the least size", 1, MAX_SIZE)
+    A border ends the law of avalanches, so `most` is best far below the largest one. The "best" least size is that
+    whose law has the least distance of Kolmogorov and Smirnov, among up to 64 of those that were seen. With `trials`
+    as many samples are drawn from the law, by NumPy's generator of `seed`, and below a best least size from what was
+    seen there; each is fitted in the same way. A p-value below 0.1 speaks against the law, if there are 100 trials or
+    more. Both take NumPy. Clauset, Shalizi and Newman (2009).
+    """
+    told = counted(sizes)
+    trials = as_int(trials, "the number of trials")
+    is_best = least == "best"
+    start = min(filter(None, told), default=1) if is_best else least
+    start = as_int(start, "the least size", 1, MAX_SIZE)
     most = as_int(
-        max([least, *told]) if most is None else most,
+        max([start, *told]) if most is None else most,
         "the greatest size",
-        least,
-        least + 10**7 - 1,
+        start,
+        start + 10**7 - 1,
     )
+    if not is_best and not trials:
+        return _fitted(told, start, most)
+    numpy = import_optional("numpy", "the distance of a law is found by NumPy")
+    seen = {size: count for size, count in told.items() if start <= size <= most and count}
+    find = _best if is_best else _measured
+    law = find(numpy, seen, start, most)
+    if not trials:
+        return law
+    draw = numpy.random.default_rng(seed)
+    samples = (goodness.sample(numpy, draw, law, seen) for _ in range(trials))
+    distances = [find(numpy, its, start, most).distance or 0.0 for its in samples]
+    return law._replace(p_value=sum(it >= (law.distance or 0.0) for it in distances) / trials)
+
+
+def _measured(numpy: Any, seen: Mapping[int, int], least: int, most: int) -> PowerLaw:
+    """The law of the sizes of a range, with its distance from them."""
+    law = _fitted(seen, least, most)
+    return law._replace(distance=goodness.distance(numpy, seen, law.exponent, least, most))
+
+
+def _best(numpy: Any, seen: Mapping[int, int], least: int, most: int) -> PowerLaw:
+    """The law with the least distance, among those from different sizes on."""
+    laws = [_measured(numpy, seen, it, most) for it in goodness.candidates([*seen])]
+    if not laws:
+        raise ValueError(f"a power law takes two sizes that differ, from {least} to {most}")
+    return min(laws, key=lambda law: law.distance or 0.0)
+
+
+def _fitted(told: Mapping[int, int], least: int, most: int) -> PowerLaw:
+    """The law of the sizes of a range, by maximum likelihood."""
     seen = {size: count for size, count in told.items() if least <= size <= most}
     if len(seen) < 2:
         raise ValueError(f"a power law takes two sizes that differ, from {least} to {most}")
@@ -166,7 +214,7 @@ def plot_sizes(
     Each point has the sizes from a power of 2 up to the next, and is at the number of them for each size. Sizes of 0
     are left out, and the line is that of `power_law`."""
     pyplot = import_optional("matplotlib.pyplot", "a plot is one of Matplotlib")
-    told = _counts(sizes)
+    told = counted(sizes)
     law = power_law(told, least, most)
     axes = pyplot.subplots()[1] if axes is None else axes
     _draw_sizes(axes, told)
@@ -218,7 +266,7 @@ def sizes_figure(sizes: Any, title: str) -> str | None:
     return f"<figure>{drawn}<figcaption>{said}</figcaption></figure>"
 
 
-def _counts(sizes: Any) -> Counter[int]:
+def counted(sizes: Any) -> Counter[int]:
     """How many there are of each size; those of an array of several rows too."""
     if isinstance(sizes, Mapping) and not is_of_networkx(sizes):
         named = as_ints([*sizes], lambda place: f"size {place}", None)

@@ -48,13 +48,14 @@ def random_recurrent(
     return found[0] if count is None else found
 
 
-def recurrent_rows(graph: Graph, seed: Any, n: int) -> array[int]:
-    """The chips of n random recurrent configurations, one after another, without those of the graph's loops. NumPy, if
-    it is there, draws them together, if 32 or more fit in its arrays of some 2^21 numbers."""
+def recurrent_rows(graph: Graph, seed: Any, n: int, first: int = 0) -> array[int]:
+    """The chips of n random recurrent configurations of a seed, from the one with number `first` on, one after another,
+    without those of the graph's loops. NumPy, if it is there, draws them together, if 32 or more fit in its arrays of
+    some 2^21 numbers."""
     outs = _undirected(graph)
     base = random_generator(seed).getrandbits(64)
     numpy = import_optional("numpy")
-    draws = (random.Random(f"{base} {it}") for it in range(n))
+    draws = (random.Random(f"{base} {it}") for it in range(first, first + n))
     together = min(n, 2**10, 2**21 // (graph.vertices + sum(graph.columns.mults)))
     if numpy and together >= 32:
         parts = []

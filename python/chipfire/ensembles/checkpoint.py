@@ -1,0 +1,165 @@
+"""Files of chains that are played by parts: what a run has done so far, from which another run goes on."""
+
+from __future__ import annotations
+
+import contextlib
+import hashlib
+import json
+import os
+import sqlite3
+from array import array
+from collections.abc import Iterator
+from typing import Any
+
+from chipfire.ensembles.player import Plan, Table
+from chipfire.utils import FileName, import_optional
+
+#: How SQLite tells these files from those of other programs, and their version.
+_APPLICATION = 0x63686970
+_VERSION = 1
+
+_TABLES = """
+    CREATE TABLE plan (name TEXT PRIMARY KEY, value TEXT);
+    CREATE TABLE parts (first INTEGER PRIMARY KEY, n INTEGER, size BLOB, extent BLOB, lost BLOB, made BLOB, chips BLOB,
+        drops BLOB, vertices BLOB, counts BLOB);
+"""
+
+
+def _digest(*columns: Any) -> str:
+    """A text that other numbers do not have."""
+    found = hashlib.sha256()
+    for column in columns:
+        numbers = array("q", column).tobytes()
+        found.update(len(numbers).to_bytes(8, "little") + numbers)
+    return found.hexdigest()
+
+
+def _said(plan: Plan) -> dict[str, str]:
+    """What chains have in common that a file holds, whichever they are."""
+    graph = plan.graph
+    starts = plan.starts
+    if starts is not None:
+        row = starts[: graph.vertices]
+        starts = row if starts == row * plan.n else starts
+    values = {
+        "graph": _digest([graph.vertices, graph.sink], *graph.columns, graph.loops),
+        "seed": repr(plan.seed),
+        "drops": plan.drops,
+        "on": [_digest(plan.places.vertices), plan.places.weights],
+        "amounts": _digest(plan.amounts),
+        "chips": None if starts is None else _digest(starts),
+        "until": plan.until,
+        "fired": plan.fired,
+    }
+    return {name: json.dumps(value) for name, value in values.items()}
+
+
+class Checkpoint:
+    """A file of SQLite with the parts of chains that are done. Each part is there whole or not at all."""
+
+    def __init__(self, file: FileName, plan: Plan) -> None:
+        self.file = os.fspath(file)
+        self.plan = plan
+        self._rows = sqlite3.connect(self.file, timeout=60)
+        try:
+            self._open(_said(plan))
+        except BaseException:
+            self._rows.close()
+            raise
+
+    def close(self) -> None:
+        self._rows.close()
+
+    def _open(self, said: dict[str, str]) -> None:
+        """Makes the tables of a new file, or compares what an old one is of."""
+        try:
+            kind, version = (self._pragma(it) for it in ("application_id", "user_version"))
+            is_new = not self._rows.execute("SELECT count(*) FROM sqlite_master").fetchone()[0]
+        except sqlite3.DatabaseError as error:
+            raise ValueError(f"{self.file} is no checkpoint of chains: {error}") from None
+        if is_new:
+            self._begin(said)
+        elif kind != _APPLICATION:
+            raise ValueError(f"{self.file} is no checkpoint of chains")
+        elif version != _VERSION:
+            raise ValueError(
+                f"{self.file} is of version {version}, and this chipfire reads version {_VERSION}"
+            )
+        else:
+            self._compare(said)
+
+    def _pragma(self, name: str) -> int:
+        return int(self._rows.execute(f"PRAGMA {name}").fetchone()[0])
+
+    def _begin(self, said: dict[str, str]) -> None:
+        self._rows.executescript(f"PRAGMA application_id = {_APPLICATION};")
+        self._rows.executescript(f"PRAGMA user_version = {_VERSION}; BEGIN; {_TABLES} COMMIT;")
+        with self._rows:
+            self._rows.executemany("INSERT INTO plan VALUES (?, ?)", said.items())
+
+    def _compare(self, said: dict[str, str]) -> None:
+        there = dict(self._rows.execute("SELECT name, value FROM plan"))
+        others = [name for name, value in said.items() if there.get(name) != value]
+        if others:
+            raise ValueError(f"{self.file} has chains of other {', '.join(others)}")
+
+    def take(self, table: Table) -> list[tuple[int, int]]:
+        """Copies the parts that are there, and lie among the chains to play, into the table; the places of each."""
+        found = []
+        for first, n, *columns in self._rows.execute("SELECT * FROM parts ORDER BY first"):
+            start = first - self.plan.first
+            stop = start + n
+            if 0 <= start < stop <= self.plan.n:
+                table.put(start, stop, self._part(n, columns, table))
+                found.append((start, stop))
+        return found
+
+    def _part(self, n: int, columns: list[bytes], table: Table) -> Table:
+        """The table of n chains that has these columns; one of another shape is refused."""
+        *rows, made, chips = (array("Q", it) for it in columns[:5])
+        shapes = [len(it) for it in (*rows, made, chips)]
+        wanted = [n * table.drops] * 3 + [n, n * table.width]
+        if shapes != wanted or max(made) > table.drops:
+            raise ValueError(f"{self.file} has a part that is none of these chains")
+        fired = [_piece(columns[5:])] if self.plan.fired else []
+        return Table(table.drops, table.width, rows, made, chips, fired)
+
+    def put(self, start: int, stop: int, part: Table) -> None:
+        """Writes the part in these places, which is done."""
+        fired = _joined(part.fired) if self.plan.fired else [b""] * 3
+        numbers = [*part.columns, part.made, part.chips]
+        row = [self.plan.first + start, stop - start, *map(bytes, numbers), *map(bytes, fired)]
+        with self._rows:
+            marks = ", ".join("?" * len(row))
+            self._rows.execute(f"INSERT OR REPLACE INTO parts VALUES ({marks})", row)
+
+
+def _joined(pieces: list[Any]) -> list[Any]:
+    """The arrays of pieces of what fired, in one."""
+    numpy = import_optional("numpy")
+    empty = [(numpy.zeros(0, "i8"), numpy.zeros(0, "i4"), numpy.zeros(0, "i8"))]
+    return [numpy.concatenate(it) for it in zip(*empty, *pieces)]
+
+
+def _piece(columns: list[bytes]) -> tuple[Any, Any, Any]:
+    """A piece of what fired."""
+    numpy = import_optional("numpy")
+    drops = numpy.frombuffer(columns[0], "i8")
+    vertices = numpy.frombuffer(columns[1], "i4")
+    counts = numpy.frombuffer(columns[2], "i8")
+    if not len(drops) == len(vertices) == len(counts):
+        raise ValueError("what fired is not that of these drops")
+    return drops, vertices, counts
+
+
+@contextlib.contextmanager
+def opened(file: FileName | None, plan: Plan) -> Iterator[Checkpoint | None]:
+    """A checkpoint that is closed in the end; None if no file is named."""
+    if file is None:
+        yield None
+        return
+    found = Checkpoint(file, plan)
+    try:
+        yield found
+    finally:
+        found.close()

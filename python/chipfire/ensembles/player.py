@@ -1,0 +1,353 @@
+"""How chains are played: a plan of them, a table for their numbers, and what plays a part of the plan into the table."""
+
+from __future__ import annotations
+
+import itertools
+import math
+import random
+import threading
+from array import array
+from collections.abc import Callable, Mapping, Sequence
+from dataclasses import dataclass, field, replace
+from typing import Any
+
+from chipfire.backend import kept, library
+from chipfire.backend.process import refused
+from chipfire.ensembles.drops import in_calls, names_of
+from chipfire.ensembles.wilson import recurrent_rows
+from chipfire.graphs.graph import Graph
+from chipfire.utils import import_optional, MAX_LIMIT
+
+#: The columns that have a number for each drop.
+COLUMNS = ("size", "extent", "lost")
+
+
+@dataclass(frozen=True)
+class Places:
+    """The vertices on which chips fall at random.
+
+    vertices  their numbers
+    weights   how probable each one is, added up from the first one on; None if all are equally probable
+    """
+
+    vertices: array[int]
+    weights: tuple[float, ...] | None = None
+
+    def drawn(self, draw: random.Random, count: int) -> list[int]:
+        """So many of them, as `random.Random.choices` draws."""
+        return draw.choices(self.vertices, cum_weights=self.weights, k=count)
+
+    def at(self, chances: Any) -> Any:
+        """Those that NumPy's numbers from 0 to 1 stand for: those that `drawn` has for the same numbers."""
+        numpy = import_optional("numpy")
+        count = len(self.vertices)
+        if self.weights is None:
+            found = (chances * count).astype("i8")
+        else:
+            found = numpy.searchsorted(self.weights, chances * self.weights[-1], "right")
+            found = numpy.minimum(found, count - 1)
+        return numpy.frombuffer(self.vertices, "u8")[found]
+
+
+def places_of(graph: Graph, on: Any) -> Places:
+    """The vertices on which chips fall: all but the sink, those in a sequence of names, or names with their weights."""
+    if on is None:
+        inner = [it for it in range(graph.vertices) if it != graph.sink]
+        return Places(array("Q", inner))
+    is_weighted = isinstance(on, Mapping) or hasattr(on, "items")
+    names = [*on.keys()] if is_weighted else [*names_of(on, "a series")]
+    vertices = array("Q", map(graph.number, names))
+    if len({*vertices}) < len(vertices) or graph.sink in vertices:
+        raise ValueError("chips fall on different vertices, of which none is the sink")
+    if not is_weighted:
+        return Places(vertices)
+    weights = [float(weight) for _, weight in on.items()]
+    if not all(0 <= weight < math.inf for weight in weights) or sum(weights) <= 0:
+        raise ValueError("the weights of vertices are numbers from 0 on, and not all are 0")
+    return Places(vertices, tuple(itertools.accumulate(weights)))
+
+
+@dataclass(frozen=True)
+class Plan:
+    """Chains to play: those from `first` to `first + n - 1` of a seed.
+
+    drops    how many drops each makes at most
+    places   where chips fall
+    amounts  how many chips each drop has
+    starts   the stable chips from which chains begin, by numbers and without those of loops, one chain after another;
+             None if each begins with a random recurrent configuration
+    until    after which drop a chain ends: "loss", "spans" or None
+    fired    whether it is asked what fired
+    """
+
+    graph: Graph
+    seed: int | float | str | bytes
+    first: int
+    n: int
+    drops: int
+    places: Places
+    amounts: array[int]
+    starts: array[int] | None = None
+    until: str | None = None
+    fired: bool = False
+
+    @property
+    def seeds(self) -> tuple[str, ...]:
+        """The seed of each chain."""
+        seed = str(self.seed)
+        return tuple(f"{seed} {self.first + chain}" for chain in range(self.n))
+
+    def part(self, start: int, stop: int) -> Plan:
+        """The chains in these places."""
+        width = self.graph.vertices
+        starts = None if self.starts is None else self.starts[start * width : stop * width]
+        return replace(self, first=self.first + start, n=stop - start, starts=starts)
+
+    def begun(self) -> Plan:
+        """The same chains, with the chips from which they begin."""
+        if self.starts is not None:
+            return self
+        starts = recurrent_rows(self.graph, self.seed, self.n, self.first)
+        return replace(self, starts=starts)
+
+
+@dataclass
+class Table:
+    """The numbers of chains, flat and of 64 bits, those of one chain behind those of another.
+
+    columns  the size, extent and loss of each drop
+    made     how many drops each chain made
+    chips    what lies on each vertex, without the chips of loops
+    fired    pieces of what fired, each with three arrays: the numbers of drops, the vertices, and how often they fired
+    """
+
+    drops: int
+    width: int
+    columns: list[Any]
+    made: Any
+    chips: Any
+    fired: list[Any] = field(default_factory=list)
+
+    @classmethod
+    def of(cls, plan: Plan) -> Table:
+        """A table for a plan, in which no drop is made."""
+        counts = [plan.n * plan.drops] * 3 + [plan.n, plan.n * plan.graph.vertices]
+        *columns, made, chips = map(_zeros, counts)
+        return cls(plan.drops, plan.graph.vertices, columns, made, chips)
+
+    def part(self, start: int, stop: int) -> Table:
+        """The rows of these chains, in the memory of this table."""
+        return Table(
+            self.drops,
+            self.width,
+            [memoryview(it)[start * self.drops : stop * self.drops] for it in self.columns],
+            memoryview(self.made)[start:stop],
+            memoryview(self.chips)[start * self.width : stop * self.width],
+        )
+
+    def put(self, start: int, stop: int, other: Table) -> None:
+        """Takes the numbers of a table of the chains in these places."""
+        part = self.part(start, stop)
+        mine = [*part.columns, part.made, part.chips]
+        for numbers, given in zip(mine, [*other.columns, other.made, other.chips]):
+            _copy(numbers, given)
+        more = start * self.drops
+        self.fired += [(drops + more, *others) for drops, *others in other.fired]
+
+
+def _copy(numbers: Any, given: Any) -> None:
+    """Writes numbers of 64 bits over as many others."""
+    if len(given):  # (no view of none of them can be cast)
+        memoryview(numbers).cast("B")[:] = memoryview(given).cast("B")
+
+
+def _zeros(count: int) -> Any:
+    """So many numbers of 64 bits: of NumPy, which takes memory as it is written, or the standard library's."""
+    numpy = import_optional("numpy")
+    return numpy.zeros(count, "u8") if numpy else array("Q", bytes(8 * count))
+
+
+class Watch:
+    """What the threads that play have in common: how many drops are made, and whether they are to stop."""
+
+    def __init__(self) -> None:
+        self._lock = threading.Lock()
+        self.made = 0
+        self.is_stopped = False
+        #: How many drops the first call of the next chain makes.
+        self.drops_of_call = 1
+
+    def add(self, made: int) -> None:
+        """Counts drops that are made."""
+        with self._lock:
+            self.made += made
+
+
+def play(plan: Plan, table: Table, watch: Watch) -> Table:
+    """Plays chains, which all have their starts, into a table."""
+    _copy(table.chips, plan.starts)
+    player = _InStep if plan.until or plan.fired else _OneByOne
+    player(plan, table, watch).play()
+    return table
+
+
+def played(plan: Plan) -> Table:
+    """Plays chains to their ends, in a process of their own."""
+    if library.find_library() is None:
+        raise RuntimeError("a worker has no library of chipfire beside its package")
+    plan = plan.begun()
+    return play(plan, Table.of(plan), Watch())
+
+
+class _Player:
+    """Chains of a plan, and their table."""
+
+    def __init__(self, plan: Plan, table: Table, watch: Watch) -> None:
+        self.plan = plan
+        self.table = table
+        self.watch = watch
+        self.graph = plan.graph.loop_free
+        self.seeds = plan.seeds
+        self.twister: Any = None
+
+    def play(self) -> None:
+        """Plays all chains to their ends, or until they are to stop."""
+        raise NotImplementedError
+
+    def drawn(self, chain: int) -> Any:
+        """The vertices of a chain, as `random_drops` draws them; by NumPy's twister, which is Python's."""
+        draw = random.Random(self.seeds[chain])
+        numpy = import_optional("numpy")
+        if not numpy:
+            return array("Q", self.plan.places.drawn(draw, self.plan.drops))
+        if self.twister is None:
+            self.twister = numpy.random.RandomState(0)
+        state = draw.getstate()[1]
+        self.twister.set_state(("MT19937", state[:-1], state[-1]))
+        return self.plan.places.at(self.twister.random_sample(self.plan.drops))
+
+
+class _OneByOne(_Player):
+    """Plays one chain after another, each on a pile that the library keeps."""
+
+    def play(self) -> None:
+        width = self.graph.vertices
+        pile = None
+        for chain in range(self.plan.n):
+            chips = self.table.chips[chain * width : (chain + 1) * width]
+            start = array("Q", bytes(chips))
+            if pile is None:
+                found = library.loaded()
+                pile = kept.KeptPile(found, self.graph, start, MAX_LIMIT)
+            elif number := pile.put(start, MAX_LIMIT):
+                raise refused(number, 0, self.graph)
+            self._play_on(pile, chain)
+            _copy(chips, pile.chips())
+            if self.watch.is_stopped:
+                break
+        if pile is not None:
+            pile.free()
+
+    def _play_on(self, pile: kept.KeptPile, chain: int) -> None:
+        """Plays a chain. Its first call has as many drops as the last one of another chain."""
+        drops = self.plan.drops
+        rows = [it[chain * drops : (chain + 1) * drops] for it in self.table.columns]
+        made = 0
+
+        def call(where: Any, many: Any, columns: list[Any]) -> bool:
+            nonlocal made
+            if self.watch.is_stopped:
+                return False
+            number, told = pile.drops(where, many, columns)
+            if number:
+                raise refused(number, told, self.graph)
+            made += len(where)
+            self.watch.add(len(where))
+            return True
+
+        at = self.drawn(chain)
+        of_call = in_calls(call, at, self.plan.amounts, rows, self.watch.drops_of_call)
+        self.watch.drops_of_call = of_call or self.watch.drops_of_call
+        self.table.made[chain] = made
+
+
+class _InStep(_Player):
+    """Plays a drop on each chain that goes on, and then the next, by NumPy."""
+
+    def play(self) -> None:
+        numpy = import_optional("numpy")
+        plan = self.plan
+        self.chips = numpy.frombuffer(self.table.chips, "u8").reshape(-1, self.graph.vertices)
+        self.made = numpy.frombuffer(self.table.made, "u8")
+        self.columns = [numpy.frombuffer(column, "u8") for column in self.table.columns]
+        ends = _ends(self.graph, plan.until)
+        drawn = numpy.array([self.drawn(chain) for chain in range(plan.n)])
+        live = numpy.arange(plan.n)
+        for drop in range(plan.drops):
+            if not len(live) or self.watch.is_stopped:
+                break
+            ended = ends(*self._drop(live, drop, drawn[live, drop]))
+            self.made[live] = drop + 1
+            self.watch.add(len(live))
+            live = live[~ended]
+
+    def _drop(self, live: Any, drop: int, vertices: Any) -> tuple[Any, Any]:
+        """Makes a drop on each of these chains; what fired, and how many chips each lost."""
+        numpy = import_optional("numpy")
+        sink = self.graph.sink
+        numbers = live * self.plan.drops + drop
+        after = self.chips[live]
+        after[numpy.arange(len(live)), vertices] += numpy.uint64(self.plan.amounts[drop])
+        fired = numpy.zeros_like(after)
+        stabilize(self.graph, after, fired, numpy.zeros(len(live), "u8"))
+        lost = after[:, sink] - self.chips[live, sink]
+        for column, values in zip(self.columns, (fired.sum(1), (fired > 0).sum(1), lost)):
+            column[numbers] = values
+        self.chips[live] = after
+        if self.plan.fired:
+            row, vertex = numpy.nonzero(fired)
+            counts = fired[row, vertex].astype("i8")
+            self.table.fired.append((numbers[row], vertex.astype("i4"), counts))
+        return fired, lost
+
+
+def stabilize(graph: Graph, chips: Any, fired: Any, stopped: Any) -> None:
+    """Plays games to their ends, by the library."""
+    library.stabilize_all(graph, chips, fired, stopped)
+    if any(stopped):
+        raise ValueError("a vertex fired 2^40 times, and the chips are not stable then")
+
+
+def _ends(graph: Graph, until: str | None) -> Callable[[Any, Any], Any]:
+    """What tells of each chain, by what fired and what it lost, whether the drop was its last."""
+    if until is None:
+        return lambda fired, lost: lost != lost
+    if until == "loss":
+        return lambda fired, lost: lost > 0
+    spans = spanning(graph)
+    return lambda fired, lost: spans(fired)
+
+
+def spanning(graph: Graph) -> Callable[[Any], Any]:
+    """What tells of each game whether the vertices that fired touch two opposite borders of the grid."""
+    if graph.shape is None:
+        raise ValueError("the graph is no grid, so nothing spans it")
+    height, width = graph.shape
+    places = [divmod(square, width) for square in graph.squares]
+    borders = [_border(places, graph.sink, way, end) for way, end in _ends_of(height, width)]
+
+    def by(fired: Any) -> Any:
+        top, bottom, left, right = (fired[:, border].any(1) for border in borders)
+        return top & bottom | left & right
+
+    return by
+
+
+def _ends_of(height: int, width: int) -> list[tuple[int, int]]:
+    """The first and the last row, then the first and the last column."""
+    return [(0, 0), (0, height - 1), (1, 0), (1, width - 1)]
+
+
+def _border(places: Sequence[tuple[int, int]], sink: int, way: int, end: int) -> list[int]:
+    """The vertices in one row or column."""
+    return [it for it, place in enumerate(places) if place[way] == end and it != sink]

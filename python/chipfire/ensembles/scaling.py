@@ -1,0 +1,158 @@
+"""Moments of avalanches with their errors, and how they scale with the size of the system."""
+
+from __future__ import annotations
+
+import math
+from collections.abc import Iterable, Mapping, Sequence
+from dataclasses import dataclass
+from typing import Any, NamedTuple
+
+from chipfire.ensembles.chains import Chains
+from chipfire.ensembles.player import COLUMNS
+from chipfire.ensembles.power_law import counted
+from chipfire.utils import as_int, import_optional
+
+#: The orders of moments from which exponents are found, if none are said.
+_ORDERS = (1.0, 1.25, 1.5, 1.75, 2.0, 2.25, 2.5, 2.75, 3.0)
+
+
+class Moments(NamedTuple):
+    """Means of powers of what drops caused: arrays with a place for each order.
+
+    orders  to which power
+    means   the mean of that power over all drops
+    errors  the standard error of the mean
+    """
+
+    orders: Any
+    means: Any
+    errors: Any
+
+
+def moments(
+    chains: Chains,
+    of: str = "size",
+    orders: Sequence[float] = (1, 2, 3),
+    *,
+    resamples: int = 1000,
+    seed: int = 0,
+) -> Moments:
+    """The moments of a column of chains, with errors by the bootstrap: as many chains are drawn with replacement as
+    there are, `resamples` times, and the error is how far apart their moments lie. So drops of one chain may depend on
+    one another. It takes two chains at least, and NumPy. Efron (1979).
+    """
+    numpy = import_optional("numpy", "moments are found by NumPy")
+    if of not in COLUMNS:
+        raise ValueError(f"a drop has a 'size', an 'extent' and 'lost', and no {of!r}")
+    if len(chains.seeds) < 2:
+        raise ValueError("errors by the bootstrap take two chains at least")
+    resamples = as_int(resamples, "the number of resamples", 2)
+    rows = numpy.asarray(getattr(chains, of), "f8")
+    made = numpy.asarray(chains.made, "f8")
+    if not made.sum():
+        raise ValueError("no drop was made")
+    is_made = numpy.arange(rows.shape[1]) < made[:, None]
+    sums = numpy.array([numpy.where(is_made, rows**order, 0.0).sum(1) for order in orders])
+    draw = numpy.random.default_rng(seed)
+    times = draw.multinomial(len(made), [1 / len(made)] * len(made), resamples)
+    weights = times @ made
+    drawn = (sums @ times.T)[:, weights > 0] / weights[weights > 0]
+    return Moments(numpy.array(orders), sums.sum(1) / made.sum(), drawn.std(1, ddof=1))
+
+
+@dataclass(frozen=True, eq=False)
+class Collapse:
+    """How avalanches scale with the length of the system: the probability of a size is
+    `size ** -exponent * G(size / length ** dimension)`.
+
+    exponent   tau
+    dimension  D, the dimension of avalanches
+    errors     the standard errors of both, by the scatter of the moments about the fit
+    orders     the orders of the moments that were used
+    slopes     by which power of the length each moment grows
+    """
+
+    exponent: float
+    dimension: float
+    errors: tuple[float, float]
+    orders: Any
+    slopes: Any
+    _counts: Mapping[float, Mapping[int, int]]
+
+    def plot(self, axes: Any = None) -> Any:
+        """Draws by Matplotlib, into axes or new ones, which it returns: `size ** exponent` times the probability of each
+        size over `size / length ** dimension`. Where the law holds the points of all lengths lie on one curve. Each
+        point has the sizes from a power of 2 up to the next."""
+        pyplot = import_optional("matplotlib.pyplot", "a plot is one of Matplotlib")
+        axes = pyplot.subplots()[1] if axes is None else axes
+        for length, counts in sorted(self._counts.items()):
+            sizes, chances = _points(counts)
+            heights = [chance * size**self.exponent for size, chance in zip(sizes, chances)]
+            places = [size / length**self.dimension for size in sizes]
+            axes.loglog(places, heights, ".", label=f"{length:g}")
+        axes.set_xlabel("size / length ** D")
+        axes.set_ylabel("size ** tau * probability")
+        axes.legend()
+        return axes
+
+
+def collapse(
+    sizes: Mapping[float, Iterable[int] | Mapping[int, int]], orders: Sequence[float] = _ORDERS
+) -> Collapse:
+    """The exponents of finite-size scaling, of the sizes of avalanches by the length of their system: sizes one by one,
+    rows of them, or histograms. Sizes of 0 are left out. It takes two lengths at least, and NumPy.
+
+    The moment of order q grows with the length to the power D (q + 1 - tau), if q is above tau - 1: lines are fitted by
+    least squares to the logarithms of the moments, and one to their slopes. Tebaldi, De Menech and Stella (1999).
+    Corrections to scaling are not fitted, so leave out what is small.
+    """
+    numpy = import_optional("numpy", "exponents are fitted by NumPy")
+    told = {float(length): counted(its) for length, its in sizes.items()}
+    if len(told) < 2 or not all(length > 0 for length in told):
+        raise ValueError("scaling takes two lengths at least, above 0")
+    if len({*orders}) < 2:
+        raise ValueError("scaling takes two orders of moments at least")
+    lengths = numpy.log([*told])
+    logs = numpy.log([_moments_of(counts, orders) for counts in told.values()])
+    slopes = numpy.polyfit(lengths, logs, 1)[0]
+    orders = numpy.array(orders, "f8")
+    (dimension, start), spread = _line(numpy, orders, slopes)
+    exponent = 1 - start / dimension
+    # The exponent is a quotient, so its error goes with how both depend on one another.
+    gradient = numpy.array([start / dimension**2, -1 / dimension])
+    errors = (math.sqrt(gradient @ spread @ gradient), math.sqrt(spread[0, 0]))
+    return Collapse(float(exponent), float(dimension), errors, orders, slopes, told)
+
+
+def _moments_of(counts: Mapping[int, int], orders: Sequence[float]) -> list[float]:
+    """The mean of each power of the sizes above 0."""
+    seen = {size: count for size, count in counts.items() if size > 0}
+    total = sum(seen.values())
+    if not total:
+        raise ValueError("a length has no size above 0")
+    return [
+        math.fsum(count * size**order for size, count in seen.items()) / total for order in orders
+    ]
+
+
+def _line(numpy: Any, places: Any, values: Any) -> tuple[Any, Any]:
+    """A line by least squares, and how far its slope and start scatter together."""
+    if len(places) == 2:
+        return numpy.polyfit(places, values, 1), numpy.zeros((2, 2))
+    matrix = numpy.stack([places, numpy.ones(len(places))], 1)
+    found, left, _, _ = numpy.linalg.lstsq(matrix, values, rcond=None)
+    variance = float(left.sum()) / (len(places) - 2)
+    return found, variance * numpy.linalg.inv(matrix.T @ matrix)
+
+
+def _points(counts: Mapping[int, int]) -> tuple[list[float], list[float]]:
+    """The middle of the sizes of each number of bits, and the mean probability of one of them."""
+    total = sum(count for size, count in counts.items() if size > 0)
+    bins: dict[int, int] = {}
+    for size, count in counts.items():
+        if size > 0 and count:
+            bins[size.bit_length()] = bins.get(size.bit_length(), 0) + count
+    pairs = [
+        (2 ** (bits - 0.5), count / total / 2 ** (bits - 1)) for bits, count in sorted(bins.items())
+    ]
+    return [size for size, _ in pairs], [chance for _, chance in pairs]

@@ -1,0 +1,301 @@
+"""Chains that are played by parts: by executors, from checkpoints, after interrupts; and where and how much is dropped.
+
+A chain is the same whoever plays it, so each way is compared with one call, and drops on chosen vertices with the slow
+player of examples/play.py.
+"""
+import concurrent.futures
+import contextlib
+import importlib.util
+import io
+import multiprocessing
+import os
+import random
+import shutil
+import signal
+import sqlite3
+import subprocess
+import sys
+import tempfile
+import threading
+import unittest
+from collections import Counter
+from unittest import mock
+
+import chipfire
+from chipfire.ensembles import player, spread
+from chipfire.ensembles.checkpoint import Checkpoint
+from chipfire.progress import Progress
+from test_counts import slow_report
+from test_drops import slow_rows
+from test_ensembles import IS_HERE, MULTIGRAPH
+from test_sandpiles import has
+
+COLUMNS = ("size", "extent", "lost", "chips")
+GRID = chipfire.grid(5, 4)
+LOOPS = chipfire.from_edges([("a", "b"), ("b", "s"), ("a", "a", 2), ("b", "a")], "s")
+
+
+def numbers(found):
+    """All that chains have, as lists."""
+    rows = {name: [it.tolist() for it in getattr(found, name)] for name in COLUMNS}
+    fired = found.fired and [it.tolist() for it in found.fired]
+    return {**rows, "made": list(found.made), "seeds": found.seeds, "seed": found.seed, "first": found.first, "fired": fired}
+
+
+def plays(**options):
+    """What one call has of 7 chains."""
+    return chipfire.chains(GRID, 7, 40, 5, **options)
+
+
+#: The ways in which chains are asked for.
+ASKED = [{}, {"chips": 2}, {"amounts": 3, "on": [0, 7]}]
+if has("numpy"):
+    ASKED += [{"fired": True}, {"until": "loss", "chips": 0}, {"until": "spans", "fired": True, "chips": 1}]
+
+
+@unittest.skipUnless(IS_HERE, "chains take the library")
+class Where(unittest.TestCase):
+    def test_chips_fall_on_the_vertices_that_are_named(self):
+        graph = MULTIGRAPH
+        for on, names in [(["b"], ["b"]), (("c", "a"), ["c", "a"]), ({"a": 1, "c": 0}, ["a"])]:
+            found = chipfire.chains(graph, 2, 50, 3, chips=0, on=on, amounts=2)
+            for chain, seed in enumerate(found.seeds):
+                drawn = random.Random(seed).choices(names, k=50)
+                drops = [(graph.number(it), 2) for it in drawn]
+                rows = zip(*(column[chain].tolist() for column in (found.size, found.extent, found.lost)))
+                self.assertEqual(list(rows), list(slow_rows(graph, graph.chips(0), drops)))
+
+    def test_weights_are_how_probable_a_vertex_is(self):
+        weights = {"a": 1, "b": 2.5, "c": 6}
+        for graph in (MULTIGRAPH,):
+            found = chipfire.chains(graph, 1, 400, 3, chips=0, on=weights)
+            drawn = random.Random(found.seeds[0]).choices([*weights], [*weights.values()], k=400)
+            drops = [(graph.number(it), 1) for it in drawn]
+            rows = zip(*(column[0].tolist() for column in (found.size, found.extent, found.lost)))
+            self.assertEqual(list(rows), list(slow_rows(graph, graph.chips(0), drops)))
+
+    def test_each_drop_has_its_amount(self):
+        amounts = [0, 1, 7, 2, 0, 4]
+        for options in [{}] + [{"fired": True}] * has("numpy"):
+            found = chipfire.chains(GRID, 3, 6, 9, chips=2, amounts=amounts, **options)
+            for chain, seed in enumerate(found.seeds):
+                vertices = map(GRID.number, chipfire.random_drops(GRID, 6, seed))
+                rows = zip(*(column[chain].tolist() for column in (found.size, found.extent, found.lost)))
+                self.assertEqual(list(rows), list(slow_rows(GRID, GRID.chips(2), [*zip(vertices, amounts)])))
+
+    def test_what_is_refused(self):
+        for error, words, options in [
+            (ValueError, "different vertices", {"on": ["a", "a"]}), (ValueError, "none is the sink", {"on": ["a", "s"]}),
+            (ValueError, "from 0 on", {"on": {"a": -1}}), (ValueError, "not all are 0", {"on": {"a": 0}}),
+            (ValueError, "from 0 on", {"on": {"a": float("nan")}}), (TypeError, "one for each drop", {"on": {"a", "b"}}),
+            (ValueError, "4 drops, and 2 amounts", {"amounts": [1, 2]}), (ValueError, "below 0: -1", {"amounts": -1}),
+            (ValueError, "chips of drop 2", {"amounts": [1, 1, -4, 1]}), (TypeError, "no whole number", {"amounts": 1.5}),
+            (ValueError, "first chain is below 0", {"first": -1}), (ValueError, "or an executor", {"executor": 1, "workers": 2}),
+            (ValueError, "the same in the next call", {"checkpoint": "never-made"}),
+        ]:
+            seed = None if "checkpoint" in options else 1
+            self.assertRaisesRegex(error, words, chipfire.chains, MULTIGRAPH, 2, 4, seed, chips=0, **options)
+        self.assertFalse(os.path.exists("never-made"))
+
+
+@unittest.skipUnless(IS_HERE, "chains take the library")
+class Parts(unittest.TestCase):
+    def test_chains_of_any_numbers_add_up(self):
+        for options in ASKED:
+            whole = numbers(plays(**options))
+            for ends in [(0, 3, 7), (0, 1, 2, 7)]:
+                parts = [chipfire.chains(GRID, stop - start, 40, 5, first=start, **options)
+                         for start, stop in zip(ends, ends[1:])]
+                self.assertEqual(numbers(sum(parts[1:], parts[0])), whole, options)
+        one, other = (chipfire.chains(GRID, 2, 40, seed) for seed in (1, 2))
+        self.assertEqual(((one + other).seed, (one + other).seeds), (None, (*one.seeds, *other.seeds)))
+
+    def test_what_does_not_add_up(self):
+        one = chipfire.chains(GRID, 2, 4, 1)
+        for other in [chipfire.chains(GRID, 2, 5, 1), chipfire.chains(chipfire.grid(2, 2), 2, 4, 1)]:
+            with self.assertRaisesRegex(ValueError, "as many drops and vertices"):
+                one + other
+        with self.assertRaises(TypeError):
+            one + 1
+
+    def test_executors_play_what_threads_do(self):
+        for options in ASKED:
+            whole = numbers(plays(workers=2, **options))
+            for size in (1, 3):
+                with mock.patch.object(spread, "_OF_EXECUTOR", size), concurrent.futures.ThreadPoolExecutor(2) as executor:
+                    self.assertEqual(numbers(plays(executor=executor, **options)), whole, options)
+
+    def test_processes_play_what_threads_do(self):
+        context = multiprocessing.get_context("spawn")
+        with concurrent.futures.ProcessPoolExecutor(2, context) as executor:
+            for graph in (GRID, LOOPS):
+                chips = {} if graph is GRID else {"chips": 3}
+                whole = numbers(chipfire.chains(graph, 5, 30, "a", **chips))
+                self.assertEqual(numbers(chipfire.chains(graph, 5, 30, "a", executor=executor, **chips)), whole)
+
+    def test_an_error_of_a_worker_is_raised(self):
+        failing = concurrent.futures.ThreadPoolExecutor(1)
+        with failing, mock.patch.object(spread, "played", side_effect=OSError("lost")):
+            self.assertRaisesRegex(OSError, "lost", plays, executor=failing)
+        with mock.patch.object(player.library, "find_library", return_value=None):
+            self.assertRaisesRegex(RuntimeError, "a worker has no library", player.played, None)
+
+    @unittest.skipUnless(importlib.util.find_spec("distributed"), "Dask's distributed is not here")
+    def test_dask_plays_what_threads_do(self):
+        import distributed
+
+        whole = numbers(plays())
+        quiet = {"dashboard_address": None, "silence_logs": 50}
+        with distributed.LocalCluster(n_workers=2, threads_per_worker=1, processes=True, **quiet) as cluster:
+            with distributed.Client(cluster) as client:
+                self.assertEqual(numbers(plays(executor=client.get_executor())), whole)
+
+    @unittest.skipUnless(importlib.util.find_spec("mpi4py") and shutil.which("mpiexec"), "mpi4py or mpiexec is not here")
+    def test_mpi_plays_what_threads_do(self):
+        script = [
+            "import chipfire", "from mpi4py.futures import MPIPoolExecutor", "if __name__ == '__main__':",
+            "    with MPIPoolExecutor() as executor:",
+            "        found = chipfire.chains(chipfire.grid(5, 4), 7, 40, 5, executor=executor)",
+            "    print([row.tolist() for row in found.size])",
+        ]
+        allowed = {"OMPI_ALLOW_RUN_AS_ROOT": "1", "OMPI_ALLOW_RUN_AS_ROOT_CONFIRM": "1", "OMPI_MCA_btl_vader_single_copy_mechanism": "none"}
+        with tempfile.TemporaryDirectory() as folder:
+            file = f"{folder}/spread.py"
+            with open(file, "w", encoding="utf-8") as out:
+                out.write("\n".join(script))
+            words = ["mpiexec", "--oversubscribe", "-n", "2", sys.executable, "-m", "mpi4py.futures", file]
+            ran = subprocess.run(words, stdin=subprocess.DEVNULL, capture_output=True, encoding="utf-8", env={**os.environ, **allowed})
+        self.assertEqual((ran.returncode, ran.stdout.strip()), (0, str([row.tolist() for row in plays().size])), ran.stderr)
+
+
+@unittest.skipUnless(IS_HERE, "chains take the library")
+class Checkpoints(unittest.TestCase):
+    def setUp(self):
+        room = tempfile.TemporaryDirectory()
+        self.addCleanup(room.cleanup)
+        self.file = f"{room.name}/chains.sqlite"
+
+    def test_another_call_goes_on_from_what_is_done(self):
+        for place, options in enumerate(ASKED):
+            file = f"{self.file}{place}"
+            whole = numbers(plays(**options))
+            asked = []
+
+            def stop(done, total):
+                asked.append((done, total))
+                if done:
+                    raise KeyboardInterrupt
+
+            with self.assertRaises(KeyboardInterrupt):
+                plays(checkpoint=file, workers=1, progress=stop, **options)
+            with contextlib.closing(sqlite3.connect(file)) as rows:
+                self.assertLess(rows.execute("SELECT count(*) FROM parts").fetchone()[0], 7)
+            self.assertEqual(numbers(plays(checkpoint=file, **options)), whole)
+            with mock.patch.object(spread, "play", side_effect=AssertionError("it is done")):
+                self.assertEqual(numbers(plays(checkpoint=file, **options)), whole)
+                self.assertEqual(numbers(chipfire.chains(GRID, 0 + 7, 40, 5, checkpoint=file, **options)), whole)
+
+    def test_more_chains_go_on_from_fewer(self):
+        chipfire.chains(GRID, 3, 40, 5, checkpoint=self.file)
+        chipfire.chains(GRID, 2, 40, 5, first=5, checkpoint=self.file)
+        self.assertEqual(numbers(plays(checkpoint=self.file)), numbers(plays()))
+
+    def test_a_file_of_other_chains_is_refused(self):
+        plays(checkpoint=self.file)
+        for words, arguments, options in [
+            ("other graph", (chipfire.grid(4, 5), 7, 40, 5), {}), ("other drops", (GRID, 7, 41, 5), {}),
+            ("other seed", (GRID, 7, 40, "5"), {}), ("other chips", (GRID, 7, 40, 5), {"chips": 1}),
+            ("other on, amounts", (GRID, 7, 40, 5), {"on": [1], "amounts": 4}),
+        ]:
+            file = {"checkpoint": self.file}
+            self.assertRaisesRegex(ValueError, words, chipfire.chains, *arguments, **file, **options)
+
+    def test_what_is_no_checkpoint_is_refused(self):
+        with open(self.file, "w", encoding="utf-8") as out:
+            out.write("no checkpoint" * 99)
+        self.assertRaisesRegex(ValueError, "is no checkpoint of chains", plays, checkpoint=self.file)
+        os.unlink(self.file)
+        with contextlib.closing(sqlite3.connect(self.file)) as rows:
+            rows.execute("CREATE TABLE parts (first)")
+        self.assertRaisesRegex(ValueError, "is no checkpoint of chains", plays, checkpoint=self.file)
+        os.unlink(self.file)
+        plays(checkpoint=self.file)
+        for words, change in [("none of these chains", "UPDATE parts SET made = x''"),
+                              ("version 2, and this chipfire reads", "PRAGMA user_version = 2")]:
+            with contextlib.closing(sqlite3.connect(self.file)) as rows, rows:
+                rows.execute(change)
+            self.assertRaisesRegex(ValueError, words, plays, checkpoint=self.file)
+
+    def test_a_part_is_written_whole_or_not_at_all(self):
+        with mock.patch.object(Checkpoint, "put", side_effect=OSError("full")):
+            self.assertRaisesRegex(OSError, "full", plays, checkpoint=self.file)
+        self.assertEqual(numbers(plays(checkpoint=self.file)), numbers(plays()))
+
+
+@unittest.skipUnless(IS_HERE, "chains take the library")
+class Long(unittest.TestCase):
+    def test_an_interrupt_keeps_what_was_made(self):
+        for options in ASKED:
+            def stop(done, total):
+                if done:
+                    raise KeyboardInterrupt
+
+            whole, found = plays(**options), plays(workers=2, progress=stop, partial=True, **options)
+            self.assertEqual((found.seeds, len(found.made)), (whole.seeds, 7))
+            for chain, made in enumerate(list(found.made)):
+                for name in ("size", "extent", "lost"):
+                    there = getattr(found, name)[chain].tolist()
+                    self.assertEqual(there[:made], getattr(whole, name)[chain].tolist()[:made])
+                    self.assertEqual(sum(there[made:]), 0)
+            with self.assertRaises(KeyboardInterrupt):
+                plays(progress=stop, **options)
+
+    def test_a_signal_stops_a_long_call_and_keeps_what_was_made(self):
+        script = [
+            "import chipfire", "def told(done, total):", "    done and print('begun', flush=True)", "g = chipfire.grid(40, 40)",
+            "found = chipfire.chains(g, 2, 10**7, 1, progress=told, partial=True)",
+            "made = [int(it) for it in found.made]", "short = chipfire.chains(g, 2, min(made), 1)",
+            "print(0 < min(made), max(made) < 10**7, [a[:min(made)].tolist() == b.tolist() for a, b in zip(found.size, short.size)])",
+        ]
+        with subprocess.Popen([sys.executable, "-c", "\n".join(script)], stdout=subprocess.PIPE, encoding="utf-8") as ran:
+            self.assertEqual(ran.stdout.readline(), "begun\n")
+            ran.send_signal(signal.SIGINT)
+            said = ran.stdout.read().splitlines()
+        self.assertEqual((said[-1], ran.returncode), ("True True [True, True]", 0))
+
+    def test_progress_ends_at_all_that_is_made(self):
+        told = []
+        found = plays(progress=lambda done, total: told.append((done, total)))
+        self.assertEqual((told[-1], sorted(told)), ((280, 280), told))
+        with concurrent.futures.ThreadPoolExecutor(1) as executor:
+            told.clear()
+            plays(executor=executor, progress=lambda done, total: told.append((done, total)))
+            self.assertEqual((told[-1], sorted(told)), ((280, 280), told))
+        self.assertEqual(sum(found.made), 280)
+
+    def test_lines_where_there_is_no_tqdm(self):
+        with mock.patch("chipfire.progress.import_optional", return_value=None):
+            with contextlib.redirect_stderr(io.StringIO()) as said:
+                plays(progress=True)
+        self.assertEqual(said.getvalue().splitlines()[-1], "chipfire: 280 of 280 drops")
+
+    def test_a_bar_of_tqdm(self):
+        bar = mock.Mock()
+        module = mock.Mock(**{"tqdm.return_value": bar})
+        with mock.patch("chipfire.progress.import_optional", return_value=module):
+            with Progress(True, 10, "drops") as shown:
+                for done in (0, 4, 10):
+                    shown.next_time = 0
+                    shown.show(done)
+        self.assertEqual([it.args[0] for it in bar.update.mock_calls], [0, 4, 6])
+        bar.close.assert_called_once_with()
+
+    def test_nothing_is_shown_unless_it_is_asked_for(self):
+        with contextlib.redirect_stderr(io.StringIO()) as said:
+            plays()
+            plays(progress=False)
+        self.assertEqual(said.getvalue(), "")
+
+
+if __name__ == "__main__":
+    unittest.main()

@@ -113,6 +113,7 @@ from chipfire.divisors.polynomials import avalanche_polynomial, level_polynomial
 from chipfire.ensembles.avalanche import Avalanche, avalanche, avalanches, random_drops
 from chipfire.ensembles.chains import Chains, Firings, chains
 from chipfire.ensembles.drops import Drops
+from chipfire.ensembles.histograms import Histograms
 from chipfire.ensembles.pile import Drop as Drop, Pile
 from chipfire.ensembles.power_law import PowerLaw, plot_sizes, power_law
 from chipfire.ensembles.scaling import Collapse, Moments, collapse, moments
@@ -189,6 +190,7 @@ __all__ = [
     "Graph",
     "Green",
     "Group",
+    "Histograms",
     "Moments",
     "PALETTES",
     "Picture",

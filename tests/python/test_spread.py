@@ -297,5 +297,51 @@ class Long(unittest.TestCase):
         self.assertEqual(said.getvalue(), "")
 
 
+@unittest.skipUnless(IS_HERE, "chains take the library")
+class Histograms(unittest.TestCase):
+    def test_they_count_what_the_columns_have(self):
+        for graph, options in [(GRID, {}), (LOOPS, {"chips": 2, "amounts": 2}), (GRID, {"on": [3], "workers": 2})]:
+            whole = chipfire.chains(graph, 5, 300, 4, **options)
+            for part in (7, 64, 2**16):
+                with mock.patch.object(player, "PART", part):
+                    found = chipfire.chains(graph, 5, 300, 4, collect="histogram", **options)
+                columns = {name: [it.tolist() for it in getattr(whole, name)] for name in ("size", "extent", "lost")}
+                for name, rows in columns.items():
+                    self.assertEqual(getattr(found, name), [*map(Counter, rows)])
+                    self.assertEqual(found.total(name), dict(sorted(Counter(sum(rows, [])).items())))
+                for (one, other), sums in found.sums.items():
+                    products = [sum(a * b for a, b in zip(*rows)) for rows in zip(columns[one], columns[other])]
+                    self.assertEqual(sums, products)
+                self.assertEqual([it.tolist() for it in found.chips], [it.tolist() for it in whole.chips])
+                self.assertEqual((found.seeds, list(found.made), found.seed), (whole.seeds, [300] * 5, whole.seed))
+        self.assertEqual((len(found.sums), repr(found)), (6, "<Histograms: 5 chains, 1,500 drops>"))
+
+    def test_they_add_up_and_come_from_executors(self):
+        asked = {"collect": "histogram"}
+        whole = vars(plays(**asked))
+        parts = [chipfire.chains(GRID, stop - start, 40, 5, first=start, **asked) for start, stop in ((0, 2), (2, 7))]
+        with concurrent.futures.ProcessPoolExecutor(1, multiprocessing.get_context("spawn")) as executor:
+            found = [parts[0] + parts[1], plays(executor=executor, **asked)]
+        for its in map(vars, found):
+            for name, value in whole.items():
+                one, other = (it.tolist() if hasattr(it, "tolist") else it for it in (its[name], value))
+                self.assertEqual([*map(list, one)] if name == "chips" else one, [*map(list, other)] if name == "chips" else other)
+
+    def test_what_is_refused(self):
+        for words, options in [("no 'rows'", {"collect": "rows"}), ("goes with none", {"collect": "histogram", "fired": True}),
+                               ("goes with none", {"collect": "histogram", "checkpoint": "never-made"})]:
+            self.assertRaisesRegex(ValueError, words, plays, **options)
+        self.assertRaisesRegex(ValueError, "no 'radius'", plays(collect="histogram").total, "radius")
+        with self.assertRaisesRegex(ValueError, "as many vertices"):
+            plays(collect="histogram") + chipfire.chains(chipfire.grid(2, 2), 1, 1, 1, collect="histogram")
+
+    @unittest.skipUnless(has("numpy"), "NumPy is not here")
+    def test_their_moments_are_those_of_the_columns(self):
+        one, other = plays(), plays(collect="histogram")
+        for of in ("size", "extent", "lost"):
+            for a, b in zip(chipfire.moments(one, of), chipfire.moments(other, of)):
+                self.assertLess(abs(a - b).max(), 1e-9 * abs(a).max())
+
+
 if __name__ == "__main__":
     unittest.main()

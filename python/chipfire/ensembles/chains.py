@@ -7,7 +7,7 @@ from array import array
 from collections.abc import Sequence
 from concurrent.futures import Executor
 from dataclasses import dataclass
-from typing import Any, NamedTuple
+from typing import Any, Literal, NamedTuple, overload
 
 from chipfire.backend import library
 from chipfire.backend.commands import AnyGraph, known_graph, read_chips
@@ -15,7 +15,8 @@ from chipfire.backend.finding import ProgramNotFound
 from chipfire.configurations.configuration import Chips
 from chipfire.ensembles import archive
 from chipfire.ensembles.checkpoint import opened
-from chipfire.ensembles.player import COLUMNS, places_of, Plan, spanning, stabilize, Table
+from chipfire.ensembles.histograms import following, Histograms, joined, sums_by_name
+from chipfire.ensembles.player import COLUMNS, places_of, Plan, spanning, stabilize, table_of
 from chipfire.ensembles.power_law import sizes_figure
 from chipfire.ensembles.spread import Spread
 from chipfire.graphs.graph import Graph
@@ -160,27 +161,57 @@ def _sum(one: Chains, other: Chains) -> Chains:
     if widths[0] != widths[1] or (one.fired is None) != (other.fired is None):
         raise ValueError("chains add up that have as many drops and vertices, and are told alike")
     columns = {
-        name: _joined(getattr(one, name), getattr(other, name)) for name in (*COLUMNS, *_OTHERS)
+        name: joined(getattr(one, name), getattr(other, name)) for name in (*COLUMNS, *_OTHERS)
     }
     fired = None
     if one.fired is not None and other.fired is not None:
-        offsets = _joined(one.fired.offsets, other.fired.offsets[1:] + one.fired.offsets[-1])
-        vertices = _joined(one.fired.vertices, other.fired.vertices)
-        fired = Firings(offsets, vertices, _joined(one.fired.counts, other.fired.counts))
-    is_next = (
-        one.seed is not None
-        and one.seed == other.seed
-        and one.first + len(one.seeds) == other.first
-    )
-    seed = one.seed if is_next else None
-    seeds = (*one.seeds, *other.seeds)
-    return Chains(seeds, **columns, fired=fired, seed=seed, first=one.first if is_next else 0)
+        offsets = joined(one.fired.offsets, other.fired.offsets[1:] + one.fired.offsets[-1])
+        vertices = joined(one.fired.vertices, other.fired.vertices)
+        fired = Firings(offsets, vertices, joined(one.fired.counts, other.fired.counts))
+    return Chains(**columns, fired=fired, **following(one, other))
 
 
-def _joined(one: Any, other: Any) -> Any:
-    """The rows of one and of another."""
-    numpy = import_optional("numpy")
-    return numpy.concatenate([one, other]) if hasattr(one, "dtype") else one + other
+@overload
+def chains(
+    graph: AnyGraph,
+    n: int,
+    drops: int,
+    seed: Any,
+    *,
+    first: int = ...,
+    chips: Chips | None = ...,
+    on: Any = ...,
+    amounts: Any = ...,
+    workers: int | None = ...,
+    executor: Executor | None = ...,
+    fired: bool = ...,
+    until: str | None = ...,
+    collect: Literal["columns"] = ...,
+    progress: AnyProgress = ...,
+    checkpoint: FileName | None = ...,
+    partial: bool = ...,
+) -> Chains:
+    ...
+
+
+@overload
+def chains(
+    graph: AnyGraph,
+    n: int,
+    drops: int,
+    seed: Any,
+    *,
+    first: int = ...,
+    chips: Chips | None = ...,
+    on: Any = ...,
+    amounts: Any = ...,
+    workers: int | None = ...,
+    executor: Executor | None = ...,
+    collect: Literal["histogram"],
+    progress: AnyProgress = ...,
+    partial: bool = ...,
+) -> Histograms:
+    ...
 
 
 def chains(
@@ -197,10 +228,11 @@ def chains(
     executor: Executor | None = None,
     fired: bool = False,
     until: str | None = None,
+    collect: Literal["columns", "histogram"] = "columns",
     progress: AnyProgress = None,
     checkpoint: FileName | None = None,
     partial: bool = False,
-) -> Chains:
+) -> Chains | Histograms:
     """Drops chips on random vertices in n chains, each with its own seed and `drops` drops, each drop on what the play
     of the one before it left. It takes the library: without it that is a `ProgramNotFound`. The seeds of the chains are
     made of `seed`, which is as in `random_drops`; the result has the one that None or a `Generator` drew. Chains have
@@ -218,6 +250,8 @@ def chains(
     If it is asked for what `fired`, or `until` a drop has a "loss" of chips, or "spans" a grid, which is that the
     vertices that fired touch two opposite borders, each call makes one drop of many chains, by NumPy. `until` stops a
     chain after the first such drop. In a direction that is joined there are no borders, and "spans" does not know that.
+    To `collect` a "histogram" of each column of each chain takes no memory for drops but their amounts; it goes with
+    neither of them, nor with a checkpoint.
 
     `progress` shows how many drops are made: True by tqdm or lines, or a function of this number and of how many there
     are. After an interrupt all stop soon; if `partial` is true, what was made is the result: `made` has the numbers of
@@ -230,7 +264,9 @@ def chains(
     known = known_graph(graph)
     n = as_int(n, "the number of chains", 1)
     drops = as_int(drops, "the number of drops")
-    require_memory(n * (24 * drops + 16 * known.vertices), f"{n:,} chains of {drops:,} drops")
+    is_counted = _is_counted(collect, until or fired or checkpoint)
+    of_drops = 0 if is_counted else 24 * drops
+    require_memory(n * (of_drops + 16 * known.vertices), f"{n:,} chains of {drops:,} drops")
     _refuse_options(until, fired, workers, executor)
     if checkpoint is not None and (seed is None or hasattr(seed, "bit_generator")):
         raise ValueError("a checkpoint takes a seed that is the same in the next call")
@@ -250,12 +286,22 @@ def chains(
         starts=None if chips is None else _starts(known, chips, n),
         until=until,
         fired=bool(fired),
+        counted=is_counted,
     )
     threads = _threads(n, workers)
-    table = Table.of(plan)
+    table = table_of(plan)
     with opened(checkpoint, plan) as file, Progress(progress, n * drops, "drops") as shown:
         Spread(plan, table, executor, threads, file).play(shown, partial)
     return _result(plan, table)
+
+
+def _is_counted(collect: str, others: Any) -> bool:
+    """Whether histograms are collected, which go with no others of the options."""
+    if collect not in ("columns", "histogram"):
+        raise ValueError(f"chains collect 'columns' or a 'histogram', and no {collect!r}")
+    if collect == "histogram" and others:
+        raise ValueError("a histogram goes with none of fired, until and checkpoint")
+    return collect == "histogram"
 
 
 def _refuse_options(
@@ -316,14 +362,20 @@ def _starts(graph: Graph, chips: Any, n: int) -> array[int]:
     return begun
 
 
-def _result(plan: Plan, table: Table) -> Chains:
+def _result(plan: Plan, table: Any) -> Chains | Histograms:
     """What was played, with a row for each chain in each column."""
     numpy = import_optional("numpy")
     chips = table.chips
     if plan.graph.loops:
         chips = plan.graph.with_loops(memoryview(chips))
-    size, extent, lost, chips = (_by_rows(numpy, it, plan.n) for it in (*table.columns, chips))
     made = numpy.frombuffer(table.made, "q") if numpy else array("q", table.made)
+    chips = _by_rows(numpy, chips, plan.n)
+    if plan.counted:
+        size, extent, lost = ([*its] for its in zip(*table.counts))
+        sums = sums_by_name(table.sums)
+        told = (plan.seed, plan.first)
+        return Histograms(plan.seeds, size, extent, lost, sums, made, chips, *told)
+    size, extent, lost = (_by_rows(numpy, it, plan.n) for it in table.columns)
     fired = _in_order(plan.graph, table.fired, plan.n * plan.drops) if plan.fired else None
     return Chains(plan.seeds, size, extent, lost, made, chips, fired, plan.seed, plan.first)
 

@@ -4,16 +4,18 @@ from __future__ import annotations
 
 import itertools
 import math
+import operator
 import random
 import threading
 from array import array
+from collections import Counter
 from collections.abc import Callable, Mapping, Sequence
 from dataclasses import dataclass, field, replace
-from typing import Any
+from typing import Any, Union
 
 from chipfire.backend import kept, library
 from chipfire.backend.process import refused
-from chipfire.ensembles.drops import in_calls, names_of
+from chipfire.ensembles.drops import in_calls, names_of, PART
 from chipfire.ensembles.wilson import recurrent_rows
 from chipfire.graphs.graph import Graph
 from chipfire.utils import import_optional, MAX_LIMIT
@@ -78,6 +80,7 @@ class Plan:
              None if each begins with a random recurrent configuration
     until    after which drop a chain ends: "loss", "spans" or None
     fired    whether it is asked what fired
+    counted  whether it is asked for histograms alone
     """
 
     graph: Graph
@@ -90,6 +93,7 @@ class Plan:
     starts: array[int] | None = None
     until: str | None = None
     fired: bool = False
+    counted: bool = False
 
     @property
     def seeds(self) -> tuple[str, ...]:
@@ -145,6 +149,15 @@ class Table:
             memoryview(self.chips)[start * self.width : stop * self.width],
         )
 
+    def rows(self, chain: int, start: int, stop: int) -> list[Any]:
+        """Where the numbers of these drops of a chain go, by columns."""
+        first = chain * self.drops
+        return [it[first + start : first + stop] for it in self.columns]
+
+    def add(self, chain: int, rows: list[Any], made: int) -> None:
+        """Takes the first drops whose numbers stand in rows, which are made."""
+        self.made[chain] += made
+
     def put(self, start: int, stop: int, other: Table) -> None:
         """Takes the numbers of a table of the chains in these places."""
         part = self.part(start, stop)
@@ -153,6 +166,72 @@ class Table:
             _copy(numbers, given)
         more = start * self.drops
         self.fired += [(drops + more, *others) for drops, *others in other.fired]
+
+
+@dataclass
+class Tally:
+    """Histograms of chains, and what lies there at their end.
+
+    counts  of each chain and column, how many drops have each number
+    sums    of each chain, the sums of the products of two columns, as `PAIRS` has them
+    made    how many drops each chain made
+    chips   what lies on each vertex, without the chips of loops
+    """
+
+    width: int
+    counts: list[list[Counter[int]]]
+    sums: list[list[int]]
+    made: Any
+    chips: Any
+    fired: tuple[()] = ()
+
+    @classmethod
+    def of(cls, plan: Plan) -> Tally:
+        """A tally for a plan, in which no drop is made."""
+        width = plan.graph.vertices
+        return cls(
+            width,
+            [[Counter() for _ in COLUMNS] for _ in range(plan.n)],
+            [[0 for _ in PAIRS] for _ in range(plan.n)],
+            _zeros(plan.n),
+            _zeros(plan.n * width),
+        )
+
+    def part(self, start: int, stop: int) -> Tally:
+        """The tally of these chains, in the memory of this one."""
+        return Tally(
+            self.width,
+            self.counts[start:stop],
+            self.sums[start:stop],
+            memoryview(self.made)[start:stop],
+            memoryview(self.chips)[start * self.width : stop * self.width],
+        )
+
+    def rows(self, chain: int, start: int, stop: int) -> list[Any]:
+        """Where the numbers of drops stand until they are counted, by columns."""
+        return [_zeros(stop - start) for _ in COLUMNS]
+
+    def add(self, chain: int, rows: list[Any], made: int) -> None:
+        """Counts the first drops whose numbers stand in rows, which are made."""
+        self.made[chain] += made
+        columns = [row[:made].tolist() for row in rows]
+        for counts, column in zip(self.counts[chain], columns):
+            counts.update(column)
+        for place, (one, other) in enumerate(PAIRS):
+            products = map(operator.mul, columns[one], columns[other])
+            self.sums[chain][place] += sum(products)
+
+    def put(self, start: int, stop: int, other: Tally) -> None:
+        """Takes the tally of the chains in these places."""
+        self.counts[start:stop] = other.counts
+        self.sums[start:stop] = other.sums
+        part = self.part(start, stop)
+        _copy(part.made, other.made)
+        _copy(part.chips, other.chips)
+
+
+#: The pairs of columns whose products are added up.
+PAIRS = [*itertools.combinations_with_replacement(range(len(COLUMNS)), 2)]
 
 
 def _copy(numbers: Any, given: Any) -> None:
@@ -165,6 +244,9 @@ def _zeros(count: int) -> Any:
     """So many numbers of 64 bits: of NumPy, which takes memory as it is written, or the standard library's."""
     numpy = import_optional("numpy")
     return numpy.zeros(count, "u8") if numpy else array("Q", bytes(8 * count))
+
+
+AnyTable = Union[Table, Tally]
 
 
 class Watch:
@@ -183,7 +265,12 @@ class Watch:
             self.made += made
 
 
-def play(plan: Plan, table: Table, watch: Watch) -> Table:
+def table_of(plan: Plan) -> AnyTable:
+    """What is asked for, in which no drop is made."""
+    return Tally.of(plan) if plan.counted else Table.of(plan)
+
+
+def play(plan: Plan, table: AnyTable, watch: Watch) -> AnyTable:
     """Plays chains, which all have their starts, into a table."""
     _copy(table.chips, plan.starts)
     player = _InStep if plan.until or plan.fired else _OneByOne
@@ -191,40 +278,44 @@ def play(plan: Plan, table: Table, watch: Watch) -> Table:
     return table
 
 
-def played(plan: Plan) -> Table:
+def played(plan: Plan) -> AnyTable:
     """Plays chains to their ends, in a process of their own."""
     if library.find_library() is None:
         raise RuntimeError("a worker has no library of chipfire beside its package")
     plan = plan.begun()
-    return play(plan, Table.of(plan), Watch())
+    return play(plan, table_of(plan), Watch())
 
 
 class _Player:
     """Chains of a plan, and their table."""
 
-    def __init__(self, plan: Plan, table: Table, watch: Watch) -> None:
+    def __init__(self, plan: Plan, table: Any, watch: Watch) -> None:
         self.plan = plan
         self.table = table
         self.watch = watch
         self.graph = plan.graph.loop_free
         self.seeds = plan.seeds
+        self.draw = random.Random(0)
         self.twister: Any = None
 
     def play(self) -> None:
         """Plays all chains to their ends, or until they are to stop."""
         raise NotImplementedError
 
-    def drawn(self, chain: int) -> Any:
-        """The vertices of a chain, as `random_drops` draws them; by NumPy's twister, which is Python's."""
-        draw = random.Random(self.seeds[chain])
+    def begin(self, chain: int) -> None:
+        """Has `drawn` begin with the first drop of a chain, by NumPy's twister, which is Python's."""
+        self.draw = random.Random(self.seeds[chain])
         numpy = import_optional("numpy")
-        if not numpy:
-            return array("Q", self.plan.places.drawn(draw, self.plan.drops))
+        if numpy:
+            self.twister = self.twister or numpy.random.RandomState(0)
+            state = self.draw.getstate()[1]
+            self.twister.set_state(("MT19937", state[:-1], state[-1]))
+
+    def drawn(self, count: int) -> Any:
+        """The vertices of the next drops, as `random_drops` draws them."""
         if self.twister is None:
-            self.twister = numpy.random.RandomState(0)
-        state = draw.getstate()[1]
-        self.twister.set_state(("MT19937", state[:-1], state[-1]))
-        return self.plan.places.at(self.twister.random_sample(self.plan.drops))
+            return array("Q", self.plan.places.drawn(self.draw, count))
+        return self.plan.places.at(self.twister.random_sample(count))
 
 
 class _OneByOne(_Player):
@@ -249,9 +340,20 @@ class _OneByOne(_Player):
             pile.free()
 
     def _play_on(self, pile: kept.KeptPile, chain: int) -> None:
-        """Plays a chain. Its first call has as many drops as the last one of another chain."""
+        """Plays a chain, some drops at a time."""
+        self.begin(chain)
         drops = self.plan.drops
-        rows = [it[chain * drops : (chain + 1) * drops] for it in self.table.columns]
+        for start in range(0, drops, PART):
+            stop = min(start + PART, drops)
+            rows = self.table.rows(chain, start, stop)
+            made = self._drops(pile, self.plan.amounts[start:stop], rows)
+            self.table.add(chain, rows, made)
+            if made < stop - start:
+                break
+
+    def _drops(self, pile: kept.KeptPile, amounts: array[int], rows: list[Any]) -> int:
+        """Makes drops of these amounts on a pile, until they are to stop; how many were made. The first call has as many
+        as the last one before."""
         made = 0
 
         def call(where: Any, many: Any, columns: list[Any]) -> bool:
@@ -265,10 +367,10 @@ class _OneByOne(_Player):
             self.watch.add(len(where))
             return True
 
-        at = self.drawn(chain)
-        of_call = in_calls(call, at, self.plan.amounts, rows, self.watch.drops_of_call)
+        at = self.drawn(len(amounts))
+        of_call = in_calls(call, at, amounts, rows, self.watch.drops_of_call)
         self.watch.drops_of_call = of_call or self.watch.drops_of_call
-        self.table.made[chain] = made
+        return made
 
 
 class _InStep(_Player):
@@ -281,7 +383,7 @@ class _InStep(_Player):
         self.made = numpy.frombuffer(self.table.made, "u8")
         self.columns = [numpy.frombuffer(column, "u8") for column in self.table.columns]
         ends = _ends(self.graph, plan.until)
-        drawn = numpy.array([self.drawn(chain) for chain in range(plan.n)])
+        drawn = numpy.array([self._drawn_of(chain) for chain in range(plan.n)])
         live = numpy.arange(plan.n)
         for drop in range(plan.drops):
             if not len(live) or self.watch.is_stopped:
@@ -290,6 +392,10 @@ class _InStep(_Player):
             self.made[live] = drop + 1
             self.watch.add(len(live))
             live = live[~ended]
+
+    def _drawn_of(self, chain: int) -> Any:
+        self.begin(chain)
+        return self.drawn(self.plan.drops)
 
     def _drop(self, live: Any, drop: int, vertices: Any) -> tuple[Any, Any]:
         """Makes a drop on each of these chains; what fired, and how many chips each lost."""

@@ -8,6 +8,7 @@ from dataclasses import dataclass
 from typing import Any, NamedTuple
 
 from chipfire.ensembles.chains import Chains
+from chipfire.ensembles.histograms import Histograms
 from chipfire.ensembles.player import COLUMNS
 from chipfire.ensembles.power_law import counted
 from chipfire.utils import as_int, import_optional
@@ -30,14 +31,14 @@ class Moments(NamedTuple):
 
 
 def moments(
-    chains: Chains,
+    chains: Chains | Histograms,
     of: str = "size",
     orders: Sequence[float] = (1, 2, 3),
     *,
     resamples: int = 1000,
     seed: int = 0,
 ) -> Moments:
-    """The moments of a column of chains, with errors by the bootstrap: as many chains are drawn with replacement as
+    """The moments of a column of chains, or of their histograms, with errors by the bootstrap: as many chains are drawn with replacement as
     there are, `resamples` times, and the error is how far apart their moments lie. So drops of one chain may depend on
     one another. It takes two chains at least, and NumPy. Efron (1979).
     """
@@ -47,17 +48,25 @@ def moments(
     if len(chains.seeds) < 2:
         raise ValueError("errors by the bootstrap take two chains at least")
     resamples = as_int(resamples, "the number of resamples", 2)
-    rows = numpy.asarray(getattr(chains, of), "f8")
     made = numpy.asarray(chains.made, "f8")
     if not made.sum():
         raise ValueError("no drop was made")
-    is_made = numpy.arange(rows.shape[1]) < made[:, None]
-    sums = numpy.array([numpy.where(is_made, rows**order, 0.0).sum(1) for order in orders])
+    sums = numpy.array([_sums(numpy, chains, of, made, order) for order in orders])
     draw = numpy.random.default_rng(seed)
     times = draw.multinomial(len(made), [1 / len(made)] * len(made), resamples)
     weights = times @ made
     drawn = (sums @ times.T)[:, weights > 0] / weights[weights > 0]
     return Moments(numpy.array(orders), sums.sum(1) / made.sum(), drawn.std(1, ddof=1))
+
+
+def _sums(numpy: Any, chains: Chains | Histograms, of: str, made: Any, order: float) -> Any:
+    """The sum of a power of a column over the drops of each chain."""
+    rows = getattr(chains, of)
+    if isinstance(chains, Histograms):
+        return [math.fsum(count * size**order for size, count in its.items()) for its in rows]
+    rows = numpy.asarray(rows, "f8")
+    is_made = numpy.arange(rows.shape[1]) < made[:, None]
+    return numpy.where(is_made, rows**order, 0.0).sum(1)
 
 
 @dataclass(frozen=True, eq=False)

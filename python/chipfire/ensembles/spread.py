@@ -4,9 +4,10 @@ from __future__ import annotations
 
 from collections.abc import Iterator, Sequence
 from concurrent.futures import Executor, FIRST_COMPLETED, Future, ThreadPoolExecutor, wait
+from typing import Any
 
 from chipfire.ensembles.checkpoint import Checkpoint
-from chipfire.ensembles.player import Plan, play, played, Table, Watch
+from chipfire.ensembles.player import AnyTable, Plan, play, played, Table, Watch
 from chipfire.progress import Progress
 
 #: How many parts an executor gets, and each thread.
@@ -17,7 +18,7 @@ _OF_THREAD = 4
 _WAIT = 0.1
 
 Place = tuple[int, int]
-Futures = dict["Future[Table]", Place]
+Futures = dict["Future[AnyTable]", Place]
 
 
 class Spread:
@@ -31,7 +32,7 @@ class Spread:
     def __init__(
         self,
         plan: Plan,
-        table: Table,
+        table: AnyTable,
         executor: Executor | None,
         workers: int,
         checkpoint: Checkpoint | None,
@@ -47,7 +48,9 @@ class Spread:
 
     def play(self, progress: Progress, partial: bool) -> None:
         """Plays what is left. After an interrupt all stops soon: that is an error, unless it is `partial`."""
-        there = self.checkpoint.take(self.table) if self.checkpoint else []
+        there: list[Place] = []
+        if self.checkpoint and isinstance(self.table, Table):
+            there = self.checkpoint.take(self.table)
         self.made = int(sum(sum(self.table.made[start:stop]) for start, stop in there))
         gaps = [*_gaps(there, self.plan.n)]
         try:
@@ -90,7 +93,7 @@ class Spread:
             self._stop(futures)
             raise
 
-    def _take(self, place: Place, part: Table) -> None:
+    def _take(self, place: Place, part: Any) -> None:
         self.table.put(*place, part)
         if self.executor is not None:  # (what threads of this process make, the watch counts)
             self.made += int(sum(part.made))

@@ -32,7 +32,7 @@ from test_sandpiles import has
 
 COLUMNS = ("size", "extent", "lost", "chips")
 GRID = chipfire.grid(5, 4)
-LOOPS = chipfire.from_edges([("a", "b"), ("b", "s"), ("a", "a", 2), ("b", "a")], "s")
+LOOPS = chipfire.from_edges({"source": "aabb", "target": "abcs", "weight": [2, 1, 3, 1]}, "s", loops="sage")
 
 
 def numbers(found):
@@ -129,7 +129,7 @@ class Parts(unittest.TestCase):
         context = multiprocessing.get_context("spawn")
         with concurrent.futures.ProcessPoolExecutor(2, context) as executor:
             for graph in (GRID, LOOPS):
-                chips = {} if graph is GRID else {"chips": 3}
+                chips = {} if graph is GRID else {"chips": 9}
                 whole = numbers(chipfire.chains(graph, 5, 30, "a", **chips))
                 self.assertEqual(numbers(chipfire.chains(graph, 5, 30, "a", executor=executor, **chips)), whole)
 
@@ -300,7 +300,7 @@ class Long(unittest.TestCase):
 @unittest.skipUnless(IS_HERE, "chains take the library")
 class Histograms(unittest.TestCase):
     def test_they_count_what_the_columns_have(self):
-        for graph, options in [(GRID, {}), (LOOPS, {"chips": 2, "amounts": 2}), (GRID, {"on": [3], "workers": 2})]:
+        for graph, options in [(GRID, {}), (LOOPS, {"chips": 9, "amounts": 2}), (GRID, {"on": [3], "workers": 2})]:
             whole = chipfire.chains(graph, 5, 300, 4, **options)
             for part in (7, 64, 2**16):
                 with mock.patch.object(player, "PART", part):

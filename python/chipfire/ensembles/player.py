@@ -152,7 +152,7 @@ class Table:
     def rows(self, chain: int, start: int, stop: int) -> list[Any]:
         """Where the numbers of these drops of a chain go, by columns."""
         first = chain * self.drops
-        return [it[first + start : first + stop] for it in self.columns]
+        return [memoryview(it)[first + start : first + stop] for it in self.columns]
 
     def add(self, chain: int, rows: list[Any], made: int) -> None:
         """Takes the first drops whose numbers stand in rows, which are made."""
@@ -325,7 +325,7 @@ class _OneByOne(_Player):
         width = self.graph.vertices
         pile = None
         for chain in range(self.plan.n):
-            chips = self.table.chips[chain * width : (chain + 1) * width]
+            chips = memoryview(self.table.chips)[chain * width : (chain + 1) * width]
             start = array("Q", bytes(chips))
             if pile is None:
                 found = library.loaded()

@@ -58,10 +58,10 @@ class Spread:
                 self._by_threads(gaps, progress)
             else:
                 self._by_executor(self.executor, gaps, progress)
+            progress.show(self.made + self.watch.made, is_last=True)
         except KeyboardInterrupt:
             if not partial:
                 raise
-        progress.show(self.made + self.watch.made, is_last=True)
 
     def _by_threads(self, gaps: Sequence[Place], progress: Progress) -> None:
         is_in_step = bool(self.plan.until or self.plan.fired)

@@ -1,0 +1,3 @@
+mod ReportedLemmas
+mod StoppingLemmas
+mod RowsLemmas

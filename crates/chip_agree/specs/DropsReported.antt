@@ -1,0 +1,66 @@
+-- What the library answers of drops, and the rows that `avalanches` writes of them.
+use Rattle.std.specs.Prelude.{◌≡◌, ℕ, List, [], length, map, take, Option, Some, Ok, Err}
+use Rattle.chip_graph.specs.Limits.{SizeLimits}
+use Rattle.chip_graph.specs.ChipGame.{ChipGame}
+use Rattle.chip_file.specs.DropsText.{drops_of_text}
+use Rattle.chip_sequence.specs.declared.outcome.Outcome.{Outcome}
+use Rattle.chip_command.specs.Inputs.{MeansGame}
+use Rattle.chip_command.specs.declared.ended.Ended.{Ended}
+use Rattle.chip_engine.specs.DropRows.{rows_text}
+use Rattle.chip_engine.specs.AvalanchesCommand.{AvalanchesAnswers, ReportAnswer}
+use Rattle.chip_library.specs.declared.edges.EdgeLists.{EdgeLists}
+use Rattle.chip_library.specs.declared.fault.CallFault.TheVariants.{Stopped}
+use Rattle.chip_library.specs.Drops.{Told, Columns, Avalanches, AreOn, AreTold, game_of}
+use Rattle.chip_library.specs.KeptGames.{KeptGame, BeginsGame, Rows, DropsEach}
+
+-- three texts mean this game and these drops, and `avalanches` wrote these rows of them, and a report if it was asked for,
+-- and ended so
+pub record AreReported (g : ChipGame) (at amounts rows : List ℕ) (asked report : Option (Option (List ℕ)))
+    (ended : Ended) : Type 0 where
+  pub limits : SizeLimits
+  pub graph_text : List ℕ
+  pub chips_text : List ℕ
+  pub drops_text : List ℕ
+  pub drops : List (ℕ × ℕ)
+  pub means : MeansGame limits graph_text chips_text g.limit g
+  pub named : drops_of_text g.graph.vertices drops_text ≡ Some drops
+  pub vertices : map (λ (d : ℕ × ℕ). d.0) drops ≡ at
+  pub chips : map (λ (d : ℕ × ℕ). d.1) drops ≡ amounts
+  pub wrote : AvalanchesAnswers limits (Some graph_text) (Some chips_text) (Some drops_text) g.limit
+      (record { rows = Some []; report = asked }) (record { rows = Some rows; report = report }) (Ok ended)
+
+-- the rows tell the drops on these vertices of these amounts, each with its avalanche
+abbrev pub RowsTell : (told : List Told) → (at amounts rows : List ℕ) → Type 0
+RowsTell told at amounts rows = AreOn told at amounts × (rows ≡ rows_text told)
+
+-- no limit stopped a play, and the report, if it was asked for, is of an outcome that has these chips
+abbrev pub EndsWith : List ℕ → (asked report : Option (Option (List ℕ))) → Ended → Type 0
+EndsWith chips asked report ended = (ended.status ≡ 0)
+    × (o : Outcome) × (chips ≡ o.chips.items) × ReportAnswer asked report o (Ok ended)
+
+-- the avalanches of a call are the rows that `avalanches` writes, and its chips those of the report
+abbrev pub AvalanchesAgree : Type 0
+AvalanchesAgree = (lists : EdgeLists) (limit : ℕ) (at amounts : List ℕ) (old new : Columns)
+    → Avalanches lists limit at amounts old new (Ok tt)
+    → (rows : List ℕ) (asked report : Option (Option (List ℕ))) (ended : Ended)
+    → AreReported (game_of lists limit old) at amounts rows asked report ended
+    → (told : List Told) × AreTold told new.sizes new.extents new.losts × RowsTell told at amounts rows
+    × EndsWith new.chips asked report ended
+
+-- if the limit stops the play of drop i, or that of the game, and then i is 0, the rows that `avalanches` writes are those
+-- of the drops before it
+abbrev pub StoppedDropsAgree : Type 0
+StoppedDropsAgree = (lists : EdgeLists) (limit : ℕ) (at amounts : List ℕ) (old new : Columns) (i : ℕ)
+    → Avalanches lists limit at amounts old new (Err (Stopped i))
+    → (rows : List ℕ) (asked report : Option (Option (List ℕ))) (ended : Ended)
+    → AreReported (game_of lists limit old) at amounts rows asked report ended
+    → (told : List Told) × (length told ≡ i) × RowsTell told (take i at) (take i amounts) rows × (ended.status ≡ 2)
+
+-- so it is of drops on a kept pile that was not played yet: if all are made, the columns have what the rows tell
+abbrev pub KeptDropsAgree : Type 0
+KeptDropsAgree = (g : ChipGame) (k new : KeptGame) (at amounts : List ℕ) (before after : Rows)
+    → BeginsGame g k → DropsEach k new at amounts before after (Ok tt)
+    → (rows : List ℕ) (asked report : Option (Option (List ℕ))) (ended : Ended)
+    → AreReported g at amounts rows asked report ended
+    → (told : List Told) × AreTold told after.sizes after.extents after.losts × RowsTell told at amounts rows
+    × EndsWith new.pile.chips.items asked report ended

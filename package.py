@@ -5,7 +5,8 @@
                              the libraries beside it: an archive, a Debian package, a wheel for Python, and PROVED, which
                              stands in each of them
     ./package --prove        does so with what is proved and built here
-    ./package --release      makes release/ anew of that, which is to be committed: the archive and PROVED
+    ./package --release      makes release/ anew of that, which is to be committed: the archive, PROVED, and what is made here
+                             for browsers and Node: the module chipfire.wasm, the package for npm, and the page
     ./package --check FILE   says whether a program, a library, an archive, a Debian package or a wheel is the one of these
                              sources, and what is stated of it; where it is not, a line says why and the status is 1
 
@@ -20,14 +21,27 @@ import sys
 import tempfile
 
 runpy.run_path(f"{os.path.dirname(os.path.realpath(__file__))}/tools/paths.py")
-from contents import version  # noqa: E402
-from packing import archive, build, debian, judge, proved, wheel  # noqa: E402
+import contents  # noqa: E402
+from packing import archive, build, debian, judge, proved, web, wheel  # noqa: E402
 from packing.repository import ROOT, Refused, content  # noqa: E402
 
 import release  # noqa: E402
 
 
-def built_one(must_prove):
+def built_here(kit, is_release):
+    """Returns what this kit built here, and what is stated of it; for a release all that is made for browsers and Node."""
+    built, of_web = build.built_in("target"), None
+    if is_release:
+        of_web = proved.Web(proved.web_sources(), web.tools(), web.MADE)
+        built.update(web.make())
+    sums = proved.sums_of(built)
+    stated = proved.Proved(contents.version(), kit, proved.commit(), proved.sources(), sums, of_web)
+    if is_release and not proved.has_web(stated):
+        raise Refused("the sources changed meanwhile: start ./package again")
+    return stated, built
+
+
+def built_one(must_prove, is_release):
     """Returns the program that ./chipfire starts, with all that goes with it; or only one that was proved here."""
     before = proved.sources()
     words = ["--prove", "--version"] if must_prove else ["--version"]
@@ -36,26 +50,46 @@ def built_one(must_prove):
     kit = content("target/chipfire.stamp").decode().strip()
     if kit == release.STAMP:
         stated, built = release.released()
+        built = release.of_these(stated, built)
     else:
-        built = build.built_in("target")
-        stated = proved.Proved(version(), kit, proved.commit(), before, proved.sums_of(built))
+        stated, built = built_here(kit, is_release)
     if not stated.sources == before == proved.sources():
         raise Refused("the sources changed meanwhile: start ./package again")
     return build.Build(built, stated, judge.documents_of(built["program"]))
 
 
-def make(folder, forms, packed):
-    """Makes a folder anew, with packages of these forms of a build and PROVED, and returns the names of what is in it."""
+def files_beside(packed, is_release):
+    """Returns the files that stand beside the packages of a build, bytes by names."""
+    found = {"PROVED": packed.stated.text().encode()}
+    if is_release:
+        names = contents.web_places(packed.stated.version)
+        found.update((name, packed.built[word]) for word, name in names.items())
+    return found
+
+
+def make(folder, forms, packed, files):
+    """Makes a folder anew, with packages of these forms of a build and files, bytes by names, and returns the names of what
+    is in it."""
     with tempfile.TemporaryDirectory(prefix="made-", dir=f"{ROOT}/target") as room:
         for form in forms:
             form.write(f"{room}/{form.name(packed)}", packed)
-        with open(f"{room}/PROVED", "w", encoding="utf-8") as file:
-            file.write(packed.stated.text())
+        for name, data in files.items():
+            with open(f"{room}/{name}", "wb") as file:
+                file.write(data)
         shutil.rmtree(f"{ROOT}/{folder}", ignore_errors=True)
         os.mkdir(f"{ROOT}/{folder}")
         for name in os.listdir(room):
             shutil.copy(f"{room}/{name}", f"{ROOT}/{folder}")
     return [f"{folder}/{name}" for name in sorted(os.listdir(f"{ROOT}/{folder}"))]
+
+
+def prepare_release():
+    """Refuses what would make no release, before anything is proved."""
+    web.need_tools()
+    if not proved.is_committed():
+        raise Refused(
+            "the sources are not those of a commit, which it would name: commit them first"
+        )
 
 
 def main():
@@ -71,15 +105,13 @@ def main():
             stated, compared = judge.judge(asked.check)
             print(f"{subject} is of these sources. PROVED states:\n{stated.text()}{compared}")
             return 0
-        if asked.release and not proved.is_committed():
-            raise Refused(
-                "the sources are not those of a commit, which it would name: commit them first"
-            )
-        packed = built_one(asked.prove or asked.release)
+        if asked.release:
+            prepare_release()
+        packed = built_one(asked.prove or asked.release, asked.release)
         if asked.release:
             release.check_version(packed.stated)
         forms = [archive] if asked.release else [archive, debian, wheel]
-        print(*make(subject, forms, packed), sep="\n")
+        print(*make(subject, forms, packed, files_beside(packed, asked.release)), sep="\n")
     except (Refused, subprocess.CalledProcessError) as refused:
         print(f"package: {subject}: {refused}", file=sys.stderr)
         return 1

@@ -7,7 +7,7 @@ import tempfile
 import zipfile
 import zlib
 
-from contents import version
+from contents import BOARD, version
 from packing import archive, build, debian, proved, wheel
 from packing.build import Build
 from packing.repository import ROOT, Refused, content, sha256
@@ -44,18 +44,16 @@ def packed_here():
     return stated if stated.sources == proved.sources() else None
 
 
-def judge_built(data, here):
-    """Returns what is stated of the bytes of a program or a library, where it is one that was packed here."""
+def refuse_built(here):
+    """Says why a program or a library is refused."""
     if here is None:
         raise Refused(
             "no program was packed of these sources here, and a program alone does not state its own: "
             "./package makes one to compare with"
         )
-    if sha256(data) not in here.sums.values():
-        raise Refused(
-            "it is not the program that ./package packed of these sources here, nor a library"
-        )
-    return here
+    raise Refused(
+        "it is not the program that ./package packed of these sources here, nor a library"
+    )
 
 
 def judge_stated(stated, built, here):
@@ -71,8 +69,8 @@ def judge_stated(stated, built, here):
             raise Refused(f"its {word} is not the one that its PROVED states")
     if proved.has_other_sources(stated.commit):
         raise Refused("its PROVED states a commit that has other sources than these")
-    for word in proved.BUILT:
-        if here is not None and stated.sums[word] != here.sums[word]:
+    for word in stated.sums if here is not None else ():
+        if stated.sums[word] != here.sums.get(word, stated.sums[word]):
             raise Refused(f"its {word} is not the one that ./package packed of these sources here")
     if here is not None and stated.kit != here.kit:
         raise Refused(
@@ -101,17 +99,23 @@ def unpacked(form, path, part):
         raise Refused(f"it cannot be unpacked: {error}") from None
 
 
+def part_of(found, name):
+    """Returns the bytes of a file of a package, which has to be there."""
+    if name not in found:
+        raise Refused(f"there is no {name} in it")
+    return found[name].data
+
+
 def judge_package(form, path, here):
     """Returns what is stated in a package of this form, where all its files are those of these sources.
 
     Its program is started for its documents only where it is the one that was packed here."""
     found, documents = unpacked(form, path, form.documents)
     places = form.places()
-    for name in places.values():
-        if name not in found:
-            raise Refused(f"there is no {name} in it")
-    stated = proved.read(found[places.pop("PROVED")].data)
-    built = {word: found[name].data for word, name in places.items()}
+    stated = proved.read(part_of(found, places.pop("PROVED")))
+    if not proved.has_web(stated):
+        places.pop(BOARD, None)
+    built = {word: part_of(found, name) for word, name in places.items()}
     judge_stated(stated, built, here)
     if here is not None:
         documents = documents_of(built["program"])
@@ -144,9 +148,11 @@ def judge(path):
     with open(path, "rb") as file:
         data = file.read()
     here = packed_here()
+    if here is not None and sha256(data) in here.sums.values():
+        return here, ground(here)
     form = next((form for begin, form in FORMS.items() if data.startswith(begin)), None)
     if form is None and data.startswith(BUILT):
-        return judge_built(data, here), ground(here)
+        refuse_built(here)
     if form is None:
         raise Refused("it is neither a program nor an archive, a Debian package or a wheel")
     return judge_package(form, path, here), ground(here)

@@ -22,9 +22,8 @@ def name(packed):
 def bytes_of(packed):
     """Returns the wheel's files, bytes by names."""
     carried = {**packed.built, "PROVED": packed.stated.text().encode()}
-    return wheels.with_package(
-        tag(packed), {place: carried[word] for word, place in places().items()}
-    )
+    inside = {place: carried[word] for word, place in places().items() if word in carried}
+    return wheels.with_package(tag(packed), inside)
 
 
 def files(packed):

@@ -21,10 +21,10 @@ PROGRAM, SHARED, STATIC = FILES = ("chipfire", "libchipfire.so", "libchipfire.a"
 BUILT = ("program", SHARED, STATIC)
 #: The name under which what was linked with the library asks for it.
 SONAME = "libchipfire.so.0"
-#: The package for browsers and Node, a folder beside them, and the module in it.
-WEB, MODULE = "js", "chipfire.wasm"
-#: The page in it.
-BOARD = "chipfire.html"
+#: The package for browsers and Node, a folder beside them.
+WEB = "js"
+#: The module in it, what npm installs of it, and the page that lies there too, by their words in PROVED.
+MODULE, NPM, BOARD = WEB_BUILT = ("chipfire.wasm", "npm", "chipfire.html")
 
 #: Places in the folder of the archive, and in the folder usr of the Debian package.
 MANUAL = "share/man/man1/chipfire.1"
@@ -116,6 +116,16 @@ def archive_places(of=None):
     return {word: f"{archive_top(of)}/{place}" for word, place in places(ARCHIVE_LIBRARIES).items()}
 
 
+def npm_name(of=None):
+    """Returns the name of the package for npm of a version: of this one if none is said."""
+    return f"chipfire-{of or version()}.tgz"
+
+
+def web_places(of):
+    """Returns the names of the files that a release of a version has beside the archive, by the words of PROVED."""
+    return {MODULE: MODULE, NPM: npm_name(of), BOARD: BOARD}
+
+
 def debian_name():
     """Returns the name of the Debian package."""
     return f"chipfire_{version()}_amd64.deb"
@@ -132,8 +142,10 @@ def wheel_name(tag):
 
 
 def wheel_places():
-    """Returns where all is that PROVED is about, and PROVED, in the wheel: it has no library to link with."""
+    """Returns where all is that PROVED is about, and PROVED, in the wheel: it has no library to link with, and of the package
+    for browsers and Node it has the page, if that was made."""
     return {
         "program": f"{CARRIED}/{PROGRAM}",
         **{word: f"{CARRIED}/{word}" for word in (SHARED, "PROVED")},
+        BOARD: f"{CARRIED}/{WEB}/{BOARD}",
     }

@@ -173,6 +173,32 @@ def build(top, program=PROGRAM):
 
 
 @functools.cache
+def made_up_tools(version="wasm-opt version 1 (made up)", tells=None):
+    """Returns a PATH with a wasm-opt of this version, and a Node that tells another, or that of the program."""
+    folder = f"{rooms()}/tools {version} {tells}"
+    os.mkdir(folder)
+    for name, says in (("wasm-opt", version), ("node", tells or globals()["version"]())):
+        write(f"{folder}/{name}", f"#!/bin/sh\necho '{says}'\n".encode())
+        os.chmod(f"{folder}/{name}", 0o755)
+    return f"{folder}:{PATH}"
+
+
+def make_up_module(top, data=b"\0asm made up"):
+    """Has the script of a checkout that makes the package for browsers and Node take these bytes for the module, since the
+    real one takes the kit."""
+    script = f"{top}/tools/webassembly.py"
+    old, text = "{MODULE: module(), ", read(script).decode()
+    assert text.count(old) == 1
+    write(script, text.replace(old, f"{{MODULE: {data!r}, ").encode())
+
+
+def make_web(top, folder):
+    """Makes the package for browsers and Node, and its page, by the scripts of a checkout, in the folder js of another."""
+    for name in ("webassembly", "board"):
+        run(sys.executable, f"{top}/tools/{name}.py", f"{folder}/js", check=True)
+
+
+@functools.cache
 def pythons():
     """Returns the Pythons of this machine, those that lie beside the one that runs too, as paths by their versions."""
     folders = [*os.environ["PATH"].split(":"), PATH.split(":")[1], *glob.glob(f"{glob.escape(sys.base_prefix)}/../*/bin")]

@@ -15,13 +15,24 @@ ASK = "import chipfire; print(chipfire.find_program(), chipfire.plain(chipfire.p
 def released():
     """Returns a checkout that carries a release of its sources, and has nothing built; no test changes it."""
     top = made.checkout()
+    made.make_up_module(top)
+    made.commit(top)
     made.build(top)
-    answer = made.package(top, "--release")
+    answer = made.package(top, "--release", PATH=made.made_up_tools())
     if answer.returncode != 0:
         raise AssertionError(answer.stderr)
     shutil.rmtree(f"{top}/target")
     made.commit(top)
     return top
+
+
+@made.kept
+def built():
+    """Returns a folder with what is in it, as the gate builds that."""
+    top = made.room()
+    made.build(top)
+    made.make_web(released(), f"{top}/target")
+    return f"{top}/target"
 
 
 def clone():
@@ -53,9 +64,10 @@ def change_sources(top):
 
 
 class Carried(made.Test):
-    def test_it_is_the_archive_and_PROVED(self):
+    def test_it_is_the_archive_and_PROVED_and_what_is_for_browsers(self):
         top = released()
-        self.assertEqual(sorted(os.listdir(f"{top}/release")), ["PROVED", os.path.basename(archive_of(top))])
+        names = ["PROVED", f"chipfire-{made.version()}.tgz", os.path.basename(archive_of(top)), "chipfire.html", "chipfire.wasm"]
+        self.assertEqual(sorted(os.listdir(f"{top}/release")), sorted(names))
         checked = made.package(top, "--check", archive_of(top))
         self.assertIn(made.read(f"{top}/release/PROVED").decode(), checked.stdout)
 
@@ -81,7 +93,7 @@ class Carried(made.Test):
         top = clone()
         change_sources(top)
         made.build(top)
-        answer = made.package(top, "--release")
+        answer = made.package(top, "--release", PATH=made.made_up_tools())
         self.assertEqual((answer.returncode, answer.stdout), (1, ""))
         self.assertIn("package: release: the sources are not those of a commit", answer.stderr)
 
@@ -159,7 +171,7 @@ class Packed(made.Test):
             top = clone()
             if not words:
                 change_sources(top)
-            answer = made.package(top, *words)
+            answer = made.package(top, *words, PATH=made.made_up_tools())
             self.assertEqual((answer.returncode, answer.stdout), (1, ""), words)
             self.assertIn("chipfire: the program has to be proved and built first", answer.stderr)
 
@@ -171,7 +183,7 @@ class Packed(made.Test):
         made.write(program, made.read(made.PROGRAM) + b"\0")
         os.chmod(program, 0o755)
         made.build(top, program)
-        answer = made.package(top, "--release")
+        answer = made.package(top, "--release", PATH=made.made_up_tools())
         self.assertEqual((answer.returncode, answer.stdout), (1, ""))
         self.assertRegex(answer.stderr, f"release: the release of commit [0-9a-f]{{12}} has version {made.version()}, and another")
         self.assertEqual(made.read(f"{top}/release/PROVED"), made.read(f"{released()}/release/PROVED"))
@@ -225,14 +237,15 @@ class Installed(made.Test):
         self.assertIn("ProgramNotFound", asked.stderr)
 
 
-class Compared(made.Test):
-    def compare(self, top, folder=os.path.dirname(made.PROGRAM), kit=made.KIT):
+class Comparing(made.Test):
+    def compare(self, top, folder=None, kit=made.KIT, **more):
         """Compares what a kit built in a folder with what a checkout carries, as the gate does."""
-        return made.run(f"{top}/tools/release.py", "--compare", folder, kit)
+        surrounded = {"PATH": made.made_up_tools(), **more}
+        return made.run(f"{top}/tools/release.py", "--compare", folder or built(), kit, **surrounded)
 
-    def goes_on(self, answer, line):
+    def goes_on(self, answer, *lines):
         self.assertEqual((answer.returncode, answer.stderr), (0, ""))
-        self.assertRegex(answer.stdout, rf"\A{line}\n\Z")
+        self.assertRegex(answer.stdout, "".join([r"\A", *(rf"{line}\n" for line in lines), r"\Z"]))
 
     def fails(self, answer, line):
         self.assertEqual((answer.returncode, answer.stdout), (1, ""))
@@ -240,23 +253,28 @@ class Compared(made.Test):
 
     def another(self, name):
         """Returns a folder with what was built, in which one file is another."""
-        room = made.room()
-        made.build(room)
-        with open(f"{room}/target/{name}", "ab") as file:
+        room = f"{made.room()}/target"
+        shutil.copytree(built(), room)
+        with open(f"{room}/{name}", "ab") as file:
             file.write(b"\0")
-        return f"{room}/target"
+        return room
 
+
+class Compared(Comparing):
     def test_the_same(self):
-        self.goes_on(self.compare(released()), "Program and libraries in release/ are those that were built here, .*")
+        of_program = "Program and libraries in release/ are those that were built here, .*"
+        of_web = "The package for browsers and Node in release/ is the one that was made here, byte for byte."
+        self.goes_on(self.compare(released()), of_program, of_web)
 
     def test_another_program_or_library_of_the_same_kit(self):
         for name, word in (("chipfire", "program"), *((it, it) for it in made.LIBRARIES)):
             self.fails(self.compare(released(), self.another(name)), f"the same kit built another {word} here .*")
 
     def test_another_kit(self):
-        for folder, built in ((os.path.dirname(made.PROGRAM), "the same"), (self.another("chipfire"), "another program")):
+        for folder, made_here in ((None, "the same"), (self.another("chipfire"), "another program")):
             answer = self.compare(released(), folder, "another kit")
-            self.goes_on(answer, f"{made.KIT} built what is in release/, and another kit built {built} here.")
+            of_program = f"{made.KIT} built what is in release/, and another kit built {made_here} here."
+            self.goes_on(answer, of_program, "The package for browsers and Node in release/ was made by .*, and is not compared: .*")
 
     def test_a_library_is_missing(self):
         for name in made.LIBRARIES:

@@ -304,7 +304,7 @@ class Released(Places):
 
     def released(self, name="clone"):
         top = self.clone(name, program=False)
-        for folder in ("release", "tools", "packing"):
+        for folder in ("release", "tools", "packing", "js", "include"):
             os.mkdir(f"{top}/{folder}")
             with open(f"{top}/{folder}/PROVED", "w", encoding="ascii") as file:
                 file.write("\n")
@@ -320,7 +320,8 @@ class Released(Places):
         self.finds(top, f"{top}/python", path="/usr/bin:/bin")
 
     def test_nothing_is_run_in_it_if_others_may_change_what_is_read(self):
-        for number, place in enumerate(("chipfire", "tools", "packing/PROVED", "release/PROVED", SOURCE, "target")):
+        places = ("chipfire", "tools", "packing/PROVED", "release/PROVED", "js/PROVED", SOURCE, "target")
+        for number, place in enumerate(places):
             with self.subTest(place):
                 top = self.released(f"clone{number}")
                 everybody_s(f"{top}/{place}")

@@ -30,7 +30,7 @@ _AROUND = os.path.join(_PACKAGE, os.pardir, os.pardir)
 CARRIED = os.path.join(HERE, "program", "chipfire")
 
 #: The folders of a clone that `./chipfire` reads and runs.
-_READ = "crates", "packing", "python", "release", "target", "tools"
+_READ = "crates", "include", "js", "packing", "python", "release", "target", "tools"
 
 #: What a package without a program can do, and what helps.
 _WITHOUT = (

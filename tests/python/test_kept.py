@@ -213,14 +213,31 @@ class Kept(unittest.TestCase):
 
 
 FORK = """
-import os, sys, threading, chipfire
+import ctypes, os, sys, threading, time, chipfire
+
+def threads():
+    return len(os.listdir("/proc/self/task"))
+
+def begin_in_c(function):
+    thread = ctypes.c_ulong()
+    of_c = ctypes.CDLL(None)
+    begin, start = of_c.pthread_create, ctypes.cast(getattr(of_c, function), ctypes.c_void_p)
+    assert begin(ctypes.byref(thread), None, start, None) == 0
+
 grid = chipfire.grid(5, 5)
 pile = chipfire.Pile(grid, 3)
 other = chipfire.Pile(grid, 3)
 pile.drop(7); other.drop(7)
 stop = threading.Event()
-if sys.argv[1] == "threads":
-    threading.Thread(target=stop.wait).start()
+if sys.argv[1] == "Python":
+    threading.Thread(target=stop.wait, daemon=True).start()
+if sys.argv[1] == "C":
+    begin_in_c("pause")
+    assert (threading.active_count(), threads()) == (1, 2)
+if sys.argv[1] == "ended":
+    begin_in_c("getpid")
+    while threads() > 1:
+        time.sleep(0.001)
 child = os.fork()
 if child == 0:
     has_library = chipfire.find_library() is not None
@@ -243,10 +260,16 @@ class Forks(unittest.TestCase):
         return subprocess.run(run, stdout=subprocess.PIPE, encoding="ascii", check=True, timeout=100).stdout.split()
 
     def test_a_child_makes_a_pile_of_its_own(self):
-        self.assertEqual(self.told("none"), [str(IS_HERE)] * 2 + ["True"] * 3)
+        for threads in ("none", "ended"):
+            self.assertEqual(self.told(threads), [str(IS_HERE)] * 2 + ["True"] * 3)
 
     def test_a_child_of_a_process_with_threads_asks_the_program(self):
-        self.assertEqual(self.told("threads"), ["False"] * 2 + ["True"] * 3)
+        for threads in ("Python", "C"):
+            self.assertEqual(self.told(threads), ["False"] * 2 + ["True"] * 3)
+
+    def test_where_the_system_tells_no_threads_those_of_python_count(self):
+        with mock.patch("os.listdir", side_effect=FileNotFoundError):
+            self.assertEqual(library._count_threads(), threading.active_count())
 
 
 if __name__ == "__main__":

@@ -8,8 +8,9 @@ overlap, and no other thread writes to one meanwhile. On a fault all stay as the
 
 `plain`, `verify` of a report, and what stands on them go this way if neither the call nor CHIPFIRE names a program, the
 library lies where the program does and has the package's version, and the play is short. Else the program answers, as a
-process. So it does in a forked child of a process that had threads of Python, since the library asks for memory. To load
-a library runs code of it, so it is seen before whether somebody else can change it, and which version is stated of it.
+process. So it does in a forked child of a process that had more threads than one, of any language, since the library
+asks for memory: those of NumPy's linear algebra count, too (OPENBLAS_NUM_THREADS=1 starts none). To load a library runs
+code of it, so it is seen before whether somebody else can change it, and which version is stated of it.
 """
 
 from __future__ import annotations
@@ -76,18 +77,26 @@ _NOTHING = _ZERO.buffer_info()[0], 0
 
 
 class _Fork:
-    """Whether this process was forked beside other threads of Python: then it may take no memory in the library."""
+    """Whether this process was forked beside other threads: then it may take no memory in the library."""
 
     had_threads = False
     is_beside_threads = False
 
     @classmethod
     def before(cls) -> None:
-        cls.had_threads = threading.active_count() > 1
+        cls.had_threads = _count_threads() > 1
 
     @classmethod
     def in_child(cls) -> None:
         cls.is_beside_threads |= cls.had_threads
+
+
+def _count_threads() -> int:
+    """How many threads this process has, of any language; those of Python alone, if the system does not tell."""
+    try:
+        return len(os.listdir("/proc/self/task"))
+    except OSError:
+        return threading.active_count()
 
 
 if hasattr(os, "register_at_fork"):

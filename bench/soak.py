@@ -1,0 +1,182 @@
+#!/usr/bin/env python3
+"""Runs a detector many times around threads, coroutines and processes, beside a count that it never reads.
+
+    bench/soak [--turns N] [--backend NAME].. [--logs N] [--every N] [--patience SECONDS] [--program FILE] [--seed S]
+
+A message is sent on to two processes until it has made some steps, with pauses drawn at random, and threads switch every
+few microseconds. A run is *early* if messages are open when it is over, and *missed* if it is not over, and nothing
+happened for so many seconds. The first runs of each back end, so many as --logs says, leave logs, and the program judges
+them: a log is *wrong* if its claim is not right. What is printed is a line for each back end, with --every one more each
+N runs. The status is 1 if a run was early or missed, or a log wrong.
+"""
+import asyncio
+import collections
+import multiprocessing
+import os
+import random
+import sys
+import tempfile
+import threading
+import time
+
+import frame
+
+NAMES = [0, 1, 2, 3]
+STEPS = 5
+IN_ALL = 2 * (2 ** (STEPS + 1) - 1)
+#: What is told of a run, or of many: whether it was early, whether it was missed, and whether its log is wrong.
+WORDS = ("early", "missed", "wrong")
+
+
+class Count:
+    """How many messages were worked on, in memory that the processes share."""
+
+    def __init__(self):
+        self.value = multiprocessing.Value("Q", 0)
+
+    def add(self):
+        with self.value.get_lock():
+            self.value.value += 1
+
+    def now(self):
+        return self.value.value
+
+
+def heads(draw, step):
+    """Where a message is sent on to."""
+    return [draw.choice(NAMES) for _ in range(2)] if step < STEPS else []
+
+
+def serve(process, count, seed):
+    """The loop of a thread, or of a process."""
+    draw = random.Random(seed)
+    for step in process:
+        for to in heads(draw, step):
+            process.send(to, step + 1)
+            time.sleep(draw.choice([0, 0, 1e-4]))
+        count.add()
+
+
+async def serve_async(process, count, seed):
+    """The loop of a coroutine."""
+    draw = random.Random(seed)
+    async for step in process:
+        for to in heads(draw, step):
+            process.send(to, step + 1)
+            await asyncio.sleep(draw.choice([0, 0, 1e-4]))
+        count.add()
+
+
+def begin(detector):
+    """Wakes two processes."""
+    for name in NAMES[:2]:
+        detector.begin(name, 0)
+
+
+def is_missed(detector, count, patience):
+    """Waits until all is over, and says whether that was missed."""
+    while True:
+        before = count.now()
+        try:
+            detector.wait(patience)
+            return False
+        except TimeoutError:
+            if count.now() == before:
+                return True
+
+
+async def is_missed_async(detector, count, patience):
+    """The same in asyncio."""
+
+    async def ended():
+        await detector
+
+    while True:
+        before = count.now()
+        try:
+            await asyncio.wait_for(ended(), patience)
+            return False
+        except asyncio.TimeoutError:
+            if count.now() == before:
+                return True
+
+
+def run_blocking(chipfire, backend, make, asked, seed, log):
+    """Runs threads or processes, and returns what is told of the run."""
+    detector, count = chipfire.Detector(NAMES, backend, log=log), Count()
+    loops = [make(target=serve, args=(detector[it], count, seed + it), daemon=True) for it in NAMES]
+    begin(detector)
+    for loop in loops:
+        loop.start()
+    missed = is_missed(detector, count, asked.patience)
+    early = not missed and count.now() < IN_ALL
+    for loop in [] if missed else loops:
+        loop.join()
+    return early, missed, is_wrong(detector, log)
+
+
+async def run_async(chipfire, asked, seed, log):
+    """The same in asyncio."""
+    detector, count = chipfire.Detector(NAMES, "asyncio", log=log), Count()
+    loops = [asyncio.ensure_future(serve_async(detector[it], count, seed + it)) for it in NAMES]
+    begin(detector)
+    missed = await is_missed_async(detector, count, asked.patience)
+    early = not missed and count.now() < IN_ALL
+    if not missed:
+        await asyncio.gather(*loops)
+    return early, missed, is_wrong(detector, log)
+
+
+def is_wrong(detector, log):
+    """Whether the claim in the log of a run, if there is one, is not right."""
+    return log is not None and not detector.check().is_right
+
+
+def run(chipfire, backend, asked, seed, log):
+    """Runs a detector of a back end once."""
+    if backend == "asyncio":
+        return asyncio.run(run_async(chipfire, asked, seed, log))
+    make = threading.Thread if backend == "threading" else multiprocessing.Process
+    return run_blocking(chipfire, backend, make, asked, seed, log)
+
+
+def told(backend, runs, counts):
+    """The line of a back end."""
+    shown = ", ".join(f"{counts[word]} {word}" for word in WORDS)
+    return f"{backend}: {runs} runs, {shown}"
+
+
+def soak(chipfire, backend, asked, room):
+    """Runs the detector of a back end many times, and returns how many runs were what."""
+    counts = collections.Counter()
+    for turn in range(asked.turns):
+        log = f"{room}/{backend}-{turn}" if turn < asked.logs else None
+        ran = run(chipfire, backend, asked, asked.seed + 10 * turn, log)
+        counts.update(dict(zip(WORDS, ran)))
+        if asked.every and (turn + 1) % asked.every == 0:
+            print(told(backend, turn + 1, counts), flush=True)
+    if not asked.every or asked.turns % asked.every:
+        print(told(backend, asked.turns, counts), flush=True)
+    return counts
+
+
+def main():
+    words = frame.parser(__doc__, turns=1000)
+    backends = ["threading", "asyncio", "multiprocessing"]
+    words.add_argument("--backend", action="append", choices=backends)
+    words.add_argument("--logs", type=int, default=3)
+    words.add_argument("--every", type=int, default=0)
+    words.add_argument("--patience", type=float, default=60)
+    words.add_argument("--seed", type=int, default=1)
+    asked = frame.read_words(words)
+    os.environ["CHIPFIRE"] = asked.program
+    import chipfire  # (frame has Python find it)
+
+    sys.setswitchinterval(1e-5)
+    with tempfile.TemporaryDirectory(prefix="soak-", dir=frame.ROOM) as room:
+        ran = [soak(chipfire, it, asked, room) for it in asked.backend or backends]
+    sys.exit(any(sum(it.values()) for it in ran))
+
+
+if __name__ == "__main__":
+    main()

@@ -47,8 +47,61 @@
 extern "C" {
 #endif
 
-/* The version: 1000000 * major + 1000 * minor + patch. */
+/* The version of this header, and that of the library: 1000000 * major + 1000 * minor + patch. */
+#define CHIPFIRE_VERSION UINT64_C(8000)
 uint64_t chipfire_version(void);
+
+/* What calls answer: success, or a fault by the name that `chipfire explain` has for it. */
+enum chipfire_status {
+    CHIPFIRE_OK = 0,
+    CHIPFIRE_FAULT_VERTICES = 1,
+    CHIPFIRE_FAULT_SINK = 2,
+    CHIPFIRE_FAULT_EDGE_COUNT = 3,
+    CHIPFIRE_FAULT_ENDPOINT = 4,
+    CHIPFIRE_FAULT_MULT = 5,
+    CHIPFIRE_FAULT_LOOP = 6,
+    CHIPFIRE_FAULT_FROM_SINK = 7,
+    CHIPFIRE_FAULT_UNREACHED = 8,
+    CHIPFIRE_FAULT_START_LENGTH = 9,
+    CHIPFIRE_FAULT_TOTAL = 10,
+    CHIPFIRE_FAULT_LIMIT = 11,
+    CHIPFIRE_FAULT_LENGTHS = 12,
+    CHIPFIRE_FAULT_STOPPED = 13,
+    CHIPFIRE_FAULT_NO_PILE = 14,
+    CHIPFIRE_FAULT_VERTEX = 26,
+    CHIPFIRE_FAULT_BOOKS = 46,
+    CHIPFIRE_FAULT_NOT_YET = 47,
+    CHIPFIRE_FAULT_DIFFERS = 53,
+    CHIPFIRE_FAULT_NO_MEMORY = 90
+};
+
+/* Returns what a status means, as a sentence in static memory. */
+static inline const char *chipfire_strerror(uint64_t status)
+{
+    switch (status) {
+    case CHIPFIRE_OK: return "success";
+    case CHIPFIRE_FAULT_VERTICES: return "the graph has no vertices, or more than 2097152";
+    case CHIPFIRE_FAULT_SINK: return "the sink is no vertex";
+    case CHIPFIRE_FAULT_EDGE_COUNT: return "the graph has more than 8388608 edges";
+    case CHIPFIRE_FAULT_ENDPOINT: return "an end of the edge is no vertex";
+    case CHIPFIRE_FAULT_MULT: return "the edge sends no chips, or more than 1048576";
+    case CHIPFIRE_FAULT_LOOP: return "the edge goes back into its own tail";
+    case CHIPFIRE_FAULT_FROM_SINK: return "the edge leaves the sink";
+    case CHIPFIRE_FAULT_UNREACHED: return "no walk leads from the vertex to the sink";
+    case CHIPFIRE_FAULT_START_LENGTH: return "the chips are not one number for each vertex";
+    case CHIPFIRE_FAULT_TOTAL: return "there are more than 1099511627776 chips in all";
+    case CHIPFIRE_FAULT_LIMIT: return "the firing limit is above 1099511627776";
+    case CHIPFIRE_FAULT_LENGTHS: return "slices that belong together have other lengths";
+    case CHIPFIRE_FAULT_STOPPED: return "the limit stopped the play";
+    case CHIPFIRE_FAULT_NO_PILE: return "there is no pile";
+    case CHIPFIRE_FAULT_VERTEX: return "the drop falls on no vertex";
+    case CHIPFIRE_FAULT_BOOKS: return "no such edge, a count is too high, or the books of the part are not sound";
+    case CHIPFIRE_FAULT_NOT_YET: return "not all of these messages may be acknowledged yet";
+    case CHIPFIRE_FAULT_DIFFERS: return "what was claimed is not how the game ends";
+    case CHIPFIRE_FAULT_NO_MEMORY: return "memory ran out";
+    default: return "no call answers this status";
+    }
+}
 
 /* Plays many games on one graph, each to its end, or until its limit lets no vertex fire that could.
  *

@@ -76,6 +76,41 @@ class Explained(Room):
         for number in numbers:
             self.assertRegex(self.runs(library.PROGRAM, "explain", number), rf"^fault {number} ")
 
+    #: What the sentences of the header leave out of those of the program: places, and limits of files.
+    SAID = {"edge i": "the edge", "vertex v": "the vertex", " of drop i": "", "4096": "2097152", "65536": "8388608"}
+    #: Those of a fault that files have too, in other words.
+    OWN = {26: "the drop falls on no vertex", 53: "what was claimed is not how the game ends"}
+
+    def told(self):
+        """Returns what the header says of each status, by what it is called there: its number, and the sentence."""
+        need("gcc")
+        names = re.findall(r"^    CHIPFIRE_(\w+) = \d+,?$", text_of(HEADER), re.MULTILINE)
+        shown = "".join(f' printf("%d %s\\n", CHIPFIRE_{it}, chipfire_strerror(CHIPFIRE_{it}));\n' for it in names)
+        lines = f'#include <chipfire.h>\n#include <stdio.h>\nint main(void) {{\n{shown} puts(chipfire_strerror(15)); }}\n'
+        with open(f"{self.room}/told.c", "w", encoding="ascii") as file:
+            file.write(lines)
+        self.runs("gcc", "-std=c11", *STRICT, f"{self.room}/told.c", "-o", f"{self.room}/told")
+        *told, unknown = self.runs(f"{self.room}/told").splitlines()
+        self.assertEqual(unknown, "no call answers this status")
+        return {name: (int(line.partition(" ")[0]), line.partition(" ")[2]) for name, line in zip(names, told)}
+
+    def test_each_status_by_its_name(self):
+        """Each fault of the header has a constant, called as the program calls it, and the program's sentence."""
+        told = self.told()
+        self.assertEqual(told.pop("OK"), (0, "success"))
+        self.assertEqual([number for number, _ in told.values()], [*range(1, 15), 26, 46, 47, 53, 90])
+        for name, (number, sentence) in told.items():
+            explained = self.runs(library.PROGRAM, "explain", str(number)).splitlines()[0]
+            its, wanted = re.fullmatch(r"fault \d+ (\w+)[ \w]*: (.*)", explained).groups()
+            self.assertEqual(name, "FAULT_" + re.sub(r"(?<=[a-z])(?=[A-Z])", "_", its).upper())
+            for old, new in self.SAID.items():
+                wanted = wanted.replace(old, new)
+            self.assertEqual(sentence, self.OWN.get(number, wanted))
+
+    def test_the_version_of_the_header_is_that_of_the_library(self):
+        version = re.search(r"^#define CHIPFIRE_VERSION UINT64_C\((\d+)\)$", text_of(HEADER), re.MULTILINE)[1]
+        self.assertEqual(int(version), library.LIBRARY.chipfire_version())
+
     def test_each_refusal_of_books(self):
         """The program explains it, and FORMATS.md names the page that has it."""
         header, formats = map(text_of, (HEADER, f"{ROOT}/docs/FORMATS.md"))

@@ -1,0 +1,610 @@
+/* libchipfire for C++17: what chipfire.h declares, with memory that is owned, and exceptions in place of statuses.
+ *
+ *     chipfire::Graph path(4, 3);                     4 vertices, and vertex 3 is the sink
+ *     path.add(0, 3); path.add(0, 1); ..              its edges
+ *     auto games = chipfire::stabilize_all(path, {0, 5, 0, 0});
+ *     chipfire::Pile pile(path, {0, 5, 0, 0});        a game that is kept, on which chips are dropped
+ *     auto fell = pile.drop(1);
+ *     chipfire::Books books(ins, outs);               the counters of a process (docs/tasks/detect-your-own.md)
+ *
+ * What each call does, which numbers it takes, and what it answers, chipfire.h says. Numbers that a call reads may be a
+ * vector, an array, a list in braces, or a pointer with a length. A fault is thrown as chipfire::Error, and changes nothing
+ * but where chipfire.h says so. No call may be made in the forked child of a process that has threads. */
+#ifndef CHIPFIRE_HPP
+#define CHIPFIRE_HPP
+
+#include <chipfire.h>
+
+#include <algorithm>
+#include <cstddef>
+#include <cstdint>
+#include <initializer_list>
+#include <iterator>
+#include <memory>
+#include <mutex>
+#include <optional>
+#include <ostream>
+#include <set>
+#include <stdexcept>
+#include <string>
+#include <utility>
+#include <vector>
+
+namespace chipfire {
+
+/// The most chips of a game, and how often a vertex may fire at most.
+constexpr std::uint64_t most = std::uint64_t{1} << 40;
+
+/// The fault of a process that sends while it is passive, as `chipfire judge` names it.
+constexpr std::uint64_t fault_passive = 32;
+
+/// A fault, with its number, its place as chipfire.h says where that is, and its text.
+class Error : public std::runtime_error {
+public:
+    Error(std::uint64_t fault, std::uint64_t place, const std::string &text)
+        : std::runtime_error(text), fault_(fault), place_(place)
+    {
+    }
+
+    /// The fault of a call of the library.
+    Error(std::uint64_t fault, std::uint64_t place)
+        : Error(fault, place, "fault " + std::to_string(fault) + " at " + std::to_string(place) + ": " + chipfire_strerror(fault))
+    {
+    }
+
+    std::uint64_t fault() const noexcept { return fault_; }
+    std::uint64_t place() const noexcept { return place_; }
+    const char *text() const noexcept { return what(); }
+
+private:
+    std::uint64_t fault_, place_;
+};
+
+/// Numbers that a call reads: a view of a vector, an array, a list, or memory of the caller, which stays there meanwhile.
+class Numbers {
+public:
+    Numbers() = default;
+    Numbers(const std::uint64_t *data, std::size_t size) : data_(data), size_(size) {}
+    Numbers(std::initializer_list<std::uint64_t> list) : data_(std::data(list)), size_(std::size(list)) {}
+    template <class Container, class = decltype(std::data(std::declval<const Container &>()))>
+    Numbers(const Container &its) : data_(std::data(its)), size_(std::size(its))
+    {
+    }
+
+    const std::uint64_t *data() const noexcept { return data_; }
+    std::size_t size() const noexcept { return size_; }
+
+private:
+    const std::uint64_t *data_ = nullptr;
+    std::size_t size_ = 0;
+};
+
+/// Numbers that a call may write: a view of the same, but of no list.
+class Room {
+public:
+    Room(std::uint64_t *data, std::size_t size) : data_(data), size_(size) {}
+    template <class Container, class = decltype(std::data(std::declval<Container &>()))>
+    Room(Container &its) : data_(std::data(its)), size_(std::size(its))
+    {
+    }
+
+    std::uint64_t *data() const noexcept { return data_; }
+    std::size_t size() const noexcept { return size_; }
+
+private:
+    std::uint64_t *data_;
+    std::size_t size_;
+};
+
+/// A graph: its vertices, its sink, and its edges. Calls that take it say what is wrong with it.
+class Graph {
+public:
+    Graph(std::uint64_t vertices, std::uint64_t sink) : vertices_(vertices), sink_(sink) {}
+
+    /// A graph with these edges: their tails, their heads, and how many chips a firing sends along each.
+    Graph(std::uint64_t vertices, std::uint64_t sink, std::vector<std::uint64_t> tails, std::vector<std::uint64_t> heads,
+          std::vector<std::uint64_t> mults)
+        : vertices_(vertices), sink_(sink), tails_(std::move(tails)), heads_(std::move(heads)), mults_(std::move(mults))
+    {
+    }
+
+    /// Adds an edge.
+    void add(std::uint64_t tail, std::uint64_t head, std::uint64_t mult = 1)
+    {
+        tails_.push_back(tail);
+        heads_.push_back(head);
+        mults_.push_back(mult);
+    }
+
+    std::uint64_t vertices() const noexcept { return vertices_; }
+    std::uint64_t sink() const noexcept { return sink_; }
+    Numbers tails() const noexcept { return tails_; }
+    Numbers heads() const noexcept { return heads_; }
+    Numbers mults() const noexcept { return mults_; }
+
+private:
+    std::uint64_t vertices_, sink_;
+    std::vector<std::uint64_t> tails_, heads_, mults_;
+};
+
+namespace detail {
+
+/// Throws the fault of a call, if it has one.
+inline void must(std::uint64_t fault, std::uint64_t place = 0)
+{
+    if (fault != CHIPFIRE_OK) throw Error(fault, place);
+}
+
+/// Calls a function of the library on a graph, with what it takes behind that, and throws its fault.
+template <class Function, class... Words>
+void call(Function function, const Graph &graph, Words... words)
+{
+    std::uint64_t place = 0;
+    const Numbers tails = graph.tails(), heads = graph.heads(), mults = graph.mults();
+    const std::uint64_t fault = function(graph.vertices(), graph.sink(), tails.data(), tails.size(), heads.data(),
+                                         heads.size(), mults.data(), mults.size(), words..., &place);
+    must(fault, place);
+}
+
+/// How many configurations so many numbers are: a rest makes one more, which the library refuses.
+inline std::size_t rows(const Graph &graph, std::size_t numbers)
+{
+    const std::uint64_t vertices = std::max(graph.vertices(), std::uint64_t{1});
+    return static_cast<std::size_t>(numbers / vertices + (numbers % vertices != 0));
+}
+
+/// A configuration of zeros, if the graph has not too many vertices for one.
+inline std::vector<std::uint64_t> zeros(const Graph &graph)
+{
+    if (graph.vertices() > std::uint64_t{1} << 21) throw Error(CHIPFIRE_FAULT_VERTICES, 0);
+    return std::vector<std::uint64_t>(static_cast<std::size_t>(graph.vertices()));
+}
+
+/// Calls a function of the library that puts another configuration in place of each.
+template <class Function>
+std::vector<std::uint64_t> replaced(Function function, const Graph &graph, std::vector<std::uint64_t> chips)
+{
+    call(function, graph, rows(graph, chips.size()), chips.data(), chips.size());
+    return chips;
+}
+
+}  // namespace detail
+
+/// Games at their ends: chips and firings by vertex, of one game behind those of another, and of each how many vertices the
+/// limit stopped.
+struct Games {
+    std::vector<std::uint64_t> chips, fired, stopped;
+};
+
+/// What drops set off: of each how often vertices fired, how many different ones, and how many chips came to the sink.
+struct Drops {
+    explicit Drops(std::size_t count) : sizes(count), extents(count), losts(count) {}
+
+    std::vector<std::uint64_t> sizes, extents, losts;
+};
+
+/// The same of one drop.
+struct Drop {
+    std::uint64_t size, extent, lost;
+};
+
+/// The least burning script, and how many chips it takes from each vertex on balance.
+struct Burning {
+    std::vector<std::uint64_t> script, chips;
+};
+
+/// Fault 13 of drops on a pile: the limit stopped one. It has the rows of those that were made before.
+class Stopped : public Error {
+public:
+    Stopped(std::uint64_t count, Drops made) : Error(CHIPFIRE_FAULT_STOPPED, count), made_(std::move(made)) {}
+
+    const Drops &made() const noexcept { return made_; }
+
+private:
+    Drops made_;
+};
+
+/// Plays games in memory of the caller (chipfire_stabilize_all).
+inline void stabilize_all(const Graph &graph, Room chips, Room fired, Room stopped, std::uint64_t limit = most,
+                          Numbers guesses = {})
+{
+    detail::call(chipfire_stabilize_all, graph, limit, guesses.data(), guesses.size(), chips.data(), chips.size(),
+                 fired.data(), fired.size(), stopped.data(), stopped.size());
+}
+
+/// Plays games, and returns their ends.
+inline Games stabilize_all(const Graph &graph, std::vector<std::uint64_t> chips, std::uint64_t limit = most,
+                           Numbers guesses = {})
+{
+    Games games{std::move(chips), {}, {}};
+    games.fired.resize(games.chips.size());
+    games.stopped.resize(detail::rows(graph, games.chips.size()));
+    stabilize_all(graph, games.chips, games.fired, games.stopped, limit, guesses);
+    return games;
+}
+
+/// Plays a game in memory of the caller, and drops amounts[i] chips on vertex at[i], one i after another
+/// (chipfire_avalanches).
+inline Drops avalanches(const Graph &graph, Room chips, Numbers at, Numbers amounts, std::uint64_t limit = most)
+{
+    Drops drops(at.size());
+    detail::call(chipfire_avalanches, graph, limit, at.data(), at.size(), amounts.data(), amounts.size(), chips.data(),
+                 chips.size(), drops.sizes.data(), at.size(), drops.extents.data(), at.size(), drops.losts.data(), at.size());
+    return drops;
+}
+
+/// Says whether counts and chips are those at the end of a game.
+inline bool verify(const Graph &graph, Numbers chips, Numbers fired, Numbers ends, std::uint64_t limit = most)
+{
+    try {
+        detail::call(chipfire_verify, graph, limit, chips.data(), chips.size(), fired.data(), fired.size(), ends.data(),
+                     ends.size());
+    } catch (const Error &error) {
+        if (error.fault() != CHIPFIRE_FAULT_DIFFERS) throw;
+        return false;
+    }
+    return true;
+}
+
+/// Finds the least burning script.
+inline Burning burning(const Graph &graph)
+{
+    Burning found{detail::zeros(graph), detail::zeros(graph)};
+    detail::call(chipfire_burning, graph, found.script.data(), found.script.size(), found.chips.data(), found.chips.size());
+    return found;
+}
+
+/// Says which configurations are recurrent: 1 for each that is, else 0.
+inline std::vector<std::uint64_t> are_recurrent(const Graph &graph, Numbers chips)
+{
+    std::vector<std::uint64_t> flags(detail::rows(graph, chips.size()));
+    detail::call(chipfire_are_recurrent, graph, chips.data(), chips.size(), flags.data(), flags.size());
+    return flags;
+}
+
+/// Returns the recurrent configuration that is equivalent to each.
+inline std::vector<std::uint64_t> recurrent(const Graph &graph, std::vector<std::uint64_t> chips)
+{
+    return detail::replaced(chipfire_recurrent, graph, std::move(chips));
+}
+
+/// Returns the superstable configuration that is equivalent to each.
+inline std::vector<std::uint64_t> superstable(const Graph &graph, std::vector<std::uint64_t> chips)
+{
+    return detail::replaced(chipfire_superstable, graph, std::move(chips));
+}
+
+/// Returns the inverse of each in the sandpile group.
+inline std::vector<std::uint64_t> inverse(const Graph &graph, std::vector<std::uint64_t> chips)
+{
+    return detail::replaced(chipfire_inverse, graph, std::move(chips));
+}
+
+/// Finds the identity of the sandpile group.
+inline std::vector<std::uint64_t> identity(const Graph &graph)
+{
+    std::vector<std::uint64_t> chips = detail::zeros(graph);
+    detail::call(chipfire_identity, graph, chips.data(), chips.size());
+    return chips;
+}
+
+/// A pile that is kept: chips on a graph, on which more are dropped. It owns its memory, and moves. One thread at a time
+/// calls. On a pile that was moved from there is fault 14.
+class Pile {
+public:
+    /// Makes a pile. It plays nothing.
+    Pile(const Graph &graph, Numbers chips, std::uint64_t limit = most)
+        : vertices_(static_cast<std::size_t>(graph.vertices())), pile_(new chipfire_pile{})
+    {
+        std::uint64_t place = 0;
+        const Numbers tails = graph.tails(), heads = graph.heads(), mults = graph.mults();
+        const std::uint64_t fault =
+            chipfire_pile_new(pile_.get(), graph.vertices(), graph.sink(), tails.data(), tails.size(), heads.data(),
+                              heads.size(), mults.data(), mults.size(), limit, chips.data(), chips.size(), &place);
+        detail::must(fault, place);
+    }
+
+    /// Puts other chips there, with counts 0. It plays nothing.
+    void put(Numbers chips, std::uint64_t limit = most)
+    {
+        detail::must(chipfire_pile_put(its(), limit, chips.data(), chips.size()));
+    }
+
+    /// Drops chips on a vertex, and plays to the end.
+    Drop drop(std::uint64_t vertex, std::uint64_t amount = 1)
+    {
+        Drop set_off{};
+        detail::must(chipfire_pile_drop(its(), vertex, amount, &set_off.size, &set_off.extent, &set_off.lost));
+        return set_off;
+    }
+
+    /// Drops amounts[i] chips on vertex at[i], one i after another. If the limit stops a play, that is thrown as Stopped.
+    Drops drops(Numbers at, Numbers amounts)
+    {
+        Drops set_off(at.size());
+        std::uint64_t place = 0;
+        const std::uint64_t fault =
+            chipfire_pile_drops(its(), at.data(), at.size(), amounts.data(), amounts.size(), set_off.sizes.data(), at.size(),
+                                set_off.extents.data(), at.size(), set_off.losts.data(), at.size(), &place);
+        if (fault == CHIPFIRE_FAULT_STOPPED) {
+            for (auto rows : {&set_off.sizes, &set_off.extents, &set_off.losts}) rows->resize(static_cast<std::size_t>(place));
+            throw Stopped(place, std::move(set_off));
+        }
+        detail::must(fault, place);
+        return set_off;
+    }
+
+    /// The chips of each vertex.
+    std::vector<std::uint64_t> chips()
+    {
+        std::vector<std::uint64_t> found(vertices_);
+        detail::must(chipfire_pile_chips(its(), found.data(), found.size()));
+        return found;
+    }
+
+    /// How often each vertex has fired, since the pile was made or chips were put there.
+    std::vector<std::uint64_t> fired()
+    {
+        std::vector<std::uint64_t> found(vertices_);
+        detail::must(chipfire_pile_fired(its(), found.data(), found.size()));
+        return found;
+    }
+
+    /// How many bytes the pile takes.
+    std::uint64_t size() { return chipfire_pile_size(its()); }
+
+private:
+    struct Free {
+        void operator()(chipfire_pile *pile) const noexcept
+        {
+            chipfire_pile_free(pile);
+            delete pile;
+        }
+    };
+
+    chipfire_pile *its() const
+    {
+        if (pile_ == nullptr) throw Error(CHIPFIRE_FAULT_NO_PILE, 0);
+        return pile_.get();
+    }
+
+    std::size_t vertices_;
+    std::unique_ptr<chipfire_pile, Free> pile_;
+};
+
+/// How many messages of an edge its head has acknowledged so far: for Books::settled of the edge's tail.
+struct Acknowledged {
+    std::uint64_t edge, count;
+};
+
+/// The books of a process: its counters for the detector of Dijkstra and Scholten. docs/tasks/detect-your-own.md says what
+/// is proved, and which duties are the caller's.
+///
+/// The duties are calls, and nobody else can see to their moment:
+///
+///     sent(edge)           before the message can be got
+///     got(edge)            with the message, before it is worked on
+///     add_work(), done()   when more is to be done, and behind the work on a message or on what was added
+///     acknowledge()        at any time: the counts go to the tails of their edges
+///     settled(edge, count) at any time, with what acknowledge() of the edge's head returned
+///     is_over()            of the root alone
+///
+/// Any threads may call. A process is at work on each message from `got` to `done`, and passive when it is at work on
+/// nothing. The root alone begins at work, on one piece, and no edge leads to it. What is refused is thrown as an Error whose
+/// place is the process, and changes nothing: fault 46 for an edge, a count or a piece of work that is none, and 32 if the
+/// process sends, or has more to do, while it is passive.
+///
+/// `log` gets a row `process,kind,channel` for `chipfire judge` at each duty. It stays as long as the books.
+class Books {
+public:
+    Books(std::vector<std::uint64_t> ins, std::vector<std::uint64_t> outs, bool is_root = false, std::uint64_t process = 0,
+          std::ostream *log = nullptr)
+        : ins_(tallies(std::move(ins))), outs_(tallies(std::move(outs))), is_root_(is_root), process_(process), log_(log)
+    {
+        if (is_root && !ins_.empty()) throw std::invalid_argument("no edge leads to the root: put one before the process");
+        point();
+        must(chipfire_books_open(&books_), "an edge is named twice, or has the number of none");
+        if (is_root) note("active");
+    }
+
+    Books(const Books &) = delete;
+    Books &operator=(const Books &) = delete;
+
+    /// Adds an edge into the process, or out of it, as if it had been there with counts 0 from the start.
+    void add_in(std::uint64_t edge)
+    {
+        const std::lock_guard<std::mutex> held(lock_);
+        if (is_root_) throw std::invalid_argument("no edge leads to the root");
+        add(ins_, edge);
+    }
+    void add_out(std::uint64_t edge)
+    {
+        const std::lock_guard<std::mutex> held(lock_);
+        add(outs_, edge);
+    }
+
+    /// Notes a message out of the process, before anybody can get it.
+    void sent(std::uint64_t edge)
+    {
+        const std::lock_guard<std::mutex> held(lock_);
+        if (work_ == 0) refuse(fault_passive, "it sends on edge " + std::to_string(edge) + " while it is passive");
+        must(chipfire_books_sent(&books_, edge), "no message can be sent on edge " + std::to_string(edge));
+        note("send", edge);
+    }
+
+    /// Notes a message into the process, which is at work on it until `done`.
+    void got(std::uint64_t edge)
+    {
+        const std::lock_guard<std::mutex> held(lock_);
+        const auto open = open_.insert(edge);
+        const std::uint64_t fault = chipfire_books_got(&books_, edge);
+        if (fault != CHIPFIRE_OK && open.second) open_.erase(open.first);
+        must(fault, "no message can be got on edge " + std::to_string(edge));
+        work_++;
+        note("receive", edge);
+    }
+
+    /// Notes that so much more is to be done, each until a `done` of its own.
+    void add_work(std::uint64_t pieces = 1)
+    {
+        const std::lock_guard<std::mutex> held(lock_);
+        if (work_ == 0) refuse(fault_passive, "it has more to do while it is passive");
+        work_ += pieces;
+    }
+
+    /// Notes that the work on a message, or a piece that was added, has ended. With the last one the process is passive.
+    void done()
+    {
+        const std::lock_guard<std::mutex> held(lock_);
+        if (work_ == 0) refuse(CHIPFIRE_FAULT_BOOKS, "it is done with more than it had to do");
+        if (--work_ == 0) note("passive");
+    }
+
+    /// Acknowledges all that may be. Of each edge with something new: how many of its messages are acknowledged so far. A
+    /// later count of an edge makes an earlier one needless.
+    std::vector<Acknowledged> acknowledge()
+    {
+        const std::lock_guard<std::mutex> held(lock_);
+        std::vector<Acknowledged> found;
+        found.reserve(open_.size());
+        const std::vector<std::uint64_t> open(open_.begin(), open_.end());
+        const std::uint64_t parent = books_.parent;
+        for (const std::uint64_t edge : open) {
+            if (edge != parent) acknowledge(edge, found);
+        }
+        // (its last message waits for those of all other edges)
+        if (parent != CHIPFIRE_NEUTRAL) acknowledge(parent, found);
+        return found;
+    }
+
+    /// Notes how many messages of an edge are acknowledged so far, as its head says or said before. Returns how many of these
+    /// are new.
+    std::uint64_t settled(std::uint64_t edge, std::uint64_t count)
+    {
+        const std::lock_guard<std::mutex> held(lock_);
+        std::uint64_t more = 0;
+        must(chipfire_books_settled(&books_, edge, count, &more),
+             std::to_string(count) + " acknowledgements on edge " + std::to_string(edge) + " are more than its messages");
+        note("hear", edge, more);
+        return more;
+    }
+
+    /// Whether all is over, as the root sees it.
+    bool is_over()
+    {
+        const std::lock_guard<std::mutex> held(lock_);
+        if (!is_root_) throw std::logic_error("process " + std::to_string(process_) + " is not the root, which alone can know");
+        std::uint64_t over = 0;
+        must(chipfire_books_is_over(&books_, work_ == 0, &over), "its books are not sound");
+        if (over != 0 && !has_claimed_) note("over");
+        has_claimed_ = has_claimed_ || over != 0;
+        return over != 0;
+    }
+
+    /// How many acknowledgements the process waits for.
+    std::uint64_t deficit() const
+    {
+        const std::lock_guard<std::mutex> held(lock_);
+        return books_.deficit;
+    }
+
+    /// The edge of the message that engaged the process, if one did.
+    std::optional<std::uint64_t> parent() const
+    {
+        const std::lock_guard<std::mutex> held(lock_);
+        return books_.parent == CHIPFIRE_NEUTRAL ? std::nullopt : std::optional<std::uint64_t>(books_.parent);
+    }
+
+    /// Whether the process is at work.
+    bool is_active() const
+    {
+        const std::lock_guard<std::mutex> held(lock_);
+        return work_ != 0;
+    }
+
+private:
+    using Side = std::vector<chipfire_tally>;
+
+    /// Tallies with counts 0, by ascending edges.
+    static Side tallies(std::vector<std::uint64_t> edges)
+    {
+        std::sort(edges.begin(), edges.end());
+        Side side;
+        side.reserve(edges.size());
+        for (const std::uint64_t edge : edges) side.push_back({edge, 0, 0});
+        return side;
+    }
+
+    /// Has the struct point to the tallies.
+    void point()
+    {
+        books_.ins = ins_.data();
+        books_.ins_len = ins_.size();
+        books_.outs = outs_.data();
+        books_.outs_len = outs_.size();
+    }
+
+    void add(Side &side, std::uint64_t edge)
+    {
+        const auto place = std::lower_bound(side.begin(), side.end(), edge,
+                                            [](const chipfire_tally &tally, std::uint64_t its) { return tally.edge < its; });
+        const bool is_there = place != side.end() && place->edge == edge;
+        if (is_there || edge == CHIPFIRE_NEUTRAL) {
+            refuse(CHIPFIRE_FAULT_BOOKS, "edge " + std::to_string(edge) + " is there, or the number of none");
+        }
+        side.insert(place, {edge, 0, 0});
+        point();
+    }
+
+    /// Acknowledges what may be on an edge.
+    void acknowledge(std::uint64_t edge, std::vector<Acknowledged> &found)
+    {
+        std::uint64_t count = 0, word = 0;
+        must(chipfire_books_acknowledge(&books_, edge, work_ == 0, &count, &word), "its acknowledgements on an edge");
+        if (count == 0) return;
+        note("tell", edge, count);
+        found.push_back({edge, word});
+        if (is_settled(edge)) open_.erase(edge);
+    }
+
+    /// Whether all messages of an edge into the process are acknowledged.
+    bool is_settled(std::uint64_t edge) const
+    {
+        const auto its = std::lower_bound(ins_.begin(), ins_.end(), edge,
+                                          [](const chipfire_tally &tally, std::uint64_t it) { return tally.edge < it; });
+        return its->messages == its->answered;
+    }
+
+    void must(std::uint64_t fault, const std::string &why) const
+    {
+        if (fault != CHIPFIRE_OK) refuse(fault, why);
+    }
+
+    [[noreturn]] void refuse(std::uint64_t fault, const std::string &why) const
+    {
+        throw Error(fault, process_, "fault " + std::to_string(fault) + ": process " + std::to_string(process_) + ": " + why);
+    }
+
+    /// Writes so many rows, if there is a log.
+    void note(const char *kind, std::uint64_t channel = 0, std::uint64_t times = 1)
+    {
+        if (log_ == nullptr) return;
+        for (; times > 0; times--) *log_ << process_ << ',' << kind << ',' << channel << '\n';
+        log_->flush();
+    }
+
+    mutable std::mutex lock_;
+    Side ins_, outs_;
+    chipfire_books books_{nullptr, 0, nullptr, 0, CHIPFIRE_NEUTRAL, 0, 0};
+    bool is_root_, has_claimed_ = false;
+    std::uint64_t process_;
+    /// How many messages and pieces of work the process is at work on.
+    std::uint64_t work_ = is_root_ ? 1 : 0;
+    /// The edges with messages that are not acknowledged.
+    std::set<std::uint64_t> open_;
+    std::ostream *log_;
+};
+
+}  // namespace chipfire
+
+#endif

@@ -63,9 +63,9 @@ def built_program():
     return BUILT
 
 
-def compiled(words, source, name):
-    """Compiles a source in bench/ by these words, and returns the path of what it makes."""
-    subprocess.run([*words, "-o", f"{ROOM}/{name}", f"{BENCH}/{source}"], check=True)
+def compiled(words, source, name, libraries=()):
+    """Compiles a source in bench/ by these words, links it with libraries, and returns the path of what it makes."""
+    subprocess.run([*words, "-o", f"{ROOM}/{name}", f"{BENCH}/{source}", *libraries], check=True)
     return f"{ROOM}/{name}"
 
 

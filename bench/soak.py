@@ -1,19 +1,23 @@
 #!/usr/bin/env python3
-"""Runs a detector many times around threads, coroutines and processes, beside a count that it never reads.
+"""Runs detectors many times, beside a count that they never read: that of Python around threads, coroutines and processes,
+and the pool of examples/c/pool.cpp.
 
     bench/soak [--turns N] [--backend NAME].. [--logs N] [--every N] [--patience SECONDS] [--program FILE] [--seed S]
 
-A message is sent on to two processes until it has made some steps, with pauses drawn at random, and threads switch every
-few microseconds. A run is *early* if messages are open when it is over, and *missed* if it is not over, and nothing
+A message is sent on to two processes until it has made some steps, with pauses drawn at random, and threads of Python
+switch every few microseconds; a task of the pool pushes two more. A run is *early* if messages are open when it is over, and *missed* if it is not over, and nothing
 happened for so many seconds. The first runs of each back end, so many as --logs says, leave logs, and the program judges
 them: a log is *wrong* if its claim is not right. What is printed is a line for each back end, with --every one more each
-N runs. The status is 1 if a run was early or missed, or a log wrong.
+N runs. FILE is the program that ./chipfire built, if not said; the libraries lie beside it. The pool is left out, and named,
+where there is no g++. The status is 1 if a run was early or missed, or a log wrong.
 """
 import asyncio
 import collections
 import multiprocessing
 import os
 import random
+import shutil
+import subprocess
 import sys
 import tempfile
 import threading
@@ -26,6 +30,8 @@ STEPS = 5
 IN_ALL = 2 * (2 ** (STEPS + 1) - 1)
 #: What is told of a run, or of many: whether it was early, whether it was missed, and whether its log is wrong.
 WORDS = ("early", "missed", "wrong")
+BACKENDS = ["pool", "threading", "asyncio", "multiprocessing"]
+COMPILE = ["g++", "-std=c++17", "-O2", "-pthread", f"-I{frame.ROOT}/include"]
 
 
 class Count:
@@ -146,24 +152,65 @@ def told(backend, runs, counts):
     return f"{backend}: {runs} runs, {shown}"
 
 
-def soak(chipfire, backend, asked, room):
-    """Runs the detector of a back end many times, and returns how many runs were what."""
-    counts = collections.Counter()
+def soak_python(chipfire, backend, asked, room):
+    """Runs the detector of a back end again and again, and yields what is told of each run."""
     for turn in range(asked.turns):
         log = f"{room}/{backend}-{turn}" if turn < asked.logs else None
         ran = run(chipfire, backend, asked, asked.seed + 10 * turn, log)
-        counts.update(dict(zip(WORDS, ran)))
-        if asked.every and (turn + 1) % asked.every == 0:
-            print(told(backend, turn + 1, counts), flush=True)
-    if not asked.every or asked.turns % asked.every:
-        print(told(backend, asked.turns, counts), flush=True)
+        yield 1, dict(zip(WORDS, ran))
+
+
+def is_wrong_pool(chipfire, room, turn):
+    """Whether the claim in the log of a run of the pool is not right."""
+    rows = []
+    for process in range(len(NAMES) + 1):
+        rows += chipfire.lab.books.read_books_log(f"{room}/{turn}-{process}.rows")
+    return not chipfire.judge_log(rows).is_right
+
+
+def soak_pool(chipfire, _, asked, room):
+    """Runs the pool again and again, and yields how many runs there were, and what is told of them. It ends with a run that
+    is missed."""
+    library = os.path.join(os.path.dirname(asked.program), "libchipfire.a")
+    pool = frame.compiled(COMPILE, "pool.cpp", "pool", [library])
+    missed, turn = 0, 0
+    while turn < asked.turns and not missed:
+        count, logs = min(asked.every or asked.turns, asked.turns - turn), max(0, asked.logs - turn)
+        words = [pool, count, asked.seed + 64 * turn, asked.patience, logs, room]
+        ran = subprocess.run(list(map(str, words)), stdout=subprocess.PIPE, text=True, check=True)
+        runs, early, missed = map(int, ran.stdout.split())
+        wrong = sum(is_wrong_pool(chipfire, room, it) for it in range(min(runs - missed, logs)))
+        yield runs, dict(zip(WORDS, (early, missed, wrong)))
+        turn += runs
+
+
+def soak(chipfire, backend, asked, room):
+    """Runs a back end many times, and returns how many runs were what."""
+    counts, runs, shown = collections.Counter(), 0, 0
+    its = soak_pool if backend == "pool" else soak_python
+    for ran, what in its(chipfire, backend, asked, room):
+        counts.update(what)
+        runs += ran
+        if asked.every and runs // asked.every > shown // asked.every:
+            print(told(backend, runs, counts), flush=True)
+            shown = runs
+    if shown < runs:
+        print(told(backend, runs, counts), flush=True)
     return counts
+
+
+def chosen(asked):
+    """The back ends that are asked for, and can be run."""
+    backends = asked.backend or BACKENDS
+    if "pool" in backends and shutil.which("g++") is None:
+        print("pool: left out, since there is no g++", flush=True)
+        return [it for it in backends if it != "pool"]
+    return backends
 
 
 def main():
     words = frame.parser(__doc__, turns=1000)
-    backends = ["threading", "asyncio", "multiprocessing"]
-    words.add_argument("--backend", action="append", choices=backends)
+    words.add_argument("--backend", action="append", choices=BACKENDS)
     words.add_argument("--logs", type=int, default=3)
     words.add_argument("--every", type=int, default=0)
     words.add_argument("--patience", type=float, default=60)
@@ -174,7 +221,7 @@ def main():
 
     sys.setswitchinterval(1e-5)
     with tempfile.TemporaryDirectory(prefix="soak-", dir=frame.ROOM) as room:
-        ran = [soak(chipfire, it, asked, room) for it in asked.backend or backends]
+        ran = [soak(chipfire, it, asked, room) for it in chosen(asked)]
     sys.exit(any(sum(it.values()) for it in ran))
 
 

@@ -19,6 +19,7 @@ SHARED, STATIC = "libchipfire.so", "libchipfire.a"
 #: The modules that test what the library answers, and those that ask for what may be hidden. All go by the process, but
 #: for those of which no process answers anything.
 BY_LIBRARY = (
+    "test_broken",
     "test_configurations",
     "test_counts",
     "test_detector",
@@ -39,7 +40,7 @@ BY_LIBRARY = (
     "test_spread",
     "test_wrong_inputs",
 )
-NOT_BY_PROCESS = ("test_own_books", "test_detector")
+NOT_BY_PROCESS = ("test_broken", "test_detector", "test_own_books")
 BY_WITHOUT = (
     "test_configurations",
     "test_counts",

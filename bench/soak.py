@@ -73,6 +73,12 @@ async def serve_async(process, count, seed):
         count.add()
 
 
+def loops_of(backend, asked, turn):
+    """Whose the loops of a run are, each with its seed. In each second run two threads or coroutines loop over a process."""
+    names = NAMES if backend == "multiprocessing" else NAMES * (1 + turn % 2)
+    return [(name, asked.seed + 10 * turn + at) for at, name in enumerate(names)]
+
+
 def begin(detector):
     """Wakes two processes."""
     for name in NAMES[:2]:
@@ -107,10 +113,11 @@ async def is_missed_async(detector, count, patience):
                 return True
 
 
-def run_blocking(chipfire, backend, make, asked, seed, log):
+def run_blocking(chipfire, backend, make, asked, turn, log):
     """Runs threads or processes, and returns what is told of the run."""
     detector, count = chipfire.Detector(NAMES, backend, log=log), Count()
-    loops = [make(target=serve, args=(detector[it], count, seed + it), daemon=True) for it in NAMES]
+    words = [(detector[name], count, seed) for name, seed in loops_of(backend, asked, turn)]
+    loops = [make(target=serve, args=it, daemon=True) for it in words]
     begin(detector)
     for loop in loops:
         loop.start()
@@ -121,10 +128,11 @@ def run_blocking(chipfire, backend, make, asked, seed, log):
     return early, missed, is_wrong(detector, log)
 
 
-async def run_async(chipfire, asked, seed, log):
+async def run_async(chipfire, asked, turn, log):
     """The same in asyncio."""
     detector, count = chipfire.Detector(NAMES, "asyncio", log=log), Count()
-    loops = [asyncio.ensure_future(serve_async(detector[it], count, seed + it)) for it in NAMES]
+    words = [(detector[name], count, seed) for name, seed in loops_of("asyncio", asked, turn)]
+    loops = [asyncio.ensure_future(serve_async(*it)) for it in words]
     begin(detector)
     missed = await is_missed_async(detector, count, asked.patience)
     early = not missed and count.now() < IN_ALL
@@ -138,12 +146,12 @@ def is_wrong(detector, log):
     return log is not None and not detector.check().is_right
 
 
-def run(chipfire, backend, asked, seed, log):
+def run(chipfire, backend, asked, turn, log):
     """Runs a detector of a back end once."""
     if backend == "asyncio":
-        return asyncio.run(run_async(chipfire, asked, seed, log))
+        return asyncio.run(run_async(chipfire, asked, turn, log))
     make = threading.Thread if backend == "threading" else multiprocessing.Process
-    return run_blocking(chipfire, backend, make, asked, seed, log)
+    return run_blocking(chipfire, backend, make, asked, turn, log)
 
 
 def told(backend, runs, counts):
@@ -156,7 +164,7 @@ def soak_python(chipfire, backend, asked, room):
     """Runs the detector of a back end again and again, and yields what is told of each run."""
     for turn in range(asked.turns):
         log = f"{room}/{backend}-{turn}" if turn < asked.logs else None
-        ran = run(chipfire, backend, asked, asked.seed + 10 * turn, log)
+        ran = run(chipfire, backend, asked, turn, log)
         yield 1, dict(zip(WORDS, ran))
 
 

@@ -46,10 +46,14 @@ POOLS = {
 }
 
 
+def text_of(path):
+    with open(path, encoding="utf-8") as file:
+        return file.read()
+
+
 def edited(edits):
     """Returns the text of the pool after edits."""
-    with open(POOL, encoding="utf-8") as file:
-        text = file.read()
+    text = text_of(POOL)
     for old, new in edits:
         assert text.count(old) == 1, f"{text.count(old)} times: {old}"
         text = text.replace(old, new)
@@ -100,6 +104,18 @@ class Built(Room):
         self.assertEqual(self.runs(f"{self.room}/pool"), "92 ways\n")
 
 
+    def test_the_pool_is_over_when_its_tasks_are_done(self):
+        """Runs of the pool beside a count that it never reads; the first leave logs."""
+        pool = self.compiled(f"{ROOT}/bench/pool.cpp", "-O2")
+        self.assertEqual(self.runs(pool, "100", "1", "600", "3", self.room), "100 0 0\n")
+        for run in range(3):
+            with open(f"{self.room}/log.csv", "w", encoding="ascii") as log:
+                log.write("process,kind,channel\n")
+                for process in range(5):
+                    log.write(text_of(f"{self.room}/{run}-{process}.rows"))
+            self.assertRegex(self.runs(PROGRAM, "judge", f"{self.room}/log.csv"), r"^over 4 \d+ right\nend claimed\n$")
+
+
 class Broken(Room):
     """Each pool is played by one thread in one order, so what comes of it is always the same."""
 
@@ -121,8 +137,7 @@ class Broken(Room):
 
     def rows(self, name, process):
         """Returns the rows that a process of a pool wrote."""
-        with open(f"{self.room}/{name}-{process}.rows", encoding="ascii") as file:
-            return file.readlines()
+        return text_of(f"{self.room}/{name}-{process}.rows").splitlines(keepends=True)
 
     def placed(self, name, what):
         """Returns what came of a pool, a refusal with the row at which it was."""

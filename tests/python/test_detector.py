@@ -1,62 +1,29 @@
-"""Detectors around threads, coroutines and processes, beside a count of what is open that they never read."""
+"""Detectors around threads, coroutines and processes: many runs, what they refuse, and the examples."""
 import asyncio
 import itertools
 import multiprocessing
 import os
+import subprocess
 import sys
 import tempfile
 import threading
 import unittest
 
 import chipfire
-from test_examples import script
+from test_examples import ROOT, script
 
 NAMES = ["a", "b", "c"]
-#: How many messages come of one that has so many steps before it: each is sent on to two processes.
-STEPS = 4
-IN_ALL = 2 ** (STEPS + 1) - 1
-PATIENCE = 120
-
-
-class Count:
-    """How many messages are sent and not worked on."""
-
-    def __init__(self):
-        self.lock = threading.Lock()
-        self.opened = self.open = 0
-
-    def add(self, number):
-        with self.lock:
-            self.open += number
-            self.opened += max(number, 0)
-
-
-def passed_on(process, step, count):
-    """Sends on what a message sets off."""
-    for to in NAMES[:2] if step < STEPS else []:
-        count.add(1)
-        process.send(to, step + 1)
-
-
-def serve(process, count):
-    """The loop of a thread."""
-    for step in process:
-        passed_on(process, step, count)
-        count.add(-1)
-
-
-async def serve_async(process, count):
-    """The loop of a coroutine, which awaits amid its work."""
-    async for step in process:
-        await asyncio.sleep(0)
-        passed_on(process, step, count)
-        count.add(-1)
+#: How many runs there are of each back end.
+RUNS = {"threading": 60, "asyncio": 60, "multiprocessing": 30}
+PATIENCE = 600
+#: The program that the package carries, beside the library.
+PROGRAM = os.path.join(os.path.dirname(chipfire.__file__), "program", "chipfire")
 
 
 def serve_shared(process, done):
     """The loop of a process of the system, which counts in shared memory."""
     for step in process:
-        for to in NAMES[:2] if step < STEPS else []:
+        for to in NAMES[:2] if step < 3 else []:
             process.send(to, step + 1)
         with done.get_lock():
             done.value += 1
@@ -65,74 +32,25 @@ def serve_shared(process, done):
 class Soak(unittest.TestCase):
     """Never early: nothing is open when it is over. Never missed: it is over in the end."""
 
-    def setUp(self):
-        interval = sys.getswitchinterval()
-        sys.setswitchinterval(1e-5)
-        self.addCleanup(sys.setswitchinterval, interval)
-        self.room = tempfile.TemporaryDirectory(prefix="chipfire-detector-")
-        self.addCleanup(self.room.cleanup)
+    def test_runs_beside_a_count(self):
+        for backend, runs in RUNS.items():
+            with self.subTest(backend):
+                words = ["--turns", runs, "--backend", backend, "--patience", PATIENCE, "--program", PROGRAM]
+                ran = subprocess.run([sys.executable, f"{ROOT}/bench/soak.py", *map(str, words)], capture_output=True, encoding="utf-8")
+                self.assertEqual(ran.stdout, f"{backend}: {runs} runs, 0 early, 0 missed, 0 wrong\n", ran.stderr)
 
-    def log(self, run):
-        """The folder of the first runs' logs."""
-        return os.path.join(self.room.name, f"{run}") if run < 3 else None
-
-    def is_over(self, detector, count, run):
-        self.assertEqual((count.open, count.opened), (0, 2 * IN_ALL))
-        if run < 3:
-            self.assertTrue(detector.check().is_right)
-
-    def test_threads(self):
-        for run in range(36):
-            count = Count()
-            detector = chipfire.Detector(NAMES, log=self.log(run))
-            loops = [threading.Thread(target=serve, args=(detector[it], count)) for it in NAMES * (1 + run % 2)]
-            for it in NAMES[:2]:
-                count.add(1)
-                detector.begin(it, 0)
-            for loop in loops:
-                loop.start()
-            detector.wait(PATIENCE)
-            self.is_over(detector, count, run)
-            for loop in loops:
-                loop.join()
-
-    def test_asyncio(self):
-        async def play(run):
-            count = Count()
-            detector = chipfire.Detector(NAMES, "asyncio", log=self.log(run))
-            loops = [asyncio.ensure_future(serve_async(detector[it], count)) for it in NAMES * (1 + run % 2)]
-            for it in NAMES[:2]:
-                count.add(1)
-                detector.begin(it, 0)
-            await asyncio.wait_for(detector._wait_async(), PATIENCE)
-            self.is_over(detector, count, run)
-            await asyncio.gather(*loops)
-
-        for run in range(36):
-            asyncio.run(play(run))
-
-    def shared(self, context, run):
-        done = context.Value("Q", 0)
-        detector = chipfire.Detector(NAMES, context, log=self.log(run))
+    def test_processes_that_begin_anew(self):
+        context = multiprocessing.get_context("spawn")
+        done, detector = context.Value("Q", 0), chipfire.Detector(NAMES, context)
         loops = [context.Process(target=serve_shared, args=(detector[it], done)) for it in NAMES]
-        for it in NAMES[:2]:
-            detector.begin(it, 0)
+        detector.begin("a", 0)
         for loop in loops:
             loop.start()
         detector.wait(PATIENCE)
-        self.assertEqual(done.value, 2 * IN_ALL)
+        self.assertEqual(done.value, 15)
         for loop in loops:
             loop.join()
             self.assertEqual(loop.exitcode, 0)
-        if run < 3:
-            self.assertTrue(detector.check().is_right)
-
-    def test_processes(self):
-        for run in range(12):
-            self.shared(multiprocessing.get_context("fork"), run)
-
-    def test_processes_that_begin_anew(self):
-        self.shared(multiprocessing.get_context("spawn"), 0)
 
 
 class Rules(unittest.TestCase):

@@ -5,8 +5,8 @@ import os
 from dataclasses import dataclass
 
 import contents
-from contents import BUILT, FILES, HEADER, MANUAL, PAGES, PROGRAM, SHARED, SONAME, version
-from packing import changes, completions, manual, usage
+from contents import BUILT, FILES, HEADERS, MANUAL, PAGES, PROGRAM, SHARED, SONAME, version
+from packing import changes, completions, linking, manual, usage
 from packing.proved import Proved
 from packing.repository import ROOT, Refused, below, content
 
@@ -18,17 +18,6 @@ COMPLETIONS = {
 }
 #: The mode of a link, whose bytes are what it names.
 LINK = 0o120777
-PKG_CONFIG = """\
-prefix=${{pcfiledir}}/{up}
-libdir=${{prefix}}/{libraries}
-includedir=${{prefix}}/include
-
-Name: chipfire
-Description: chip-firing games (abelian sandpiles), by proved functions
-Version: {version}
-Libs: -L${{libdir}} -lchipfire
-Cflags: -I${{includedir}}
-"""
 
 
 @dataclass(frozen=True)
@@ -82,21 +71,18 @@ def documents(program):
     return {MANUAL: manual.page(whole, commands, version(), changes.entry()[0]).encode(), **made}
 
 
-def pkg_config(libraries):
-    """Returns what pkg-config reads, from the folder pkgconfig of that of the libraries."""
-    up = "/".join([".."] * (libraries.count("/") + 2))
-    return PKG_CONFIG.format(up=up, libraries=libraries, version=version())
-
-
-def files(build, libraries):
-    """Returns the files of a build, by their places below a folder such as /usr, with the libraries in a folder of it."""
+def files(build, libraries, prefix=None):
+    """Returns the files of a build, by their places below a folder such as /usr, with the libraries in a folder of it. If
+    all lies in one folder for good, that is the prefix."""
     found = {place: File(data) for place, data in build.documents.items()}
     for word, place in contents.places(libraries).items():
         data = build.stated.text().encode() if word == "PROVED" else build.built[word]
         found[place] = File(data, 0o755 if word == "program" else 0o644)
     found[f"{libraries}/{SHARED}"] = File(SONAME.encode(), LINK)
-    found[f"{libraries}/pkgconfig/chipfire.pc"] = File(pkg_config(libraries).encode())
-    found[HEADER] = File(content(HEADER))
+    for place, text in linking.files(libraries, prefix).items():
+        found[f"{libraries}/{place}"] = File(text.encode())
+    for header in HEADERS:
+        found[header] = File(content(header))
     for name in below("examples"):
         mode = 0o755 if os.access(f"{ROOT}/{name}", os.X_OK) else 0o644
         found[f"{PAGES}/{name}"] = File(content(name), mode)

@@ -75,7 +75,7 @@ def control(packed, size):
 
 def files(packed):
     """Returns the package's files by their names in the root, with those that dpkg reads below DEBIAN."""
-    inside = build.files(packed, contents.DEBIAN_LIBRARIES)
+    inside = build.files(packed, contents.DEBIAN_LIBRARIES, prefix="/usr")
     found = {f"usr/{place}": file for place, file in inside.items()}
     found[contents.DEBIAN_MANUAL] = File(gzipped(found.pop(f"usr/{contents.MANUAL}").data))
     found[contents.DEBIAN_CHANGES] = File(gzipped(changelog().encode()))

@@ -32,12 +32,16 @@ BASH = "share/bash-completion/completions/chipfire"
 ZSH = "share/zsh/vendor-completions/_chipfire"
 FISH = "share/fish/vendor_completions.d/chipfire.fish"
 COMPLETIONS = (BASH, ZSH, FISH)
-HEADER = "include/chipfire.h"
+HEADERS = ("include/chipfire.h", "include/chipfire.hpp")
 PAGES = "share/doc/chipfire"
 PROVED = f"{PAGES}/PROVED"
 #: The folder of the libraries there. Debian has one for this kind of machine.
 ARCHIVE_LIBRARIES = "lib"
 DEBIAN_LIBRARIES = "lib/x86_64-linux-gnu"
+#: What other tools read there of the library.
+PKG_CONFIG = "pkgconfig/chipfire.pc"
+CMAKE = "cmake/chipfire/chipfire-config.cmake"
+CMAKE_VERSION = "cmake/chipfire/chipfire-config-version.cmake"
 #: What Debian has besides.
 DEBIAN_MANUAL = f"usr/{MANUAL}.gz"
 DEBIAN_CHANGES = f"usr/{PAGES}/changelog.gz"

@@ -63,15 +63,30 @@ class Answers(made.Test):
 
 
 class Linked(Answers):
-    """What a program in C finds by pkg-config."""
+    """What programs in C and C++ find by pkg-config, and by CMake."""
 
-    def is_linked(self, libraries, version):
+    CMAKE = """
+cmake_minimum_required(VERSION 3.16)
+project(examples C CXX)
+set(CMAKE_C_STANDARD 11)
+set(CMAKE_CXX_STANDARD 17)
+find_package(chipfire {version} EXACT REQUIRED)
+add_executable(grid {examples}/grid.c)
+target_link_libraries(grid chipfire::chipfire)
+add_executable(pool {examples}/pool.cpp)
+target_link_libraries(pool chipfire::chipfire pthread)
+add_executable(static-pool {examples}/pool.cpp)
+target_link_libraries(static-pool chipfire::static pthread)
+"""
+
+    def is_linked(self, libraries, version, include, **where):
         """Builds the example with a library that is shared and with one that is not, and starts both."""
         made.need("gcc", "pkg-config")
         example, room = f"{made.ROOT}/examples/c/grid.c", made.room()
-        where = {"PKG_CONFIG_LIBDIR": f"{libraries}/pkgconfig", "LD_LIBRARY_PATH": libraries}
+        where |= {"PKG_CONFIG_LIBDIR": f"{libraries}/pkgconfig", "LD_LIBRARY_PATH": libraries}
         self.assertEqual(made.run("pkg-config", "--modversion", "chipfire", **where).stdout, f"{version}\n")
         flags, words = (made.run("pkg-config", it, "chipfire", check=True, **where).stdout.split() for it in ("--cflags", "--libs"))
+        self.assertEqual([os.path.realpath(it.removeprefix("-I")) for it in flags], [os.path.realpath(include)])
         made.run("gcc", *flags, example, *words, "-o", f"{room}/shared", check=True)
         made.run("gcc", *flags, example, f"{libraries}/libchipfire.a", "-o", f"{room}/static", check=True)
         shown, other = (made.run(f"{room}/{it}", check=True, **where).stdout for it in ("shared", "static"))
@@ -79,10 +94,29 @@ class Linked(Answers):
         self.assertEqual(shown, other)
         self.assertIn("libchipfire.so.0 => ", made.run("ldd", f"{room}/shared", **where).stdout)
 
+    def is_found(self, prefix, version):
+        """Builds examples in C and C++ by CMake, and starts them."""
+        made.need("cmake", "make", "gcc", "g++")
+        room = made.room()
+        project = self.CMAKE.format(version=version, examples=f"{made.ROOT}/examples/c")
+        made.write(f"{room}/CMakeLists.txt", project.encode())
+        made.run("cmake", "-S", room, "-B", f"{room}/built", f"-DCMAKE_PREFIX_PATH={prefix}", check=True)
+        made.run("cmake", "--build", f"{room}/built", check=True)
+        self.assertTrue(made.run(f"{room}/built/grid", check=True).stdout.startswith("0320230\n"))
+        for name in ("pool", "static-pool"):
+            self.assertEqual(made.run(f"{room}/built/{name}", check=True).stdout, "92 ways\n")
+        made.write(f"{room}/CMakeLists.txt", project.replace(f"{version} EXACT", "99.0").encode())
+        refused = made.run("cmake", "-S", room, "-B", f"{room}/other", f"-DCMAKE_PREFIX_PATH={prefix}")
+        self.assertNotEqual(refused.returncode, 0)
+        self.assertIn(f"version: {version}", refused.stderr)
+
 
 class Archive(Linked):
     def test_a_program_in_c_is_linked_with_it(self):
-        self.is_linked(f"{made.unpacked()}/lib", made.version())
+        self.is_linked(f"{made.unpacked()}/lib", made.version(), f"{made.unpacked()}/include")
+
+    def test_cmake_finds_it(self):
+        self.is_found(made.unpacked(), made.version())
 
     def test_a_program_in_c_is_linked_with_it_as_the_page_says(self):
         made.need("gcc", "pkg-config")
@@ -130,7 +164,19 @@ class DebianPackage(Linked):
         self.answers(f"{root}/usr/bin/chipfire")
 
     def test_a_program_in_c_is_linked_with_it(self):
-        self.is_linked(f"{self.root()}/usr/lib/x86_64-linux-gnu", made.version())
+        root = self.root()
+        where = {"PKG_CONFIG_SYSROOT_DIR": root}
+        self.is_linked(f"{root}/usr/lib/x86_64-linux-gnu", made.version(), f"{root}/usr/include", **where)
+
+    def test_where_it_is_installed_pkg_config_has_no_words_for_folders(self):
+        """Compilers search there by themselves."""
+        made.need("pkg-config")
+        where = {"PKG_CONFIG_LIBDIR": f"{self.root()}/usr/lib/x86_64-linux-gnu/pkgconfig"}
+        shown = made.run("pkg-config", "--cflags", "--libs", "chipfire", check=True, **where).stdout
+        self.assertEqual(shown.split(), ["-lchipfire"])
+
+    def test_cmake_finds_it(self):
+        self.is_found(f"{self.root()}/usr", made.version())
 
     def test_dpkg_finds_each_file_as_it_was(self):
         told = made.run("dpkg", f"--root={self.root()}", "--verify", "chipfire")

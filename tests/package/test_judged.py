@@ -338,8 +338,9 @@ class OthersChanged(Checked):
             for top in (made.home(), bare()):
                 self.refuses(path, f"there is no {name} in it", top)
 
-    def test_a_header_and_what_pkg_config_reads(self):
-        for name in ("include/chipfire.h", "lib/pkgconfig/chipfire.pc"):
+    def test_a_header_and_what_pkg_config_and_cmake_read(self):
+        cmake = "lib/cmake/chipfire/chipfire-config.cmake"
+        for name in ("include/chipfire.h", "include/chipfire.hpp", "lib/pkgconfig/chipfire.pc", cmake):
             name = f"chipfire-{made.version()}/{name}"
             self.each(repacked_archive(lambda files: files.update({name: files[name] + b"\n"})), name)
 

@@ -26,4 +26,4 @@ pub use Rattle.chip_group.specs.Recurrent.{IsIdentity, twice_most}
 pub use Rattle.chip_group.proofs.FiresToLemmas.{stable_below, agree, then_fires, then_counts, from, by_counts, one_end}
 pub use Rattle.chip_group.proofs.FiresToLemmas.{inflow_same}
 pub use Rattle.chip_group.proofs.RecurrentLemmas.{inflow_add, most_fired, neutral, burning_test, duality, large_script}
-pub use Rattle.chip_group.proofs.RecurrentLemmas.{recurrent_sum}
+pub use Rattle.chip_group.proofs.RecurrentLemmas.{recurrent_sum, one_recurrent}

@@ -5,9 +5,10 @@
 #![tactic(auto)]
 
 pub use burning::{Burning, burning_script};
-pub use classes::{Form, identity, representatives};
+pub use classes::{Form, Represented, identity, representative_of, representatives};
 pub use fault::RowFault;
 pub use recurrent::are_recurrent;
+pub use rows::agree_off_sink;
 pub use stabilization::{Stabilized, stabilized_sum};
 
 mod burning;

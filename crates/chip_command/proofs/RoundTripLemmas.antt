@@ -2,26 +2,22 @@
 -- What is read of the text of traces: the records, line by line, and of them the traces.
 use Rattle.std.proofs.Common.{◌≡◌, ℕ, zero, suc, ◌+◌, ◌^◌, ◌<◌, ◌≤◌, true, false, List, [], ◌∷◌, ◌++◌, length, map}
 use Rattle.std.proofs.Common.{get_or, codes, flat_map, Option, None, Some, Result, Ok, Err, refl, sym, ap, ◌∙◌}
-use Rattle.std.proofs.Common.{inl, inr, arith, append_assoc, append-nil, length-append}
+use Rattle.std.proofs.Common.{inl, inr, arith, append_assoc, append-nil}
 use Rattle.std.specs.Prelude.{◌&&◌, ◌==◌, nat_lt, is_some, is_none, option_and_then, unwrap_or, if◌then◌else◌, All}
 use Rattle.std.specs.Fmt.{decimal}
 use Rattle.std.specs.List.{AllByRecursion, filter, list_any, range_with_len}
-use Rattle.std.specs.Str.{all_ascii_digits}
-use Rattle.std.specs.Str.Parse.{digits_value}
 use Rattle.std.proofs.lemmas.Bool.{lt-ltb, and_parts}
 use Rattle.std.proofs.lemmas.Bool.Decides.{nat_tests}
 use Rattle.std.proofs.lemmas.Grind.{flat_map-append}
-use Rattle.std.proofs.lemmas.Fmt.{digits_decimal, digits_value-decimal, decimal_nonempty, length-decimal-le}
 use Rattle.std.proofs.lemmas.List.Elements.{All-nil, All-append, All-map, All-filter, All-from_recursion}
 use Rattle.std.proofs.lemmas.List.Elements.{recursion_from_All}
 use Rattle.std.proofs.lemmas.List.FromFn.{fill_by_all, length-map-range_with_len}
-use Rattle.csv.specs.Machine.{next_record}
-use Rattle.csv.specs.Reading.{default_config, records_from, strip_bom}
+use Rattle.csv.specs.Reading.{strip_bom}
 use Rattle.csv.specs.Records.{field_at}
 use Rattle.csv.specs.Writing.{default_writer, needs_byte, fields_text, is_blank, read_back}
 use Rattle.csv.specs.Writing as writer
 use Rattle.csv.specs.declared.parser.State.TheVariants as state
-use Rattle.csv.proofs.RoundTrip.{rows_text, read-write}
+use Rattle.csv.proofs.RoundTrip.{rows_text}
 use Rattle.chip_graph.specs.Limits.{standard}
 use Rattle.chip_graph.specs.Multigraph.{Multigraph, IsGraph}
 use Rattle.chip_graph.specs.Edges.{all_edges}
@@ -37,34 +33,13 @@ use Rattle.chip_file.specs.TraceText.{trace_header, trace_kinds, row_of_kind, tr
 use Rattle.chip_file.specs.TraceText.{kind_in, trace_in, trace_text_fault, traces_of_text}
 use Rattle.chip_file.specs.declared.fault.FileFault.{FileFault}
 use Rattle.chip_file.specs.declared.fault.FileFault.TheVariants as fault
-use Rattle.chip_file.proofs.NumberLemmas.{decimal_numeral}
+use Rattle.chip_file.proofs.WrittenLemmas.{number_of-decimal, decimal-plain, fewer_records, all_read}
 use Rattle.chip_trace.specs.Interleaving.{Placed, rows_of}
 use Rattle.chip_trace.specs.TraceText as written
 use Rattle.chip_trace.specs.TraceText.{trace_text, lines_from}
 use Rattle.chip_trace.proofs.RowLemmas.{rows_of-append}
 use Rattle.chip_command.specs.Laws.{IsRowIn, AreTracesIn, WrittenIsRead, ReadIsInGraph, FileIsReadBack}
 use Rattle.chip_command.proofs.InputLemmas.{passed, alone_passed, none_parts}
-
--- ---- a number as a field
-
--- digits that make a number of 64 bits are read as it
-number_by : (field : List ℕ) (n : ℕ) → 0 < length field → length field ≤ 20 → all_ascii_digits field ≡ true
-    → digits_value 10 field ≡ n → n < 2 ^ 64 → number_of field ≡ Some n
-number_by field n some few digits value fits = grind (arith, nat_tests)
-
--- what is written of a number is read as it
-number_of-decimal : (n : ℕ) → n < 2 ^ 64 → number_of (decimal n) ≡ Some n
-number_of-decimal n fits = number_by (decimal n) n (decimal_nonempty n fits)
-    (length-decimal-le 20 n (omega arith) (omega arith) fits)
-    (digits_decimal decimal_numeral n fits) (digits_value-decimal decimal_numeral n fits) fits
-
--- and it is written without quotes
-digits-plain : (field : List ℕ) → all_ascii_digits field ≡ true → list_any (needs_byte default_writer) field ≡ false
-digits-plain [] digits = refl
-digits-plain (c ∷ cs) digits = let more = digits-plain cs in grind (arith, nat_tests)
-
-decimal-plain : (n : ℕ) → n < 2 ^ 64 → list_any (needs_byte default_writer) (decimal n) ≡ false
-decimal-plain n fits = digits-plain (decimal n) (digits_decimal decimal_numeral n fits)
 
 -- ---- the record of a row
 
@@ -176,24 +151,6 @@ text_of-records G [] all = refl
 text_of-records G (x ∷ xs) all = λ i. all.0.line i ++ text_of-records G xs all.1 i
 
 -- ---- the records that are read of it
-
-fewer_records : (rows : List Row) → length rows ≤ length (rows_text rows)
-unfolding rows_text
-fewer_records [] = omega arith
-fewer_records (row ∷ rows) =
-    let one : 1 ≤ length (writer.row_text default_writer row) = simp length-append (omega arith) in
-    let more = fewer_records rows in
-    omega (arith, length-append (writer.row_text default_writer row) (rows_text rows))
-
--- all records that were written, and no more
-all_read : (rows : List Row) (n : ℕ) → length rows ≤ n
-    → records_from default_config n state.StartRecord (rows_text rows) ≡ map read_back rows
-unfolding records_from rows_text next_record
-all_read [] zero enough = refl
-all_read [] (suc n) enough = refl
-all_read (row ∷ rows) zero enough = absurd (omega arith)
-all_read (row ∷ rows) (suc n) enough =
-    rw (read-write row (rows_text rows)) (ap (λ (t : List Row). read_back row ∷ t) (all_read rows n (omega arith)))
 
 read_back-record : (v : ℕ) (row : TraceRow) → read_back (record_of v row) ≡ record_of v row
 read_back-record v (Take edge count) = refl

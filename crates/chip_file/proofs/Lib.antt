@@ -3,6 +3,7 @@ pub mod NumberLemmas
 mod KeptLemmas
 pub mod VertexRowLemmas
 mod ChipsLemmas
+pub mod WrittenLemmas
 mod RowLemmas
 mod RecordLemmas
 mod ReadLemmas

@@ -5,7 +5,7 @@ pub use Rattle.std.proofs.Common.{arith, Bor, add-one, drop-cons, ◌&&◌, not,
 pub use Rattle.std.proofs.Common.{option_and_then, Result, nat_lt, ◌≢◌, zero, suc, ◌*◌, max, cond, ◌∷◌, ◌++◌}
 pub use Rattle.std.proofs.Common.{append-nil, append_assoc, ◌==◌, is_some, unwrap_or, slice_index_or, eq-eqb, All, ◌^◌}
 pub use Rattle.std.proofs.Common.{take, length-append, IfSome, IfOk, IsSome, set, get_or-set_same, get_or-set_other}
-pub use Rattle.std.proofs.Common.{replicate, codes, le-leb, rules, ◌-◌, vec_len}
+pub use Rattle.std.proofs.Common.{replicate, codes, le-leb, rules, ◌-◌, vec_len, string_bytes}
 pub use Rattle.std.proofs.KnownBytes.{Consumes-trans, Consumes-kept}
 pub use Rattle.std.proofs.Math.Nat.{pow-le-pow_right}
 pub use Rattle.std.proofs.lemmas.Bool.{lt-leb, eqb-true, eqb-false}

@@ -48,7 +48,7 @@ pub push_by : (b : Bool) (x : ℕ) (a more last : Option ℕ) → more ≡ (if i
 push_by true x a more last h = refl
 push_by false x a more last h = h
 
-named_push : (before : List Row) (row : Row) (v : ℕ)
+pub named_push : (before : List Row) (row : Row) (v : ℕ)
     → number_named (before ++ row ∷ []) v
     ≡ (if is_some (number_named before v) then number_named before v
     else (if vertex_in row == v then Some (given_in row) else None))

@@ -5,6 +5,8 @@ use Rattle.chip_file.proofs.Names.{◌≡◌, ℕ, List, [], ◌∷◌, take, co
 use Rattle.chip_file.proofs.Names.{serde_json_on_literals, csv_on_literals, field_at, Edge, standard, Multigraph}
 use Rattle.chip_file.proofs.Names.{LogRow, Step, json_of, file_of_text, graph_of_text, chips_of_text, chips_text_fault}
 use Rattle.chip_file.proofs.Names.{drops_of_text, drops_text_fault, traces_of_text, trace_text_fault}
+use Rattle.std.specs.Fmt.{digits}
+use Rattle.chip_file.specs.ChipsText.{text_of_chips}
 use Rattle.chip_file.specs.GuessText.{guess_of_text, guess_text_fault}
 use Rattle.chip_file.specs.ScheduleText.{schedule_of_text, schedule_text_fault}
 use Rattle.chip_file.specs.LogText.{log_of_text, log_text_fault, stream}
@@ -47,6 +49,11 @@ chips :
     × (chips_text_fault 2 (codes "vertex,chips\n0,1099511627776\n1,1\n") ≡ Some fault.Total)
 unfolding csv_on_literals field_at
 chips = (refl, refl, refl, refl, refl, refl, refl, refl)
+
+-- four chips on the first of three vertices and ten on the last, as they are written
+written : text_of_chips (4 ∷ 0 ∷ 10 ∷ []) ≡ codes "vertex,chips\n0,4\n1,0\n2,10\n"
+unfolding digits
+written = refl
 
 -- drops in the order of the file, two of them on one vertex, and more chips than a game holds; and
 -- the refusals of drops: each before those after it

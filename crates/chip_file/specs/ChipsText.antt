@@ -1,5 +1,7 @@
 -- The chips that a text of rows means, and what is wrong with a text that means none.
-use Rattle.std.specs.Prelude.{ℕ, nat_le, if◌then◌else◌, List, [], ◌∷◌, codes, sum, Option, None, Some, is_none}
+use Rattle.std.specs.Prelude.{◌≡◌, ℕ, suc, ◌^◌, ◌≤◌, nat_le, if◌then◌else◌, List, [], ◌∷◌, ◌++◌, codes, length, sum}
+use Rattle.std.specs.Prelude.{Option, None, Some, is_none}
+use Rattle.std.specs.Fmt.{decimal}
 use Rattle.chip_graph.specs.Limits.{max_total}
 use Rattle.chip_graph.specs.Faults.{first_of_faults, fault_unless}
 use Rattle.chip_file.specs.declared.fault.FileFault.{FileFault}
@@ -25,3 +27,21 @@ chips_text_fault vertices text =
 abbrev pub chips_of_text : ℕ → List ℕ → Option (List ℕ)
 chips_of_text vertices text =
     if is_none (chips_text_fault vertices text) then Some (chips_of_rows vertices text) else None
+
+-- the line of a vertex with so many chips
+abbrev pub chips_line : ℕ → ℕ → List ℕ
+chips_line vertex count = decimal vertex ++ codes "," ++ decimal count ++ codes "\n"
+
+-- the lines of the vertices from v on, by the chips of each
+abbrev pub chips_lines : ℕ → List ℕ → List ℕ
+chips_lines v [] = []
+chips_lines v (count ∷ chips) = chips_line v count ++ chips_lines (suc v) chips
+
+-- chips as they are written: a row for each vertex, those ascending
+abbrev pub text_of_chips : List ℕ → List ℕ
+text_of_chips chips = codes "vertex,chips\n" ++ chips_lines 0 chips
+
+-- what is written of chips means these chips
+abbrev pub WrittenChips : Type 0
+WrittenChips = (chips : List ℕ) → length chips ≤ 2 ^ 64 → sum chips ≤ max_total
+    → chips_of_text (length chips) (text_of_chips chips) ≡ Some chips

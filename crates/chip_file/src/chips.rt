@@ -1,6 +1,6 @@
-ghost use Rattle.std.specs.Prelude.{◌≡◌, Some};
+ghost use Rattle.std.specs.Prelude.{◌≡◌, ◌++◌, IfOk, Some, string_bytes};
 ghost use Rattle.chip_file.specs.Answer.{Gives, ReadsText};
-ghost use Rattle.chip_file.specs.ChipsText.{chips_of_text, chips_text_fault};
+ghost use Rattle.chip_file.specs.ChipsText.{chips_line, chips_of_text, chips_text_fault, text_of_chips};
 ghost use Rattle.chip_file.specs.Source.{IsFresh, ReadsSource};
 
 use crate::fault::FileFault;
@@ -8,7 +8,7 @@ use crate::source::Source;
 use crate::vertex_rows::numbers_of_text;
 use crate::whole::read_source;
 use chip_graph::{Limits, total_of};
-use std::alloc::Global;
+use std::alloc::{AllocError, Global};
 use std::io::Read;
 
 /// The header of a file of chips.
@@ -56,4 +56,23 @@ pub fn chips_of_text(alloc: Global, text: &[u8], vertices: u64) -> Result<Vec<u6
         Some(_) => Ok(chips),
         None => Err(FileFault::Total),
     }
+}
+
+/// The text of a file of these chips, with a row for each vertex.
+pub fn text_of_chips(alloc: Global, chips: &[u64]) -> Result<String, AllocError>
+    ensures { IfOk result (λ text. string_bytes text ≡ text_of_chips chips.now) }
+{
+    let mut text = String::new(alloc);
+    text.push_str("vertex,chips\n")?;
+    for (vertex, count) in chips.iter().enumerate() {
+        push_line(&mut text, vertex as u64, *count)?;
+    }
+    Ok(text)
+}
+
+/// Appends the line of a vertex.
+fn push_line(text: &mut String, vertex: u64, count: u64) -> Result<(), AllocError>
+    ensures { IfOk result (λ _. string_bytes text.new ≡ string_bytes text.old ++ chips_line vertex count) }
+{
+    writeln!(text, "{vertex},{count}")
 }

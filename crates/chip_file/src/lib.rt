@@ -1,5 +1,5 @@
 //! Readers of the files that chipfire takes: graphs as JSON; chips, drops, guesses, logs, schedules and traces as rows of
-//! CSV.
+//! CSV. Chips are written too.
 //!
 //! `read_source` takes the whole of an input, and a function from bytes then answers what they mean, or the first thing
 //! wrong with them. What a text means is a definition: of a graph over the value that `serde_json` reads
@@ -8,7 +8,7 @@
 //! bytes, as a slice does. `docs/FORMATS.md` shows the files.
 #![tactic(auto)]
 
-pub use chips::{chips_of_source, chips_of_text, read_chips_within};
+pub use chips::{chips_of_source, chips_of_text, read_chips_within, text_of_chips};
 pub use drops::drops_of_text;
 pub use fault::FileFault;
 pub use graph::{graph_of_source, graph_of_text, read_graph_within};

@@ -28,6 +28,7 @@ print_fault (fault.File f) = (file_fault_number f, location_at (file_fault_place
 print_fault (fault.Game f) = (game_fault_number f, Nowhere)
 print_fault fault.NotReport = (report_fault_number report.NotReport, Nowhere)
 print_fault (fault.Resume f) = (resume_fault_number f, location_at (resume_fault_place f))
+print_fault (fault.Stopped row) = (13, At row)
 print_fault (fault.Absent process) = (34, At process)
 print_fault (fault.Differs vertex) = (53, At vertex)
 print_fault fault.Plan = (60, Nowhere)

@@ -23,6 +23,8 @@ pub enum Fault {
     NotReport,
     /// The play of a report does not go on.
     Resume(ResumeFault),
+    /// The limit of firings stopped the stabilization of this row of chips.
+    Stopped(u64),
     /// A report has another end of a game, and this is the least vertex that differs.
     Differs(u64),
     /// A number of the plan for a crew is out of its range.
@@ -279,6 +281,7 @@ impl Fault {
             Fault::Game(fault) => (fault.number(), Location::Nowhere),
             Fault::NotReport => (ReportFault::NotReport.number(), Location::Nowhere),
             Fault::Resume(fault) => (fault.number(), Location::of(fault.place())),
+            Fault::Stopped(row) => (13, Location::At(*row)),
             Fault::Absent(process) => (34, Location::At(*process)),
             Fault::Differs(vertex) => (53, Location::At(*vertex)),
             Fault::Plan => (60, Location::Nowhere),

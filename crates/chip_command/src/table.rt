@@ -49,11 +49,11 @@ count.
 ",
     };
 
-    /// A drop, from 0.
+    /// A drop or a configuration, from 0.
     pub const DROP: Place = Place {
         letters: " i",
         reading: "\
-i is a drop, from 0 on.
+i is a drop or a configuration, from 0 on.
 ",
     };
 
@@ -170,7 +170,7 @@ Only callers of the libraries meet this.
 static TOTAL: Explanation = row!(10 Total NOWHERE:
     "there are more than 1099511627776 chips in all", "\
 That is 2^40. The chips of all vertices count, with the sink, and those of `--feed` and of
-all drops.
+all drops. `recurrent` and `identity` add chips on their way, where those off the sink count.
 ");
 
 static LIMIT: Explanation = row!(11 Limit NOWHERE: "the firing limit is above 1099511627776", "\
@@ -182,10 +182,12 @@ static LENGTHS: Explanation = row!(12 Lengths NOWHERE:
 Only callers of libchipfire meet this. chipfire.h says how long each slice is.
 ");
 
-static STOPPED: Explanation = row!(13 Stopped DROP: "the limit stopped the play of drop i", "\
-Only callers of libchipfire meet this. `chipfire avalanches` writes the rows of the drops
-before instead. Allow more firings, or leave out this drop and all that follow. If the play
-before the first drop was stopped, i is 0 too.
+static STOPPED: Explanation = row!(13 Stopped DROP:
+    "the limit stopped the play of drop i, or of configuration i", "\
+On the way of `recurrent` and `identity` a vertex would fire more than 1099511627776 times.
+That is 2^40, and i is 0. Callers of libchipfire meet this too: allow more firings of drops,
+or leave out this drop and all that follow. If the play before the first drop was stopped, i
+is 0 too. `chipfire avalanches` writes the rows of the drops before instead.
 ");
 
 static NO_PILE: Explanation = row!(14 NoPile NOWHERE: "there is no pile", "\

@@ -1,0 +1,4 @@
+mod RunLemmas
+mod EventLemmas
+mod ReachLemmas
+mod WholeLemmas

@@ -1,0 +1,50 @@
+use Rattle.std.proofs.Common.{◌≡◌, ℕ, zero, suc, ◌<◌, refl, arith, [], ◌∷◌, Contains, None, true, false, rules}
+use Rattle.std.proofs.lemmas.Bool.Decides.{nat_tests}
+use Rattle.chip_diffusing.specs.Computation.{World, OpensPart, Leads, IsLegalLog}
+use Rattle.chip_diffusing.specs.Worked.{pair, root_part, other_part, both, at_work, at_rest, acknowledged, closed, whole}
+use Rattle.chip_judged.proofs.laws.worked.Goals as goal
+
+abbrev opening : World
+opening = both (root_part 0 0 false) (other_part 0 0 None true)
+
+abbrev sent : World
+sent = both (root_part 1 0 false) (other_part 0 0 None true)
+
+abbrev ended : World
+ended = both (root_part 1 0 true) (other_part 0 0 None true)
+
+one_edge : (e : ℕ) → e < 1 → Contains (0 ∷ []) e
+one_edge e l = (0, omega arith, (let z : 0 ≡ e = omega arith in z))
+
+opens : (p : ℕ) → p < 2 → OpensPart pair p (opening p)
+opens zero l = record {
+  ins = 0 ∷ [];
+  outs = [];
+  all_ins = search (rules, arith, one_edge);
+  all_outs = search (rules, arith);
+  fresh = search (rules, arith, nat_tests);
+  sound = search (rules, arith, nat_tests);
+  passive = λ other. refl;
+}
+opens (suc zero) l = record {
+  ins = [];
+  outs = 0 ∷ [];
+  all_ins = search (rules, arith);
+  all_outs = search (rules, arith, one_edge);
+  fresh = search (rules, arith, nat_tests);
+  sound = search (rules, arith, nat_tests);
+  passive = λ other. absurd (other refl);
+}
+opens (suc (suc p)) l = absurd (omega arith)
+
+leads : Leads pair opening whole closed
+leads = (acknowledged, (at_rest, (at_work, (ended, (sent, (opening, refl, search (rules, arith, nat_tests)),
+    search (rules, arith, nat_tests)), search (rules, arith, nat_tests)), search (rules, arith, nat_tests)),
+    search (rules, arith, nat_tests)), search (rules, arith, nat_tests))
+
+pub returns-clause-whole : goal.returns-clause-whole
+unfolding leads
+returns-clause-whole c = (record { first = opening; opens = opens; leads = leads }, refl)
+
+pub returns-clause-events : goal.returns-clause-events
+returns-clause-events c = (refl, refl, refl, refl)

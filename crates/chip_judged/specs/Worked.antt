@@ -1,0 +1,26 @@
+-- Worked rows: of the run in which the root, part 1, sends one message to part 0, and of single events.
+use Rattle.std.specs.Prelude.{◌≡◌, ℕ, List, [], ◌∷◌}
+use Rattle.chip_diffusing.specs.Computation.{Get, Ack, Settle, IsLegalLog}
+use Rattle.chip_diffusing.specs.Worked.{pair, whole, closed, at_work}
+use Rattle.chip_log.specs.Claims.{basic}
+use Rattle.chip_log.specs.Judged.{control}
+use Rattle.chip_log.specs.declared.row.LogRow.{LogRow}
+use Rattle.chip_log.specs.declared.row.Step.{Step}
+use Rattle.chip_log.specs.declared.row.Step.TheVariants.{Out, In, Passive, Active, Over}
+use Rattle.chip_judged.specs.Rows.{steps_by, rows_of}
+
+abbrev pub row : ℕ → Step → LogRow
+row p step = record { process = p; step = step }
+
+-- the root begins active, sends and rests; part 0 gets the message, rests and acknowledges; the root hears and claims
+abbrev pub WholeRows : Type 0
+WholeRows = (legal : IsLegalLog pair whole closed) × (rows_of pair whole closed legal
+    ≡ row 1 Active ∷ row 1 (Out (basic 0)) ∷ row 1 Passive ∷ row 0 (In (basic 0)) ∷ row 0 Passive
+    ∷ row 0 (Out (control 0)) ∷ row 1 (In (control 0)) ∷ row 1 Over ∷ [])
+
+-- a message leaves its part passive at once, or active; two are acknowledged at once, and two settled of which one was
+abbrev pub EventRows : Type 0
+EventRows = (steps_by pair closed (Get 0) closed ≡ In (basic 0) ∷ Passive ∷ [])
+    × (steps_by pair closed (Get 0) at_work ≡ In (basic 0) ∷ [])
+    × (steps_by pair closed (Ack 0 2) closed ≡ Out (control 0) ∷ Out (control 0) ∷ [])
+    × (steps_by pair closed (Settle 0 3) closed ≡ In (control 0) ∷ In (control 0) ∷ [])

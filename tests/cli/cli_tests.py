@@ -20,6 +20,7 @@ import drops
 import estimates
 import feeds
 import guesses
+import judged
 import large
 import largest
 import listed
@@ -36,7 +37,7 @@ import written
 #: Those whose tests take the program.
 MODULES = (
     chains, boards, closing, feeds, crews, seals, verdicts, guesses, logs, detectors, long_logs, missing_rows, drops,
-    largest, diffusing, terminal, written, paced, progress, estimates, busy,
+    largest, diffusing, judged, terminal, written, paced, progress, estimates, busy,
 )  # fmt: skip
 
 

@@ -11,6 +11,7 @@ import math
 import operator
 import os
 import random
+import sys
 from array import array
 from collections.abc import Callable, ItemsView, Iterable, Iterator, Mapping, Sequence
 from concurrent.futures import ThreadPoolExecutor
@@ -27,6 +28,9 @@ MAX_MULT = 2**20
 
 #: The most chips of a game, the most firings of a vertex, and the greatest limit.
 MAX_CHIPS = MAX_LIMIT = 2**40
+
+#: How far from 0 a number of NumPy may be that becomes one of 64 bits unseen.
+_FAR = 2**62
 
 FileName = Union[str, "os.PathLike[str]"]
 
@@ -59,8 +63,29 @@ def as_ints(
     what: Callable[[int], str],
     least: int | None = 0,
     most: int | None = None,
-) -> Sequence[int]:
+) -> array[int] | list[int]:
     """Many numbers, each as `as_int` has it; `what` says which is in a place."""
+    found = in_column(values, least, most)
+    if found is not None:
+        return found
+    with contextlib.suppress(TypeError, ValueError):
+        return [as_int(value, "", least, most) for value in values]
+    return [as_int(value, what(place), least, most) for place, value in enumerate(values)]
+
+
+def in_column(values: Any, least: int | None = 0, most: int | None = None) -> array[int] | None:
+    """Whole numbers of a range as an array of 64-bit numbers, copied once, if none has to be looked at by itself: ints of
+    Python, or an array of NumPy, row by row. None for others."""
+    numpy = numpy_of(values)
+    if numpy:
+        return _column_of_array(numpy, values, least, most)
+    if not isinstance(values, (list, tuple, range, array)):
+        return None
+    # (scalars of NumPy, and arrays, may be no numbers)
+    if isinstance(values, (list, tuple)) and any(
+        hasattr(it, "tolist") for it in {*map(type, values)}
+    ):
+        return None
     for code in "Qq":  # (as long as each is an int of up to 64 bits; most often none is below 0)
         try:
             found = array(code, values)
@@ -69,9 +94,52 @@ def as_ints(
         is_least = least is None or code == "Q" and least == 0 or min(found, default=least) >= least
         if is_least and (most is None or max(found, default=most) <= most):
             return found
-    with contextlib.suppress(TypeError, ValueError):
-        return [as_int(value, "", least, most) for value in values]
-    return [as_int(value, what(place), least, most) for place, value in enumerate(values)]
+    return None
+
+
+def numpy_of(given: Any) -> Any:
+    """NumPy, if this is an array of it that has numbers, in one direction at least and without a mask; else None."""
+    kind = type(given)
+    if kind.__name__ != "ndarray" or kind.__module__ != "numpy":
+        return None
+    is_of_numbers = given.dtype.kind in "biuf" and given.ndim > 0
+    return import_optional("numpy") if is_of_numbers else None
+
+
+def numpy_in_use() -> Any:
+    """NumPy, if this process has it already, and else None: where what it saves is not worth to import it."""
+    return import_optional("numpy") if "numpy" in sys.modules else None
+
+
+def _column_of_array(
+    numpy: Any, given: Any, least: int | None, most: int | None
+) -> array[int] | None:
+    """The numbers of an array of NumPy, row by row, if all are whole and of a range."""
+    low, high = (given.min().item(), given.max().item()) if given.size else (0, 0)
+    least = -_FAR if least is None else least
+    most = _FAR if most is None else most
+    # (so NaN is refused)
+    if not least <= low <= high <= most:
+        return None
+    if given.dtype.kind == "f" and (given % 1).any():
+        return None
+    return _copied(numpy, given, "Q" if low >= 0 else "q")
+
+
+def recoded(column: array[int], code: str) -> array[int]:
+    """The numbers of an array in one of another type, into which they fit."""
+    numpy = numpy_in_use()
+    if not numpy or not column:
+        return array(code, column)
+    return _copied(numpy, numpy.frombuffer(column, column.typecode), code)
+
+
+def _copied(numpy: Any, given: Any, code: str) -> array[int]:
+    """An array of NumPy, row by row, as one of Python."""
+    found: array[int] = array(code, [0]) * given.size
+    if given.size:
+        numpy.copyto(numpy.frombuffer(found, code).reshape(given.shape), given, casting="unsafe")
+    return found
 
 
 def sorted_if_possible(names: Iterable[Any]) -> list[Any]:

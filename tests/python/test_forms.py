@@ -458,6 +458,45 @@ class Table(unittest.TestCase):
         pairs = ((*sorted((graph.names[tail], graph.names[head])), mult) for tail, head, mult in graph.edges)
         return sorted({*pairs})
 
+    @unittest.skipUnless(numpy, "NumPy is not here")
+    def test_edges_that_are_rows_of_an_array(self):
+        rows = [(0, 1, 3), (1, 2, 2), (1, 0, 1), (0, 2, 1)]
+        wanted = chipfire.Graph(3, 2, rows)
+        for kind in ("i1", "u2", "i4", "i8", "u8", ">i4", "f4", "f8", "O"):
+            made = numpy.array(rows, kind)
+            for form in (made, numpy.asfortranarray(made), made[::-1][::-1], numpy.ma.array(made), numpy.asmatrix(made)):
+                self.check(lambda it: chipfire.Graph(3, 2, it), form, wanted, None)
+            self.check(lambda it: chipfire.Graph(3, 2, it), made[:, :2],
+                chipfire.Graph(3, 2, [row[:2] for row in rows]), None)
+        self.assertEqual(chipfire.Graph(1, 0, numpy.zeros((0, 3), "i8")), chipfire.Graph(1, 0, []))
+        self.assertEqual(wanted.long_columns, chipfire.Graph(3, 2, numpy.array(rows)).long_columns)
+        self.assertEqual(chipfire.Graph(3, 2, numpy.array(rows)).degrees(), (4, 3, 0))
+        for place, value, told in [
+            (1, -1, "the head of edge 2 is below 0: -1"), (0, -1, "the tail of edge 2 is below 0: -1"),
+            (2, 0.5, "the multiplicity of edge 2 is no whole number: 0.5"),
+            (2, numpy.nan, "the multiplicity of edge 2 is no whole number: nan"),
+            (1, 2**31, "the head of edge 2 is above 2147483647: 2147483648"),
+        ]:
+            wrong = numpy.array(rows, float)
+            wrong[2, place] = value
+            self.check(lambda it: chipfire.Graph(3, 2, it), wrong, None, told)
+            if float(value).is_integer():
+                self.check(lambda it: chipfire.Graph(3, 2, it), wrong.astype("i8"), None, told)
+        for wrong in (numpy.zeros((2, 4), int), numpy.zeros((2, 1), int), numpy.zeros((2, 3, 1), int)):
+            self.check(lambda it: chipfire.Graph(3, 2, it), wrong, None, "edge 0 is neither (tail, head) nor")
+        self.check(lambda it: chipfire.Graph(3, 2, it), numpy.zeros(3, int), None, "edge 0 is neither (tail, head) nor")
+
+    @unittest.skipUnless(numpy and chipfire.find_library(), "NumPy or the library is not here")
+    def test_squares_with_holes_and_a_sink_among_them(self):
+        region, ring = chipfire.region([[1, 0, 1], [1, 1, 1]]), chipfire.torus(3, 3)
+        for graph, rows in ((region, [[9, 0, 2], [1, 5, 3]]), (ring, [[4, 5, 6], [0, 1, 2], [7, 3, 2]])):
+            wanted = chipfire.plain(graph, rows)
+            for kind in ("i8", "u1", "f8"):
+                self.check(lambda it: chipfire.plain(graph, it), numpy.array(rows, kind), wanted, None)
+                found = chipfire.stabilize_many(graph, numpy.array([rows, rows], kind))
+                self.assertEqual([*map(tuple, found)], [wanted.chips] * 2)
+        self.check(lambda it: chipfire.plain(region, it), numpy.ones((2, 3), int), None, "on a square that is no vertex")
+
     @unittest.skipUnless(networkx, "NetworkX is not here")
     def test_edges_of_networkx_that_lead_both_ways_are_no_directed_ones(self):
         rows = [(networkx.Graph, 4), (networkx.MultiGraph, 4), (networkx.DiGraph, 2), (networkx.MultiDiGraph, 2)]

@@ -201,6 +201,35 @@ class Kept(unittest.TestCase):
             graph = chipfire.grid(5, 5)
             self.assertEqual(self.counted(graph, lambda it: [chipfire.drops(it, 3, [0]) for _ in range(3)]), 3)
 
+    def test_avalanches_are_on_the_pile_of_the_graph(self):
+        graph = chipfire.grid(5, 5)
+        most = graph.max_stable()
+        self.assertEqual(self.counted(graph, lambda it: chipfire.avalanche(it, most, 12)), 1)
+        self.assertEqual(self.counted(graph, lambda it: [chipfire.avalanche(it, most, 12) for _ in range(3)]), 0)
+        self.assertEqual(self.counted(graph, lambda it: chipfire.drops(it, most, [12])), 0)
+        # (one that is not at its end has a pile of its own, and the graph has one at its end)
+        first, second = (chipfire.avalanches(graph, most, [12, 3]) for _ in range(2))
+        self.assertEqual(self.counted(graph, lambda _: [*zip(first, second)]), 1)
+        self.assertEqual(self.counted(graph, lambda it: chipfire.avalanche(it, most, 12)), 0)
+
+    def test_an_avalanche_stays_as_it_was_when_the_pile_has_other_chips(self):
+        graph = chipfire.grid(5, 5)
+        found = [chipfire.avalanche(graph, chips, 12) for chips in (3, 2, 3)]
+        drops = [chipfire.drops(graph, chips, [12]) for chips in (3, 2, 3)]
+        for chips, it, dropped in zip((3, 2, 3), found, drops):
+            report = slow_report(graph, [chips + (at == 12) for at in range(25)] + [0])
+            self.assertEqual((it.configuration, it.size), (report.configuration, sum(report.fired)))
+            self.assertEqual(it.fired, {at: count for at, count in enumerate(report.fired) if count})
+            self.assertEqual((dropped.report, rows_of(dropped)[0][0]), (report, sum(report.fired)))
+
+    def test_a_drop_makes_no_report_before_it_is_asked_for(self):
+        graph = chipfire.grid(5, 5)
+        with mock.patch.object(chipfire.ensembles.drops, "Report", side_effect=chipfire.Report) as made:
+            found = chipfire.drops(graph, 3, [12])
+            self.assertEqual(made.call_count, 0)
+            self.assertEqual(pickle.loads(pickle.dumps(found)).report, found.report)
+        self.assertIs(found.report, found.report)
+
     def test_many_calls_begin_the_counts_anew(self):
         draw, graph = random.Random(5), chipfire.grid(4, 4)
         drops = [(draw.randrange(16), draw.randint(0, 3)) for _ in range(300)]

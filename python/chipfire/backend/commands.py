@@ -5,6 +5,7 @@ from __future__ import annotations
 import functools
 import inspect
 import os
+from array import array
 from collections.abc import Callable, Hashable, Iterable, Sequence
 from dataclasses import replace
 from typing import Any, cast, NamedTuple, TYPE_CHECKING, TypeVar, Union
@@ -14,12 +15,12 @@ from chipfire.backend.finding import find_program
 from chipfire.backend.process import ask, Fault, Input, Kept
 from chipfire.backend.report import Report
 from chipfire.configurations.configuration import (
-    capped,
     Chips,
     CHIPS_HEADER,
     chips_text,
     Configuration,
     GUESS_HEADER,
+    in_words,
 )
 from chipfire.ensembles.drops import (
     columns_of,
@@ -123,8 +124,8 @@ class _Question:
         return self.own or known_graph(self.given, self.program)
 
     def numbers(self, given: Chips, of: str = "chips") -> Any:
-        """What is given by the numbers of the vertices, if it is not the name of a file."""
-        return given if isinstance(given, FILE) else self.graph.numbers(given, 0, of)
+        """What is given by the numbers of the vertices, in an array, if it is not the name of a file."""
+        return given if isinstance(given, FILE) else in_words(self.graph.column(given, 0, of))
 
     def chips(
         self, chips: Chips, kind: str = "chips", header: Sequence[str] = CHIPS_HEADER
@@ -170,18 +171,19 @@ def plain(
     changes no answer; one that is nearly true saves most of the play. With `progress`, `sys.stderr` gets a line about
     once a second that tells how the play goes on."""
     if isinstance(graph, Graph) and graph.loops:
-        start = graph.without_loops(known_chips(graph, chips, program))
+        less = graph.without_loops(known_chips(graph, chips, program))
         free = plain(
-            graph.loop_free, start, limit=limit, guess=guess, progress=progress, program=program
+            graph.loop_free, less, limit=limit, guess=guess, progress=progress, program=program
         )
         return replace(free, chips=tuple(graph.with_loops(free.chips)), graph=graph)
     question = _Question(graph, program)
-    start = question.numbers(chips)
-    counts: Any = ()
+    start: Any = question.numbers(chips)
+    counts: Any = array("Q")
     if guess is not None:
         counts = question.numbers(guess.total if isinstance(guess, Report) else guess, "firings")
-    if question.own and not progress and isinstance(start, tuple) and isinstance(counts, tuple):
-        if found := library.play(question.own, start, program, _limit(limit), capped(counts)):
+    is_in_memory = not isinstance(start, FILE) and not isinstance(counts, FILE)
+    if question.own and not progress and is_in_memory:
+        if found := library.play(question.own, start, program, _limit(limit), counts):
             left, fired, stopped = found
             return Report(
                 tuple(left),
@@ -237,10 +239,9 @@ def verify(
         return False
     start = question.numbers(chips)
     own = question.own
-    if told and own and not own.loops and not progress and isinstance(start, tuple):
-        is_end = library.is_end(
-            own, start, capped(counts), capped(told.chips), program, _limit(limit)
-        )
+    if told and own and not own.loops and not progress and not isinstance(start, FILE):
+        ends = in_words(told.chips)
+        is_end = library.is_end(own, start, in_words(counts), ends, program, _limit(limit))
         if is_end is not None:
             return is_end and told == replace(
                 told, over=_legal(own, told.chips), sealed=(), graph=own
@@ -265,15 +266,15 @@ def drops(
     file of rows `vertex,chips`.
     Proved: each row, and the report. Not proved: that Python passes them on, and the histogram."""
     if isinstance(graph, Graph) and graph.loops:
-        start = graph.without_loops(known_chips(graph, chips, program))
+        less = graph.without_loops(known_chips(graph, chips, program))
         free = drops(
-            graph.loop_free, start, vertices, amounts=amounts, progress=progress, program=program
+            graph.loop_free, less, vertices, amounts=amounts, progress=progress, program=program
         )
         left = tuple(graph.with_loops(free.report.chips))
         return replace(free, report=replace(free.report, chips=left, graph=graph))
     question = _Question(graph, program)
     rows = cast(Any, vertices)
-    start = question.numbers(chips)
+    start: Any = question.numbers(chips)
     if not isinstance(vertices, FILE):
         at, many = dropped_on(question.graph, vertices, amounts)
         if question.own and not progress and not isinstance(start, FILE):
@@ -419,8 +420,9 @@ def explain(number: int | None = None, *, program: AnyProgram = None) -> str:
 
 def identity(graph: AnyGraph, *, program: AnyProgram = None) -> Configuration:
     """The recurrent identity: of the recurrent configurations, the one that adds nothing to any of them.
-    Proved: the identity, where the library finds it in one call; else the stabilizations. Not proved: that it is passed
-    on, or else the difference between them."""
+    Proved: the identity, where the library finds it in one call. A play that may be too long for one call, or a process
+    without the library, has the program play: then the stabilizations are proved. Not proved: that it is passed on, or
+    else the difference between them."""
     return known_graph(graph, program).identity(program=program)
 
 

@@ -19,7 +19,7 @@ if TYPE_CHECKING:
 STOPPED, NO_MEMORY = 13, 90
 
 #: How many bytes a pile may take that a graph keeps between calls.
-_MOST_BYTES = 2**24
+_MOST_BYTES = 2**26
 
 _NO_NUMBERS = array("Q")
 
@@ -114,11 +114,14 @@ class KeptPile:
 
 
 def take(graph: Graph, chips: array[int], limit: int) -> KeptPile | None:
-    """A pile with these chips: the one that the graph keeps, if no other thread has it, or a new one. None without the
-    library. Chips that are none, and want of memory, are refused."""
+    """A pile with these chips, as `taken` has it; None without the library."""
     found = library.loaded()
-    if found is None:
-        return None
+    return None if found is None else taken(found, graph, chips, limit)
+
+
+def taken(found: Any, graph: Graph, chips: array[int], limit: int) -> KeptPile:
+    """A pile with these chips: the one that the graph keeps, if no other thread has it, or a new one. Chips that are none,
+    and want of memory, are refused."""
     kept: list[KeptPile] = graph.answers.setdefault("piles", [])
     pile = None
     with contextlib.suppress(IndexError):

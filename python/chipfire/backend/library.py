@@ -22,7 +22,6 @@ import os
 import threading
 import warnings
 from array import array
-from collections.abc import Sequence
 from typing import Any, TYPE_CHECKING
 
 from chipfire.backend.finding import (
@@ -35,7 +34,7 @@ from chipfire.backend.finding import (
 )
 from chipfire.backend.process import refused
 from chipfire.backend.trust import doubt
-from chipfire.utils import as_int, FileName, MAX_LIMIT, package_text
+from chipfire.utils import as_int, FileName, MAX_CHIPS, MAX_LIMIT, numpy_in_use, package_text
 
 if TYPE_CHECKING:
     from chipfire.graphs.graph import Graph
@@ -257,12 +256,23 @@ def most(graph: Graph) -> int:
     return MOST_WORK // (graph.vertices + len(graph.columns.tails) or 1)
 
 
-def at_once(graph: Graph, chips: Sequence[int]) -> int:
+def at_once(graph: Graph, chips: array[int]) -> int:
     """How many of these games, one after another, a call in this process may have; 0 if one is too long."""
+    return most(graph) // (1 + heaviest(graph, chips))
+
+
+def heaviest(graph: Graph, chips: array[int]) -> int:
+    """The most chips of a configuration, of some that lie one after another; or more than a game may have."""
     width = graph.vertices or 1
-    return most(graph) // (
-        1 + max([sum(chips[it : it + width]) for it in range(0, len(chips), width)], default=0)
-    )
+    if len(chips) <= width:
+        return sum(chips)
+    numpy = numpy_in_use()
+    if not numpy:
+        return max(sum(chips[at : at + width]) for at in range(0, len(chips), width))
+    rows = numpy.frombuffer(chips, "Q").reshape(-1, width)
+    greatest = int(rows.max())
+    # (sums of less have less than 64 bits)
+    return int(rows.sum(1).max()) if greatest <= MAX_CHIPS else greatest
 
 
 def slice_of(name: str, numbers: Any) -> tuple[int, int]:
@@ -361,38 +371,34 @@ def avalanches(
 
 def play(
     graph: Graph,
-    chips: Sequence[int],
+    chips: array[int],
     program: FileName | None,
     limit: int = MAX_LIMIT,
-    guess: Sequence[int] = (),
+    guess: array[int] = _NONE,
 ) -> tuple[array[int], array[int], int] | None:
     """The chips and the counts at the end of one game after another, and how many vertices the limit stopped; or None
     if one of them is the program's."""
     found = loaded() if program is None else None
-    width = graph.vertices or 1
-    at_most = most(graph)
-    if not found or not (some := at_once(graph, chips)):
+    some = at_once(graph, chips) if found else 0
+    if not found or not some:
         return None
-    starts = range(0, len(chips), width)
-    ended = left, fired, stopped = array("Q"), array("Q"), array("Q")
-    for first in range(0, len(starts) or 1, some):
-        part = slice(first * width, (first + some) * width)
-        games = len(starts[first : first + some])
-        start = chips[part] if isinstance(chips, array) else array("Q", chips[part])
-        here = start, _ZERO * len(start), _ZERO * games
-        _call(
-            found.chipfire_stabilize_all, graph, min(limit, at_most), array("Q", guess[part]), *here
-        )
-        for numbers, more in zip(ended, here):
-            numbers += more
+    width, at_most = graph.vertices or 1, most(graph)
+    # (the chips stay, since the program may have to play from them)
+    left, fired, stopped = chips[:], _ZERO * len(chips), _ZERO * (len(chips) // width)
+    for first in range(0, len(stopped) or 1, some):
+        games = slice(first, first + some)
+        numbers = slice(first * width, (first + some) * width)
+        here = [memoryview(it)[numbers] for it in (guess, left, fired)]
+        call = found.chipfire_stabilize_all
+        _call(call, graph, min(limit, at_most), *here, memoryview(stopped)[games])
     return None if at_most < limit and any(stopped) else (left, fired, sum(stopped))
 
 
 def is_end(
     graph: Graph,
-    chips: Sequence[int],
-    fired: Sequence[int],
-    ends: Sequence[int],
+    chips: array[int],
+    fired: array[int],
+    ends: array[int],
     program: FileName | None,
     limit: int,
 ) -> bool | None:
@@ -402,23 +408,21 @@ def is_end(
     # (a game that is stopped here and not by its limit has a vertex that fires more often)
     if not found or sum(chips) >= at_most or max(fired) >= at_most < limit:
         return None
-    arrays = (array("Q", numbers) for numbers in (chips, fired, ends))
+    arrays = (chips, fired, ends)
     return _call(found.chipfire_verify, graph, min(limit, at_most), *arrays, but=53) == 0
 
 
-def _row_call(name: str, graph: Graph, rows: Sequence[int], program: FileName | None) -> Any:
+def _row_call(name: str, graph: Graph, rows: array[int], program: FileName | None) -> Any:
     """The call of this name, if there is a library and what it plays is short: rows, and each degree twice."""
     found = loaded() if program is None else None
-    width = graph.vertices or 1
-    heaviest = max([sum(rows[at : at + width]) for at in range(0, len(rows), width)], default=0)
-    if not found or heaviest + 2 * sum(graph.degrees()) >= most(graph):
+    if not found or heaviest(graph, rows) + 2 * sum(graph.degrees()) >= most(graph):
         return None
     return getattr(found, name)
 
 
 def burning(graph: Graph, program: FileName | None) -> tuple[array[int], array[int]] | None:
     """The least burning script and its chips; or None if that is Python's to find."""
-    call = _row_call("chipfire_burning", graph, (), program)
+    call = _row_call("chipfire_burning", graph, _NONE, program)
     if not call:
         return None
     script, chips = _ZERO * graph.vertices, _ZERO * graph.vertices
@@ -426,31 +430,31 @@ def burning(graph: Graph, program: FileName | None) -> tuple[array[int], array[i
     return script, chips
 
 
-def are_recurrent(graph: Graph, rows: Sequence[int], program: FileName | None) -> array[int] | None:
+def are_recurrent(graph: Graph, rows: array[int], program: FileName | None) -> array[int] | None:
     """Of each configuration 1 if it is recurrent, else 0; or None if that is Python's to find."""
     call = _row_call("chipfire_are_recurrent", graph, rows, program)
     if not call:
         return None
     flags = _ZERO * (len(rows) // graph.vertices)
-    _call(call, graph, None, array("Q", rows), flags)
+    _call(call, graph, None, rows, flags)
     return flags
 
 
 def representative(
-    graph: Graph, form: str, chips: Sequence[int], program: FileName | None
+    graph: Graph, form: str, chips: array[int], program: FileName | None
 ) -> array[int] | None:
-    """The `recurrent`, the `superstable` or the `inverse` configuration of a class; or None if that is Python's to find."""
+    """The `recurrent`, the `superstable` or the `inverse` configuration of a class, in place of the chips; or None if that
+    is Python's to find, and then these stay."""
     call = _row_call(f"chipfire_{form}", graph, chips, program)
     if not call:
         return None
-    found = array("Q", chips)
-    _call(call, graph, 1, found)
-    return found
+    _call(call, graph, 1, chips)
+    return chips
 
 
 def identity(graph: Graph, program: FileName | None) -> array[int] | None:
     """The identity of the sandpile group; or None if that is Python's to find."""
-    call = _row_call("chipfire_identity", graph, (), program)
+    call = _row_call("chipfire_identity", graph, _NONE, program)
     if not call:
         return None
     found = _ZERO * graph.vertices

@@ -14,7 +14,7 @@ from chipfire.backend import library
 from chipfire.backend.process import ask, Kept
 from chipfire.configurations import smith
 from chipfire.pictures.picture import Drawn
-from chipfire.utils import as_int, FileName, MAX_CHIPS, no_graph, with_unit
+from chipfire.utils import as_int, FileName, in_column, MAX_CHIPS, no_graph, with_unit
 
 if TYPE_CHECKING:
     from chipfire.graphs.graph import Graph
@@ -37,6 +37,17 @@ def capped(counts: Sequence[int]) -> Sequence[int]:
         if max(counts, default=0) <= MAX_CHIPS
         else [min(count, MAX_CHIPS + 1) for count in counts]
     )
+
+
+def in_words(counts: Sequence[int]) -> array[int]:
+    """Counts of chips or firings, from 0 on, as an array of 64-bit numbers: as it is, if it is one. What does not fit there
+    is too much anyway."""
+    if isinstance(counts, array) and counts.typecode == "Q":
+        return counts
+    try:
+        return array("Q", counts)
+    except OverflowError:
+        return array("Q", capped(counts))
 
 
 def chips_text(chips: Sequence[int], header: Sequence[str] = CHIPS_HEADER) -> str:
@@ -118,10 +129,12 @@ class Configuration(Drawn, Sums):
 
     graph: Graph
 
-    def __init__(self, graph: Graph, chips: Chips) -> None:
-        super().__init__(graph, chips)
+    @classmethod
+    def _numbers(cls, graph: Graph, chips: Chips) -> tuple[int, ...]:
+        found = graph.column(chips)
         if graph.sink < graph.vertices:
-            self.numbers = (*self.numbers[: graph.sink], 0, *self.numbers[graph.sink + 1 :])
+            found[graph.sink] = 0
+        return tuple(found)
 
     def __getitem__(self, name: Hashable) -> int:
         vertex = self.graph.number(name)
@@ -149,11 +162,11 @@ class Configuration(Drawn, Sums):
 
     def is_stable(self) -> bool:
         """Whether no vertex can fire: `chipfire.is_stable`."""
-        return all(map(operator.le, self.numbers, self.graph.max_stable().numbers))
+        return all(map(operator.le, self.numbers, most_stable(self.graph)))
 
     def is_recurrent(self, *, program: FileName | None = None) -> bool:
         """Whether it is recurrent: `chipfire.is_recurrent`."""
-        return burning_test(self.graph, [self.numbers], program)[0]
+        return burning_test(self.graph, self.numbers, program)[0]
 
     def is_superstable(self, *, program: FileName | None = None) -> bool:
         """Whether it is superstable: `chipfire.is_superstable`."""
@@ -161,15 +174,15 @@ class Configuration(Drawn, Sums):
 
     def equivalent_recurrent(self, *, program: FileName | None = None) -> Configuration:
         """The recurrent configuration that is equivalent: `chipfire.recurrent_representative`."""
-        return recurrent_representative(self, program)
+        return representative("recurrent", self, program)
 
     def equivalent_superstable(self, *, program: FileName | None = None) -> Configuration:
         """The superstable configuration that is equivalent: `chipfire.superstable_representative`."""
-        chips = _from_library("superstable", self, program)
-        if chips is not None:
-            return chips
-        most = self.graph.max_stable()
-        return most - recurrent_representative(most - self, program)
+        return representative("superstable", self, program)
+
+    def inverse(self, *, program: FileName | None = None) -> Configuration:
+        """The recurrent configuration whose stable sum with it is the identity: `chipfire.inverse`."""
+        return representative("inverse", self, program)
 
     def order(self) -> int:
         """How many times it is added to itself until that is equivalent to no chips. Nothing of this is proved."""
@@ -189,7 +202,7 @@ def stabilized(
 ) -> tuple[Sequence[int], Sequence[int]]:
     """What lies there when no vertex can fire any more, and how often each fired, by numbers."""
     refuse_below_none(chips)
-    return stabilized_rows(chips.graph, chips.numbers, program)
+    return stabilized_rows(chips.graph, in_words(chips.numbers), program)
 
 
 def refuse_below_none(chips: Configuration) -> None:
@@ -203,52 +216,82 @@ def refuse_below_none(chips: Configuration) -> None:
 
 
 def stabilized_rows(
-    graph: Graph, chips: Sequence[int], program: FileName | None
+    graph: Graph, chips: array[int], program: FileName | None
 ) -> tuple[array[int], array[int]]:
     """The same of the chips of one game after another."""
     if graph.loops:
-        left, fired = stabilized_rows(graph.loop_free, graph.without_loops(chips), program)
+        start = in_words(graph.without_loops(chips))
+        left, fired = stabilized_rows(graph.loop_free, start, program)
         return graph.with_loops(left), fired
     found = library.play(graph, chips, program)
-    left, fired, stopped = found or (array("Q"), array("Q"), 0)
-    if not found and not chips:
-        ask(program, "check", [("graph", graph.kept)], graph=graph, begins="vertices ")
-    for start in () if found else range(0, len(chips), graph.vertices or 1):
-        files = [
-            ("graph", graph.kept),
-            ("chips", Kept([chips_text(chips[start : start + graph.vertices]).encode()])),
-        ]
-        told = json.loads(ask(program, "plain", files, graph=graph))
-        left.extend(told["chips"])
-        fired.extend(told["fired"])
-        stopped += len(told["over"])
+    left, fired, stopped = found or _by_program(graph, chips, program)
     if stopped:
         raise ValueError("a vertex fired 2^40 times, and the chips are not stable then")
     return left, fired
 
 
-def burning_test(
-    graph: Graph, rows: Sequence[tuple[int, ...]], program: FileName | None
-) -> list[bool]:
-    """Which configurations come back if the burning configuration is added and the sum is stabilized."""
+def _by_program(
+    graph: Graph, chips: array[int], program: FileName | None
+) -> tuple[array[int], array[int], int]:
+    """What `library.play` finds, by a process for each game."""
+    left, fired, stopped = array("Q"), array("Q"), 0
+    if not chips:
+        ask(program, "check", [("graph", graph.kept)], graph=graph, begins="vertices ")
+    for start in range(0, len(chips), graph.vertices or 1):
+        text = chips_text(chips[start : start + graph.vertices])
+        files = [("graph", graph.kept), ("chips", Kept([text.encode()]))]
+        told = json.loads(ask(program, "plain", files, graph=graph))
+        left.extend(told["chips"])
+        fired.extend(told["fired"])
+        stopped += len(told["over"])
+    return left, fired, stopped
+
+
+def burning_test(graph: Graph, chips: Sequence[int], program: FileName | None) -> list[bool]:
+    """Which configurations, one after another, are recurrent. What they have at the sink does not count."""
     if graph.loops:
-        return burning_test(
-            graph.loop_free, [tuple(map(operator.sub, row, graph.loops)) for row in rows], program
-        )
-    width = graph.vertices
-    none = (0,) * graph.vertices
-    # (no play comes back to what has less than no chip somewhere)
-    played = [row if min(row) >= 0 else none for row in rows]
-    flags = library.are_recurrent(graph, [*itertools.chain.from_iterable(played)], program)
-    if flags is not None:
-        return [bool(flag) and row is start for flag, row, start in zip(flags, rows, played)]
+        less = [*map(operator.sub, chips, itertools.cycle(graph.loops))]
+        return burning_test(graph.loop_free, less, program)
+    width = graph.vertices or 1
+    played, poor = _from_none_on(chips, graph.sink, width)
+    flags: Sequence[int] | None = library.are_recurrent(graph, played, program)
+    if flags is None:
+        flags = _come_back(graph, played, program)
+    return [bool(flag) and at not in poor for flag, at in zip(flags, range(0, len(played), width))]
+
+
+def _from_none_on(chips: Sequence[int], sink: int, width: int) -> tuple[array[int], set[int]]:
+    """The chips of configurations, 0 at the sink. Where one begins that has less than 0 somewhere, there is none in its
+    place, since no play comes back to it."""
+    none = [0] * (len(chips) // width)
+    found = in_column(chips)
+    if found is not None:
+        found[sink::width] = array("Q", none)
+        return found, set()
+    numbers = [*chips]
+    numbers[sink::width] = none
+    poor = {at for at in range(0, len(numbers), width) if min(numbers[at : at + width]) < 0}
+    for at in poor:
+        numbers[at : at + width] = [0] * width
+    return in_words(numbers), poor
+
+
+def _come_back(graph: Graph, chips: array[int], program: FileName | None) -> list[bool]:
+    """Which configurations come back if the burning configuration is added and the sum is stabilized."""
+    width = graph.vertices or 1
     fuel = burning(graph, program)[1]
-    burnt = (map(operator.add, row, fuel) for row in played)
-    left, _ = stabilized_rows(graph, [*itertools.chain.from_iterable(burnt)], program)
-    left[graph.sink :: width] = array("Q", bytes(8 * len(rows)))
-    return [
-        tuple(left[at : at + width]) == row for at, row in zip(range(0, len(left), width), rows)
-    ]
+    burnt = [*map(operator.add, chips, itertools.cycle(fuel))]
+    left, _ = stabilized_rows(graph, in_words(burnt), program)
+    left[graph.sink :: width] = chips[graph.sink :: width]
+    return [left[at : at + width] == chips[at : at + width] for at in range(0, len(chips), width)]
+
+
+def most_stable(graph: Graph) -> Sequence[int]:
+    """The chips of the maximal stable configuration, by numbers; the graph keeps them."""
+    if "most stable" not in graph.answers:
+        graph.answers["most stable"] = graph.max_stable().numbers
+    found: Sequence[int] = graph.answers["most stable"]
+    return found
 
 
 def cached_on_graph(
@@ -291,28 +334,27 @@ def identity(graph: Graph, program: FileName | None) -> Sequence[int]:
     return (twice - twice.stabilize(program=program)).stabilize(program=program).numbers
 
 
-def _from_library(form: str, held: Configuration, program: FileName | None) -> Configuration | None:
-    """The equivalent configuration of this form, if no chips are below 0 and the library finds it; else None."""
-    if held.graph.loops or min(held.numbers) < 0:
-        return None
-    chips = library.representative(held.graph, form, held.numbers, program)
-    return None if chips is None else Configuration(held.graph, chips)
-
-
-def recurrent_representative(held: Configuration, program: FileName | None) -> Configuration:
-    """The recurrent configuration that is equivalent to this one; `chipfire.recurrent_representative` tells how."""
+def representative(form: str, held: Configuration, program: FileName | None) -> Configuration:
+    """The `recurrent` or the `superstable` configuration that is equivalent to this one, or the `inverse` of the first;
+    `chipfire.recurrent_representative` and those beside it tell how."""
+    graph = held.graph
     if min(held.numbers) < 0:
         # (one chip more than is stable, less what these become, is equivalent to none, and 1 on each vertex at least)
-        full = held.graph.max_stable() + 1
+        full = graph.max_stable() + 1
         lift = full - full.stabilize(program=program)
-        held += (
-            max(-(count // more) for count, more in zip(held.numbers, lift.numbers) if more) * lift
-        )
-    chips = _from_library("recurrent", held, program)
-    if chips is not None:
-        return chips
+        pairs = zip(held.numbers, lift.numbers)
+        held += max(-(count // more) for count, more in pairs if more) * lift
+    if not graph.loops:
+        chips = library.representative(graph, form, in_words(held.numbers), program)
+        if chips is not None:
+            return Configuration(graph, chips)
+    if form == "superstable":
+        most = graph.max_stable()
+        return most - representative("recurrent", most - held, program)
+    if form == "inverse":
+        return representative("recurrent", -held, program)
     # (a sum is recurrent if one of the two is, and no chips of the other are below 0)
-    found = (held + identity(held.graph, program)).stabilize(program=program)
+    found = (held + identity(graph, program)).stabilize(program=program)
     if not found.is_recurrent(program=program):
         raise RuntimeError("what was found is not recurrent, by a mistake of this package")
     return found

@@ -15,7 +15,7 @@ from chipfire.configurations.configuration import (
     Chips,
     Configuration,
 )
-from chipfire.configurations.stabilization import as_configuration, as_rows
+from chipfire.configurations.stabilization import as_configuration, rows_of
 from chipfire.graphs.graph import Graph
 from chipfire.utils import import_optional, require_memory
 
@@ -24,16 +24,18 @@ def burning_script(graph: AnyGraph, *, program: AnyProgram = None) -> Configurat
     """The least burning script, by Speer: how often each vertex fires when a recurrent configuration burns: at least
     once, on an undirected graph exactly once, and so that no vertex has more chips than before. It is one more than the
     counts of a play that begins with one chip less on each vertex than edges lead in.
-    Proved: the script, where the library finds it in one call; else the counts of that play.
-    Not proved: that the script is passed on."""
+    Proved: the script, where the library finds it in one call. A play that may be too long for one call, or a process
+    without the library, has the program play: then its counts are proved. Not proved: that the script is passed on.
+    """
     known = known_graph(graph, program)
     return Configuration(known, burning(known, program)[0])
 
 
 def burning_configuration(graph: AnyGraph, *, program: AnyProgram = None) -> Configuration:
     """The chips that `burning_script` takes away. Added to a recurrent configuration and stabilized, it comes back.
-    Proved: the chips, where the library finds them in one call; else the counts of the script's play.
-    Not proved: that the chips are passed on, or that they follow from the script."""
+    Proved: the chips, where the library finds them in one call, as `burning_script` tells; else the counts of the
+    script's play. Not proved: that the chips are passed on, or else that they follow from the script.
+    """
     known = known_graph(graph, program)
     return Configuration(known, burning(known, program)[1])
 
@@ -43,7 +45,8 @@ def is_recurrent(graph: AnyGraph, chips: Chips, *, program: AnyProgram = None) -
 
     This is the burning test, for directed multigraphs too: a configuration is recurrent exactly if it comes back when
     `burning_configuration` is added to it and the sum is stabilized.
-    Proved: whether it is, where the library says it in one call; else the stabilizations, and that the test is right.
+    Proved: whether it is, where the library says it in one call. A play that may be too long for one call, or a process
+    without the library, has the program play: then the stabilizations are proved, and that the test is right.
     Not proved: that it is passed on, or else the comparison."""
     return as_configuration(graph, chips, program).is_recurrent(program=program)
 
@@ -54,8 +57,7 @@ def are_recurrent(
     """Of many configurations whether each is recurrent; they come as in `stabilize_many`.
     Proved and not proved: as of `is_recurrent`."""
     known = known_graph(graph, program)
-    rows = as_rows(known, configurations, None, program)
-    return burning_test(known, [Configuration(known, row).numbers for row in rows], program)
+    return burning_test(known, rows_of(known, configurations, None, program), program)
 
 
 def recurrent_representative(
@@ -63,9 +65,9 @@ def recurrent_representative(
 ) -> Configuration:
     """The one recurrent configuration to which firings, also backward, lead from this one; chips may be below 0. A
     configuration equivalent to zero is added in Python until no chips are below 0.
-    Proved: the rest, where the library finds it in one call. Else the identity is added, and the stable sum is tested:
-    then the stabilizations are proved. Not proved: that the chips are lifted right, and passed on.
-    """
+    Proved: the rest, where the library finds it in one call. A play that may be too long for one call, or a process
+    without the library, has the program play: then the identity is added, the stable sum is tested, and the
+    stabilizations are proved. Not proved: that the chips are lifted right, and passed on."""
     return as_configuration(graph, chips, program).equivalent_recurrent(program=program)
 
 
@@ -74,9 +76,22 @@ def superstable_representative(
 ) -> Configuration:
     """The one superstable configuration that is equivalent to this one, the q-reduced one; chips may be below 0.
     With `m` the maximal stable one, it is `m` less the recurrent representative of `m` less this one.
-    Proved: the configuration, where no chips are below 0 and the library finds it in one call; else what is proved of
-    `recurrent_representative`. Not proved: that it is passed on, or else the two differences."""
+    Proved: what is proved of `recurrent_representative`. Not proved: that the chips are lifted right, and passed on; and
+    where the program plays, the two differences."""
     return as_configuration(graph, chips, program).equivalent_superstable(program=program)
+
+
+def inverse(graph: AnyGraph, chips: Chips, *, program: AnyProgram = None) -> Configuration:
+    """The inverse of a recurrent configuration in the sandpile group: the one recurrent configuration whose stable sum
+    with it is `identity`. Of other chips, which may be below 0, it is the inverse of their recurrent representative.
+
+        add(graph, chips, inverse(graph, chips)) == identity(graph)
+
+    Proved: the inverse, where no chips are below 0 and the library finds it in one call. A play that may be too long for
+    one call, or a process without the library, has the program play: then it is the representative of 0 less the chips,
+    and the stabilizations are proved. Not proved: that chips below 0 are lifted right, and that it is passed on.
+    """
+    return as_configuration(graph, chips, program).inverse(program=program)
 
 
 def is_superstable(graph: AnyGraph, chips: Chips, *, program: AnyProgram = None) -> bool:

@@ -9,9 +9,22 @@ from typing import Any
 
 from chipfire.backend import library
 from chipfire.backend.commands import AnyGraph, AnyProgram, known_graph, read_chips
-from chipfire.configurations.configuration import Chips, Configuration, stabilized_rows
+from chipfire.configurations.configuration import (
+    Chips,
+    Configuration,
+    in_words,
+    stabilized_rows,
+)
 from chipfire.graphs.graph import Graph
-from chipfire.utils import as_int, FILE, import_optional, in_order, MAX_CHIPS, run_in_threads
+from chipfire.utils import (
+    as_int,
+    FILE,
+    import_optional,
+    in_column,
+    in_order,
+    numpy_of,
+    run_in_threads,
+)
 
 
 def as_configuration(graph: AnyGraph, chips: Chips, program: AnyProgram) -> Configuration:
@@ -48,21 +61,39 @@ def is_stable(graph: AnyGraph, chips: Chips) -> bool:
     return as_configuration(graph, chips, None).is_stable()
 
 
-def _is_in_range(numpy: Any, given: Any, width: int) -> bool:
-    """Whether this is an array of NumPy that has in each row `width` whole numbers from 0 to the most chips."""
-    if not isinstance(given, numpy.ndarray) or isinstance(given, numpy.ma.MaskedArray):
-        return False
-    if given.shape[1:] != (width,) or given.dtype.kind not in "iuf":
-        return False
-    return bool(((given >= 0) & (given <= MAX_CHIPS)).all() and (given % 1 == 0).all())
+def rows_of(
+    graph: Graph, configurations: Any, least: int | None, program: AnyProgram
+) -> Sequence[int]:
+    """The chips of many configurations of `least` or more, one after another."""
+    found = _whole_rows(graph, configurations, least)
+    if found is not None:
+        return found
+    return [*itertools.chain.from_iterable(_as_rows(graph, configurations, least, program))]
 
 
-def _in_one_row(graph: Graph, configurations: Any, program: AnyProgram) -> Sequence[int]:
-    """The chips of many configurations, one after another."""
-    numpy = import_optional("numpy")
-    if numpy and _is_in_range(numpy, configurations, graph.vertices):
-        return array("Q", configurations.astype("u8").tobytes())
-    return [*itertools.chain.from_iterable(as_rows(graph, configurations, 0, program))]
+def _whole_rows(graph: Graph, configurations: Any, least: int | None) -> array[int] | None:
+    """The same, if none of the numbers has to be looked at by itself; else None."""
+    numpy = numpy_of(configurations)
+    if numpy:
+        rows = _rows_of_array(numpy, graph, configurations)
+        return None if rows is None else in_column(rows, least)
+    kinds = {list, tuple, array}
+    is_of_rows = isinstance(configurations, (list, tuple)) and {*map(type, configurations)} <= kinds
+    if not is_of_rows or {*map(len, configurations)} != {graph.vertices}:
+        return None
+    return in_column([*itertools.chain.from_iterable(configurations)], least)
+
+
+def _rows_of_array(numpy: Any, graph: Graph, configurations: Any) -> Any:
+    """The rows of an array, with a number for each vertex; None if each row is neither that, nor has one for each but the
+    sink, also in the graph's shape."""
+    inner = graph.vertices - 1
+    is_of_squares = configurations.ndim == 3 and configurations.shape[1:] == graph.shape
+    if is_of_squares and graph.squares == range(inner) and graph.sink == inner:
+        configurations = configurations.reshape(-1, inner)
+    if configurations.shape[1:] == (inner,):
+        return numpy.insert(configurations, graph.sink, 0, axis=1)
+    return configurations if configurations.shape[1:] == (graph.vertices,) else None
 
 
 def stabilize_many(
@@ -80,26 +111,29 @@ def stabilize_many(
     Proved: the chips. Not proved: that Python passes them on."""
     known = known_graph(graph, program)
     width = known.vertices
-    start = _in_one_row(known, configurations, program)
+    start = in_words(rows_of(known, configurations, 0, program))
     count = len(start) // (width or 1)
     workers = as_int(workers, "workers", 1, 64)
-    many = 1
-    if workers > 1:
+    left = array("Q")
+    if workers == 1:
+        left = stabilized_rows(known, start, program)[0]
+    else:
         # (an interrupt waits for the parts that have begun, so each is about one call)
         of_a_call = library.at_once(known, start) or 1
         many = max(workers, -(-count // of_a_call))
-    ends = [width * (count * it // many) for it in range(many + 1)]
-    parts = run_in_threads(
-        lambda it: stabilized_rows(known, start[ends[it] : ends[it + 1]], program)[0], many, workers
-    )
-    left = array("Q", b"".join(part.tobytes() for part in parts))
+        ends = [width * (count * it // many) for it in range(many + 1)]
+        parts = [start[begin:end] for begin, end in zip(ends, ends[1:])]
+        for part in run_in_threads(
+            lambda it: stabilized_rows(known, parts[it], program)[0], many, workers
+        ):
+            left.extend(part)
     numpy = import_optional("numpy")
     if numpy:
         return numpy.frombuffer(left, "q").reshape(-1, width)
     return [tuple(left[it : it + width]) for it in range(0, len(left), width or 1)]
 
 
-def as_rows(
+def _as_rows(
     graph: Graph, configurations: Any, least: int | None, program: AnyProgram
 ) -> Iterator[tuple[int, ...]]:
     """The numbers of one configuration after the other."""

@@ -14,7 +14,7 @@ from typing import Any, Literal, overload, TypeVar
 
 from chipfire.backend.commands import AnyGraph, AnyProgram, known_graph
 from chipfire.configurations import smith
-from chipfire.configurations.configuration import stabilized_rows
+from chipfire.configurations.configuration import in_words, stabilized_rows
 from chipfire.configurations.laplacian import order
 from chipfire.configurations.recurrent import recurrents, superstables
 from chipfire.graphs.graph import Graph
@@ -105,7 +105,9 @@ def avalanche_polynomial(
         dropped = (
             [count + (at == vertex) for at, count in enumerate(chips.numbers)] for vertex in inner
         )
-        _, fired = stabilized_rows(known, [*itertools.chain.from_iterable(dropped)], program)
+        _, fired = stabilized_rows(
+            known, in_words([*itertools.chain.from_iterable(dropped)]), program
+        )
         odometers = ([fired[at + vertex] for vertex in inner] for at in range(0, len(fired), width))
         found.update(tuple(counts) if multivariable else sum(counts) for counts in odometers)
     return _sorted(found)

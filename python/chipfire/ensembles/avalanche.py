@@ -13,7 +13,7 @@ from chipfire.backend.commands import AnyGraph, AnyProgram, known_graph
 from chipfire.configurations.configuration import Chips, Configuration, refuse_below_none
 from chipfire.configurations.stabilization import as_configuration
 from chipfire.ensembles.drops import names_of, PART
-from chipfire.ensembles.pile import Pile
+from chipfire.ensembles.pile import LentPile
 from chipfire.graphs.graph import Graph
 from chipfire.utils import as_int, random_generator
 
@@ -81,7 +81,7 @@ def avalanches(
 ) -> Iterator[Avalanche]:
     """The avalanches of chips that are dropped one after another, each on what the one before it left.
 
-    They come one at a time, as they are wanted, on a pile that is kept meanwhile. `drops` has the numbers of all of them
+    They come one at a time, as they are wanted, on a pile that the graph keeps. `drops` has the numbers of all of them
     in columns, and sooner.
     Proved: the play that each chip causes, and its numbers. Not proved: that Python passes them on.
     """
@@ -92,7 +92,7 @@ def avalanches(
 
     def dropped() -> Iterator[Avalanche]:
         refuse_below_none(start)
-        with Pile(start.graph, start, program=program) as pile:
+        with LentPile(start.graph, start, program=program) as pile:
             _, fired = pile.ends()
             for name in names:
                 size, extent, lost = pile.drop(name)

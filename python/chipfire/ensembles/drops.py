@@ -13,7 +13,7 @@ from typing import Any
 from chipfire.backend import kept, library
 from chipfire.backend.process import refused
 from chipfire.backend.report import Report
-from chipfire.configurations.configuration import capped, CHIPS_HEADER, Configuration
+from chipfire.configurations.configuration import CHIPS_HEADER, Configuration, in_words
 from chipfire.ensembles import archive
 from chipfire.ensembles.power_law import sizes_figure
 from chipfire.graphs.graph import Graph
@@ -21,6 +21,7 @@ from chipfire.utils import (
     as_ints,
     FileName,
     import_optional,
+    in_column,
     in_order,
     listed,
     MAX_LIMIT,
@@ -53,6 +54,25 @@ class Drops:
     extent: Any
     lost: Any
     report: Report
+
+    @classmethod
+    def with_report_later(cls, columns: Iterable[Any], make: Callable[[], Report]) -> Drops:
+        """Drops whose report is made when it is asked for."""
+        found = cls.__new__(cls)
+        vars(found).update(zip(COLUMNS, columns), _make=make)
+        return found
+
+    def __getattr__(self, name: str) -> Any:
+        """The report that was not made yet; no other attribute comes later."""
+        if name != "report" or "_make" not in vars(self):
+            raise AttributeError(f"drops have no {name!r}")
+        return vars(self).setdefault("report", self._make())
+
+    def __getstate__(self) -> dict[str, Any]:
+        return {name: getattr(self, name) for name in (*COLUMNS, "report")}
+
+    def __setstate__(self, state: dict[str, Any]) -> None:
+        vars(self).update(state)
 
     def __len__(self) -> int:
         return len(self.size)
@@ -136,21 +156,33 @@ def names_of(vertices: Any, what: str) -> Iterable[Any]:
 
 def dropped_on(graph: Graph, vertices: Any, amounts: Any) -> tuple[array[int], array[int]]:
     """The numbers of the vertices, and how many chips fall on each: one, if there are no amounts."""
-    at = array("Q", map(graph.number, names_of(vertices, "drops")))
-    many: Sequence[int] = [1] * len(at)
-    if amounts is not None:
+    at = _numbers_of(graph, vertices)
+    if amounts is None:
+        return at, array("Q", [1]) * len(at)
+    many = in_column(amounts) if getattr(amounts, "ndim", 1) == 1 else None
+    if many is None:
         given = listed(amounts, "the amounts of drops are one for each drop")
-        many = as_ints(given, lambda drop: f"the number of chips of drop {drop}")
+        many = in_words(as_ints(given, lambda drop: f"the number of chips of drop {drop}"))
     if len(many) != len(at):
         raise ValueError(
             f"there are {with_unit(len(at), 'drop')}, and {with_unit(len(many), 'amount')}"
         )
-    return at, array("Q", capped(many))
+    return at, many
+
+
+def _numbers_of(graph: Graph, vertices: Any) -> array[int]:
+    """The numbers of vertices that stand in an order."""
+    is_mask = getattr(getattr(vertices, "dtype", None), "kind", "") == "b"
+    if isinstance(graph.names, range) and getattr(vertices, "ndim", 1) == 1 and not is_mask:
+        found = in_column(vertices, 0, graph.vertices - 1)
+        if found is not None:
+            return found
+    return array("Q", map(graph.number, names_of(vertices, "drops")))
 
 
 def played_drops(
     graph: Graph,
-    chips: Sequence[int],
+    chips: array[int],
     at: array[int],
     amounts: array[int],
     program: FileName | None,
@@ -160,19 +192,21 @@ def played_drops(
     total = sum(chips)
     if program is not None or max(total + 1, total + max(amounts, default=0)) > most:
         return None
-    pile = kept.take(graph, array("Q", chips), most)
+    pile = kept.take(graph, chips, most)
     if pile is None:
         return None
     try:
-        columns = [array("Q", bytes(8 * len(at))) for _ in range(3)]
+        columns = [array("Q", [0]) * len(at) for _ in range(3)]
         fired = _counts_of(pile, at, amounts, columns, most, graph)
-        left = tuple(pile.chips())
+        left = pile.chips()
     finally:
         kept.give_back(graph, pile)
-    if fired is None or sum(fired) > MAX_LIMIT:
+    if fired is None:
         return None
-    size, extent, lost = shown(columns)
-    return Drops(size, extent, lost, Report(left, tuple(fired), (), graph=graph))
+    counts = fired
+    return Drops.with_report_later(
+        shown(columns), lambda: Report(tuple(left), tuple(counts), (), graph=graph)
+    )
 
 
 def _counts_of(
@@ -182,32 +216,41 @@ def _counts_of(
     columns: Sequence[Any],
     most: int,
     graph: Graph,
-) -> Sequence[int] | None:
-    """How often each vertex fires if a pile is played and then these drops are made; None if the limit stops a play.
+) -> array[int] | None:
+    """How often each vertex fires if a pile is played and then these drops are made; None if the limit stops a play, or if
+    they are more than 2^40 in all.
 
     The limit is of each call. So the pile begins anew on what lies there, before a vertex can have fired half as often.
     """
-    before: Sequence[int] = [0] * pile.vertices
-    if pile.play():
-        return None
-    firings = sum(pile.fired())
+    before: array[int] | None = None
+    firings: int | None = None
+    is_first = True
 
     def call(where: Any, many: Any, rows: list[Any]) -> bool:
-        nonlocal before, firings
-        if firings > most // 2:
-            before = [*map(operator.add, before, pile.fired())]
+        nonlocal before, firings, is_first
+        if firings is None and not is_first:
+            firings = sum(pile.fired())
+        is_first = False
+        if firings is not None and firings > most // 2:
+            before = _sums(pile.fired(), before)
             firings = 0
             if number := pile.put(pile.chips(), most):
                 raise refused(number, 0, graph)
         number, drop = pile.drops(where, many, rows)
         if number not in (0, kept.STOPPED):
             raise refused(number, drop, graph)
-        firings += sum(rows[0])
+        if firings is not None:
+            firings += sum(rows[0])
         return number == 0
 
-    if not in_calls(call, at, amounts, columns):
-        return None
-    return [*map(operator.add, before, pile.fired())]
+    is_over = in_calls(call, at, amounts, columns) if at else pile.play() == 0
+    fired = _sums(pile.fired(), before)
+    return fired if is_over and (before is None or sum(fired) <= MAX_LIMIT) else None
+
+
+def _sums(counts: array[int], more: array[int] | None) -> array[int]:
+    """Counts with others, if there are any."""
+    return counts if more is None else array("Q", map(operator.add, counts, more))
 
 
 def in_calls(

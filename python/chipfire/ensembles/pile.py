@@ -14,7 +14,7 @@ from chipfire.backend import kept, library
 from chipfire.backend.commands import AnyGraph, AnyProgram, drops, known_graph, plain, read_chips
 from chipfire.backend.process import refused
 from chipfire.backend.report import Report
-from chipfire.configurations.configuration import capped, Chips, Configuration
+from chipfire.configurations.configuration import Chips, Configuration, in_words
 from chipfire.ensembles.drops import dropped_on, Drops, in_calls, shown
 from chipfire.graphs.graph import Graph
 from chipfire.utils import as_int, FILE, MAX_CHIPS, MAX_LIMIT
@@ -210,8 +210,8 @@ class Pile:
         """Chips as plays of the graph without loops begin."""
         if isinstance(chips, FILE):
             chips = read_chips(chips, self.graph, program=self._program)
-        numbers = self.graph.chips(0 if chips is None else chips)
-        return array("Q", capped(self.graph.without_loops(numbers)))
+        numbers = self.graph.column(0 if chips is None else chips, 0)
+        return in_words(self.graph.without_loops(numbers))
 
     def _ready(self, old: kept.KeptPile | None = None) -> kept.KeptPile | None:
         """The library's pile, played to the end. None if the program plays; then chips and counts are known."""
@@ -234,7 +234,7 @@ class Pile:
             return None
         own = old if old is not None and old.is_own else None
         if own is None:
-            own = kept.KeptPile(found, self._free, start, min(limit, most))
+            own = self._made(found, start, min(limit, most))
         elif number := own.put(start, min(limit, most)):
             raise refused(number, 0, self.graph)
         number = own.play()
@@ -243,6 +243,14 @@ class Pile:
             return None
         self._is_stopped = number != 0
         return own
+
+    def _made(self, found: Any, start: array[int], limit: int) -> kept.KeptPile:
+        """A pile of the library."""
+        return kept.KeptPile(found, self._free, start, limit)
+
+    def _end_of(self, pile: kept.KeptPile) -> None:
+        """What becomes of it at the end."""
+        pile.free()
 
     @property
     def _free(self) -> Graph:
@@ -306,7 +314,7 @@ class Pile:
             self._end = (pile.chips(), pile.fired()) if is_whole else None
             self._kept = None
             if pile.is_own:
-                pile.free()
+                self._end_of(pile)
 
     def _by_library(self, pile: kept.KeptPile, at: array[int], amounts: array[int]) -> Drops | None:
         """Drops on the library's pile; None if they are too long for this process."""
@@ -373,6 +381,16 @@ class Pile:
                 column.append(count)
         size, extent, lost = shown(columns)
         return Drops(size, extent, lost, self._report())
+
+
+class LentPile(Pile):
+    """A pile for one call: that which the graph keeps, and has again at the end."""
+
+    def _made(self, found: Any, start: array[int], limit: int) -> kept.KeptPile:
+        return kept.taken(found, self._free, start, limit)
+
+    def _end_of(self, pile: kept.KeptPile) -> None:
+        kept.give_back(self._free, pile)
 
 
 def _limit(limit: int | None, usual: int) -> int:

@@ -6,7 +6,18 @@ from array import array
 from collections.abc import Hashable, Iterable, Mapping, Sequence, Set
 from typing import Any, NamedTuple
 
-from chipfire.utils import as_ints, in_order, is_of_networkx, sorted_if_possible
+from chipfire.utils import (
+    as_ints,
+    in_column,
+    in_order,
+    is_of_networkx,
+    numpy_of,
+    recoded,
+    sorted_if_possible,
+)
+
+#: The greatest end of an edge, and the greatest multiplicity, that a graph stores; less can be played on.
+MAX_END = 2**31 - 1
 
 
 class Columns(NamedTuple):
@@ -75,14 +86,29 @@ def _given_rows(edges: Any, is_directed: bool) -> Iterable[Any]:
 
 def edge_columns(edges: Iterable[Any]) -> Columns:
     """Rows (tail, head) or (tail, head, mult) by columns."""
+    found = _columns_of_array(edges)
+    if found is not None:
+        return found
     rows = edge_rows(edges, True)
 
     def column(place: int, what: str) -> array[int]:
         values = [row[place] for row in rows]
-        numbers = as_ints(values, lambda edge: f"the {what} of edge {edge}", 0, 2**31 - 1)
+        numbers = as_ints(values, lambda edge: f"the {what} of edge {edge}", 0, MAX_END)
         return array("i", numbers)
 
     return Columns(column(0, "tail"), column(1, "head"), column(2, "multiplicity"))
+
+
+def _columns_of_array(edges: Any) -> Columns | None:
+    """The columns of edges that are rows of an array of NumPy, whole numbers from 0 on; None if they are others."""
+    if not numpy_of(edges) or edges.ndim != 2 or edges.shape[1] not in (2, 3):
+        return None
+    found = [in_column(edges[:, place], 0, MAX_END) for place in range(edges.shape[1])]
+    columns = [recoded(it, "i") for it in found if it is not None]
+    if len(columns) < len(found):
+        return None
+    ones = array("i", [1]) * len(edges)
+    return Columns(*[*columns, ones][:3])
 
 
 def names_of_ends(rows: Iterable[Sequence[Any]]) -> list[Any]:

@@ -25,11 +25,15 @@ from chipfire.utils import (
     as_int,
     as_ints,
     FileName,
+    in_column,
     in_order,
     is_of_networkx,
     MAX_LARGE_EDGES,
     MAX_LARGE_VERTICES,
     MAX_MULT,
+    numpy_in_use,
+    numpy_of,
+    recoded,
     with_unit,
 )
 
@@ -151,7 +155,7 @@ class Graph:
     def long_columns(self) -> Columns:
         """The edges by columns of 64-bit numbers, as the library takes them."""
         self.refuse_loops()
-        return Columns(*(array("Q", column) for column in self.columns))
+        return Columns(*(recoded(column, "Q") for column in self.columns))
 
     @functools.cached_property
     def shape(self) -> tuple[int, int] | None:
@@ -227,6 +231,8 @@ class Graph:
 
     def number(self, name: Hashable) -> int:
         """The number of the vertex with this name or, without names, on this square (row, column); else a KeyError."""
+        if type(name) is int and isinstance(self.names, range) and 0 <= name < self.vertices:
+            return name
         try:
             return self._numbers[name]
         except (KeyError, TypeError):
@@ -266,7 +272,14 @@ class Graph:
     @functools.cached_property
     def _degrees(self) -> tuple[int, ...]:
         found = [0] * self.vertices
-        for tail, mult in zip(self.columns.tails, self.columns.mults):
+        tails, _, mults = self.columns
+        numpy = numpy_in_use() if tails else None
+        if numpy:
+            ends, sent = (numpy.frombuffer(it, "i") for it in (tails, mults))
+            # (it adds up floats, which are exact below 2^53)
+            if ends.max() < self.vertices and int(sent.max()) * len(sent) < 2**53:
+                return tuple(numpy.bincount(ends, sent, self.vertices).astype("q").tolist())
+        for tail, mult in zip(tails, mults):
             found[tail] += mult
         return tuple(found)
 
@@ -411,6 +424,12 @@ class Graph:
         """The same, of `least` or more if that is said; or numbers of something else, as of "firings". If they are
         wanted `with_sink`, a sequence has one for the sink too, and one number is for all vertices.
         """
+        return tuple(self.column(values, least, of, with_sink=with_sink))
+
+    def column(
+        self, values: Any, least: int | None = None, of: str = "chips", *, with_sink: bool = False
+    ) -> array[int] | list[int]:
+        """The same as an array of 64-bit numbers, which is the caller's own; or as a list, if one of them has more bits."""
         is_report = hasattr(values, "prior") and hasattr(values, "chips")
         if is_report or isinstance(values, Sums):
             if values.graph is not None and not values.graph.is_like(self):
@@ -418,16 +437,45 @@ class Graph:
                 raise ValueError(f"the {kind} is one of another graph")
             if is_report or values.graph.names == self.names:
                 values = values.chips if is_report else values.numbers
+        found = self._whole_column(values, least, with_sink)
+        if found is not None:
+            return found
         is_named = hasattr(values, "items") and not any(
             hasattr(values, it) for it in ("columns", "toarray")
         )
         is_named = is_named and not is_of_networkx(values)
         rows = self._by_names(values) if is_named else self._in_order(values, of, with_sink)
-        return tuple(
-            as_ints(
-                rows, lambda vertex: f"the number of {of} of vertex {self.names[vertex]!r}", least
-            )
+        return as_ints(
+            rows, lambda vertex: f"the number of {of} of vertex {self.names[vertex]!r}", least
         )
+
+    def _whole_column(self, values: Any, least: int | None, with_sink: bool) -> array[int] | None:
+        """Whole numbers that none has to be looked at by itself: one for each vertex, or for each but the sink, or an
+        array of NumPy of the graph's shape. None for all else."""
+        if not isinstance(values, (list, tuple, array)) and not numpy_of(values):
+            return None
+        if getattr(values, "ndim", 1) > 1:
+            return self._of_squares(values, least, with_sink)
+        lacks_sink = len(values) == self.vertices - 1 and not with_sink
+        if len(values) != self.vertices and not lacks_sink:
+            return None
+        found = in_column(values, least)
+        if found is not None and lacks_sink:
+            found.insert(self.sink, 0)
+        return found
+
+    def _of_squares(self, values: Any, least: int | None, with_sink: bool) -> array[int] | None:
+        """The same of an array of the graph's shape, each square of which is a vertex."""
+        if values.shape != self.shape or len(self.squares) != values.size:
+            return None
+        if not isinstance(self.squares, range):
+            return None
+        found = in_column(values, least)
+        if found is not None:
+            if self.sink < len(found) and not with_sink:
+                found[self.sink] = 0
+            found.extend([0] * (self.vertices - len(found)))
+        return found
 
     def _by_names(self, values: Mapping[Hashable, Any]) -> list[Any]:
         found: dict[int, Any] = {}

@@ -30,7 +30,8 @@ The usual words of sandpiles are found under these names:
     recurrent, superstable     is_recurrent(graph, chips), is_superstable(graph, chips); all of them: recurrents(graph)
     many configurations        stabilize_many(graph, rows), are_recurrent(graph, rows)
     equivalent, q-reduced      recurrent_representative(graph, chips), superstable_representative(graph, chips)
-    sandpile group             order(graph), invariant_factors(graph), Configuration.order(); coordinates: Group(graph)
+    sandpile group             order(graph), invariant_factors(graph), Configuration.order(); coordinates: Group(graph);
+                               with add(graph, first, second): identity(graph), inverse(graph, chips)
     divisor, linear system     Divisor(graph, chips): reduced, effective, is_equivalent, rank; canonical_divisor, genus
     polynomials                tutte_polynomial(graph), level_polynomial(graph), avalanche_polynomial(graph)
     Laplacian                  laplacian(graph), reduced_laplacian(graph)
@@ -100,6 +101,7 @@ from chipfire.configurations.recurrent import (
     are_recurrent,
     burning_configuration,
     burning_script,
+    inverse,
     is_recurrent,
     is_superstable,
     recurrent_representative,
@@ -229,6 +231,7 @@ __all__ = [
     "grid_for",
     "identity",
     "invariant_factors",
+    "inverse",
     "is_recurrent",
     "is_stable",
     "is_superstable",

@@ -206,6 +206,7 @@ OF_CHIPS = {
     "is_superstable": lambda it: chipfire.is_superstable(GRID, it),
     "recurrent_representative": lambda it: chipfire.recurrent_representative(GRID, it),
     "superstable_representative": lambda it: chipfire.superstable_representative(GRID, it),
+    "inverse": lambda it: chipfire.inverse(GRID, it),
     "sum": lambda it: GRID.max_stable() + it, "difference": lambda it: GRID.max_stable() - it,
     "coordinates": lambda it: chipfire.Group(GRID).coordinates(it),
     "order of Group": lambda it: chipfire.Group(GRID).order(it),
@@ -223,7 +224,7 @@ OF_GRAPHS = {
         " Group"
     ).split()},
     **{it: lambda graph, it=it: getattr(chipfire, it)(graph, 1) for it in (
-        "Configuration Divisor is_recurrent is_stable is_superstable plain recurrent_representative run stabilize"
+        "Configuration Divisor inverse is_recurrent is_stable is_superstable plain recurrent_representative run stabilize"
         " superstable_representative random_recurrent Pile"
     ).split()},
     **{it: lambda graph, it=it: next(iter(getattr(chipfire, it)(graph))) for it in ("recurrents", "superstables")},

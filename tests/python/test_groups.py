@@ -59,6 +59,29 @@ class Groups(unittest.TestCase):
                 self.assertIn(chips.numbers, found)
                 self.assertEqual(group.coordinates(chips), tuple(int(at == place) for at in range(len(group.factors))))
 
+    def test_inverses_and_the_identity(self):
+        for graph in small_graphs() if chipfire.find_library() else small_graphs(2, 3):
+            group, found = chipfire.Group(graph), model.recurrents(graph)
+            self.assertEqual(group.coordinates(group.identity), (0,) * len(group.factors))
+            self.assertIn(group.identity.numbers, found)
+            for chips in found:
+                back = chipfire.inverse(graph, chips)
+                self.assertIn(back.numbers, found, (graph.edges, chips))
+                self.assertEqual(chipfire.add(graph, chips, back), group.identity, (graph.edges, chips))
+
+    def test_the_inverse_of_chips_that_are_not_recurrent(self):
+        """It is that of the representative, also of chips below 0 and of many."""
+        draw = random.Random(8)
+        for graph in [chipfire.grid(3, 3), chipfire.complete(5), random_graph(draw, 6, 3)]:
+            group = chipfire.Group(graph)
+            for least, most in ((0, 9), (-9, 9), (-2**20, 2**20)):
+                chips = chipfire.Configuration(graph, [draw.randint(least, most) for _ in range(graph.vertices - 1)])
+                back = chips.inverse()
+                self.assertTrue(back.is_recurrent())
+                opposite = tuple(-it % factor for it, factor in zip(group.coordinates(chips), group.factors))
+                self.assertEqual(group.coordinates(back), opposite)
+                self.assertEqual(back, chips.equivalent_recurrent().inverse())
+
     def test_larger_groups(self):
         draw = random.Random(3)
         for graph in [chipfire.grid(4, 4), chipfire.complete(6), chipfire.torus(3, 4), random_graph(draw, 8, 30)]:

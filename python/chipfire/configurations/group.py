@@ -80,6 +80,11 @@ class Group:
         return found
 
     @functools.cached_property
+    def identity(self) -> Configuration:
+        """The element whose coordinates are all 0: `chipfire.identity`, and as much of it is proved."""
+        return self.graph.identity()
+
+    @functools.cached_property
     def generators(self) -> tuple[Configuration, ...]:
         """The recurrent configurations that generate the group: each has a coordinate 1, and else 0."""
         places = range(len(self.factors))

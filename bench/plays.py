@@ -1,13 +1,22 @@
 #!/usr/bin/env python3
 """Times the plays of libchipfire.so, apart from the making of the graph, beside a plain work list in C (library/plain.c).
 
-    bench/library/plays [--turns N] [--game NAME].. [--program FILE]
+    bench/library/plays [--turns N] [--game NAME].. [--drawn N] [--old LIB] [--program FILE]
 
-A play is one call less the same call without chips. In each turn each library makes both calls, in a process of its
-own, which is stopped after so many seconds that it has not ended; what counts is the least time of the processor of
-each call, and both libraries must return the same numbers. What is printed is Markdown, for docs/BENCHMARKS.md. FILE
-is the program that ./chipfire built, if not said; the library lies beside it. The status is 1 if two answers differ.
+A play is one call less the same call without chips, which is what the graph takes and has a row of its own. In each turn
+each library makes both calls, in a process of its own, which is stopped after so many seconds that it has not ended;
+short ones it makes several times. What counts is the least time of the processor of each call, and all libraries must
+return the same numbers. LIB is another libchipfire.so, as of an older version, beside which the same is timed. Drops are
+one a call on a pile that is kept, and one a call with its graph.
+
+With --drawn N small games are timed instead, of each family and load in turn (drawn.py): how many plays of the library
+take at most 2.5 and 3.5 times that of the quicker of the others, and a row for each that takes more than 2.5. A play that
+takes less than 20 microseconds counts as that.
+
+What is printed is Markdown, for docs/BENCHMARKS.md. FILE is the program that ./chipfire built, if not said; the library
+lies beside it. The status is 1 if two answers differ.
 """
+import contextlib
 import ctypes
 import hashlib
 import multiprocessing
@@ -16,10 +25,16 @@ import random
 import time
 
 import library  # (before the next, which has Python find that of tools/)
+import drawn
 import frame
 import inputs
 
 PATIENCE = 120.0
+#: How long and how often a short call is made again in a turn, and what a play counts at least.
+AGAIN, MOST = 0.02, 20
+LEAST = 20e-6
+#: How near plays are counted.
+NEAR = 2.5, 3.5
 
 
 def ring_one_way(draw):
@@ -77,70 +92,172 @@ GAMES = {
     "1,000 by 1,000, stable but for one vertex": all_but_one,
     "clique of 100 with a tail of 200": clique_with_tail,
 }
+#: The sides of the squares on which one chip is dropped a call, and how many calls are timed.
+DROPS = {"one drop a call, 64 by 64": (64, 20_000), "one drop a call, 256 by 256": (256, 2000)}
 
 
-def called(path, game, to):
-    """Makes the call with the chips and the one without, and sends the seconds of both and a sum of the numbers."""
-    vertices, sink, edges, chips = game
-    lib = library.loaded(path)
-    columns, none = [library.array(column) for column in zip(*edges)], library.array([])
-    ends = library.WORD(vertices), library.WORD(sink)
-    graph = [*ends, *library.words(*columns), library.WORD(library.LIMIT)]
-    seconds, total = [], hashlib.sha256()
-    for start in (chips, [0] * vertices):
-        numbers = [library.array(it) for it in (start, [0] * vertices, [0])]
-        given = library.words(none, *numbers)
+class Game:
+    """A game in memory, which the processes that play it have too: chips on a graph, and vertices to drop on."""
+
+    def __init__(self, vertices, sink, edges, chips, at=()):
+        self.vertices = vertices
+        self.columns = [library.array(column) for column in zip(*edges)]
+        self.words = [library.WORD(vertices), library.WORD(sink), *library.words(*self.columns)]
+        self.chips, self.at = library.array(chips), library.array(at)
+
+    def copied(self):
+        """The chips in memory of their own."""
+        numbers = library.array([0] * self.vertices)
+        ctypes.memmove(numbers[0], self.chips[0], 8 * self.vertices)
+        return numbers
+
+
+def stabilized(lib, game, start):
+    """Returns the least seconds of a call, which is made again while it is short, and the numbers that it returns."""
+    none, numbers = library.array([]), [
+        library.array([0] * it) for it in (game.vertices,) * 2 + (1,)
+    ]
+    slices = library.words(none, *numbers)
+    least, begun = float("inf"), time.process_time()
+    for _ in range(MOST):
+        ctypes.memmove(numbers[0][0], start[0], 8 * game.vertices)
+        now, limit, place = time.process_time(), library.WORD(library.LIMIT), library.WORD()
+        status = lib.chipfire_stabilize_all(*game.words, limit, *slices, ctypes.byref(place))
+        least = min(least, time.process_time() - now)
+        if time.process_time() - begun > AGAIN:
+            break
+    return least, bytes([status]) + b"".join(bytes(memory) for memory, _ in numbers)
+
+
+def of_game(lib, _, game):
+    """Returns the seconds of the graph and of the play, and the numbers."""
+    graph, none = stabilized(lib, game, library.array([0] * game.vertices))
+    both, numbers = stabilized(lib, game, game.chips)
+    return (graph, max(both - graph, LEAST)), none + numbers
+
+
+def of_drops(lib, driver, game):
+    """Drops one chip a call. Returns the seconds of a call that makes the graph, and of one on a pile; and the numbers."""
+    limit, place = library.WORD(library.LIMIT), library.WORD()
+    at, count = library.words(game.at)
+    with_graph = float("inf")
+    for _ in range(MOST):
+        numbers, columns = game.copied(), [library.array([0]) for _ in range(3)]
+        first = [at, ctypes.c_size_t(1), *library.words(library.array([1]), numbers, *columns)]
         begun = time.process_time()
-        status = lib.chipfire_stabilize_all(*graph, *given, ctypes.byref(library.WORD()))
-        seconds.append(time.process_time() - begun)
-        for memory, _ in numbers:
-            total.update(bytes(memory))
-        total.update(bytes([status]))
-    to.send((seconds, total.digest()))
+        lib.chipfire_avalanches(*game.words, limit, *first, ctypes.byref(place))
+        with_graph = min(with_graph, time.process_time() - begun)
+    pile, sums = (library.WORD * 2)(), (library.WORD * 3)()
+    start = library.words(game.chips)
+    lib.chipfire_pile_new(pile, *game.words, limit, *start, ctypes.byref(place))
+    begun = time.process_time()
+    driver.drop_each(lib.chipfire_pile_drop, pile, at, count, sums)
+    each = (time.process_time() - begun) / count.value
+    lib.chipfire_pile_free(pile)
+    return (with_graph, each), b"".join(bytes(it) for it in (numbers[0], sums))
 
 
-def asked_for(path, game):
-    """Returns what a process of its own sends of both calls, or None if it is stopped."""
+def called(timed, path, plain, game, to):
+    """Times a game, and sends the seconds and a sum of the numbers."""
+    seconds, numbers = timed(library.loaded(path), ctypes.CDLL(plain), game)
+    to.send((seconds, hashlib.sha256(numbers).digest()))
+
+
+def asked_for(timed, path, plain, game):
+    """Returns what a process of its own sends of a game, or None if it is stopped."""
     end, to = multiprocessing.Pipe(duplex=False)
-    process = multiprocessing.Process(target=called, args=(path, game, to))
+    process = multiprocessing.Process(target=called, args=(timed, path, plain, game, to))
     process.start()
-    sent = end.recv() if end.poll(PATIENCE) else None
+    to.close()
+    sent = None
+    if end.poll(PATIENCE):
+        with contextlib.suppress(EOFError):
+            sent = end.recv()
     process.terminate()
     process.join()
     return sent
 
 
-def row(name, paths, turns):
-    """Returns the row of a game."""
-    game = GAMES[name](random.Random(name))
-    least = [[float("inf")] * 2 for _ in paths]
+def least_of(name, timed, paths, game, turns):
+    """Returns the least seconds of each library, of the graph and of the play; None of one that was stopped."""
+    least = [(float("inf"),) * 2 for _ in paths]
     for _ in range(turns):
         sums = set()
         for which, path in enumerate(paths):
-            sent = asked_for(path, game) if least[which] else None
+            sent = asked_for(timed, path, paths[1], game) if least[which] else None
             if sent is None:
-                least[which] = []
+                least[which] = None
                 continue
-            seconds, numbers = sent
-            least[which] = [min(pair) for pair in zip(least[which], seconds)]
-            sums.add(numbers)
+            least[which] = tuple(map(min, least[which], sent[0]))
+            sums.add(sent[1])
         if len(sums) > 1:
-            frame.stop(f"{name}: the two libraries return other numbers")
-    plays = [it[0] - it[1] if it else None for it in least]
-    cells = [f"{it:.3f} s" if it is not None else f"> {PATIENCE:.0f} s" for it in plays]
-    ratio = f"{plays[0] / plays[1]:.2f}" if None not in plays else ""
-    return f"| {' | '.join([name, *cells, ratio])} |"
+            frame.stop(f"{name}: two libraries return other numbers")
+    return least
+
+
+def shown(seconds):
+    if seconds is None:
+        return f"> {PATIENCE:.0f} s"
+    return f"{seconds:.3f} s" if seconds >= 0.01 else f"{seconds * 1e6:,.1f} us"
+
+
+def print_row(name, seconds):
+    """Prints a row: the seconds of each library, and how many times those of the quickest of the others the first takes."""
+    others = [it for it in seconds[1:] if it is not None]
+    ratio = f"{seconds[0] / min(others):.2f}" if seconds[0] and others else ""
+    print(f"| {' | '.join([name, *map(shown, seconds), ratio])} |", flush=True)
+
+
+def print_game(name, paths, turns):
+    """Prints the rows of a game: its graph and its play."""
+    draw = random.Random(name)
+    words, timed = ("the graph of: {}", "{}"), of_game
+    if name in DROPS:
+        side, calls = DROPS[name]
+        at = [draw.randrange(side * side) for _ in range(calls)]
+        game = Game(*on_grid(side, [3] * side * side), at)
+        words, timed = ("{}, each with its graph", "{}, on a pile"), of_drops
+    else:
+        game = Game(*GAMES[name](draw))
+    least = least_of(name, timed, paths, game, turns)
+    for which, word in enumerate(words):
+        print_row(word.format(name), [it and it[which] for it in least])
+
+
+def time_drawn(count, paths, turns):
+    """Times drawn games, and prints how many plays are near the quickest of the others, and the others of them."""
+    ratios = []
+    for name, game in drawn.games(count):
+        least = [it and it[1] for it in least_of(name, of_game, paths, Game(*game), turns)]
+        others = [it for it in least[1:] if it is not None]
+        if not others:
+            print_row(f"{name}, which nobody ends", least)
+            continue
+        ratios.append(float("inf") if least[0] is None else least[0] / min(others))
+        if ratios[-1] > NEAR[0]:
+            print_row(name, least)
+    near = [f"{sum(it <= most for it in ratios):,} within {most}" for most in NEAR]
+    print(f"\nof {len(ratios):,} plays {', '.join(near)}; the farthest {max(ratios):.2f}")
 
 
 def main():
     words = frame.parser(__doc__, turns=3)
-    words.add_argument("--game", action="append", choices=GAMES)
+    words.add_argument("--game", action="append", choices=[*GAMES, *DROPS])
+    words.add_argument("--drawn", type=int, metavar="N")
+    words.add_argument("--old", type=os.path.realpath, metavar="LIB")
     asked = frame.read_words(words)
     plain = frame.compiled(library.COMPILE, "library/plain.c", "libplain.so")
     paths = [f"{os.path.dirname(asked.program)}/libchipfire.so", plain]
-    print("| A play | library | plain C | library : plain C |\n|---|---:|---:|---:|")
-    for name in asked.game or GAMES:
-        print(row(name, paths, asked.turns), flush=True)
+    heads = ["library", "plain C"]
+    if asked.old:
+        paths, heads = [*paths, asked.old], [*heads, "old"]
+    print(f"| A play | {' | '.join(heads)} | library : quickest other |")
+    print(f"|---|{'---:|' * (len(heads) + 1)}")
+    if asked.drawn:
+        time_drawn(asked.drawn, paths, asked.turns)
+        return
+    for name in asked.game or [*GAMES, *DROPS]:
+        print_game(name, paths, asked.turns)
 
 
 if __name__ == "__main__":

@@ -26,6 +26,8 @@ export class ChipfireFault extends Error {
   readonly kind: string;
   /** What is wrong. */
   readonly text: string;
+  /** Of `Pile.drops` that the limit stopped, the rows of the drops before. */
+  readonly made?: Columns;
 }
 
 /** A directed multigraph. */
@@ -89,18 +91,34 @@ export interface Avalanche {
   lost: bigint;
 }
 
-/** The chips after all drops, and the columns of the avalanches: one number for each drop. */
-export interface Avalanches {
-  chips: BigUint64Array;
+/** The columns of avalanches: one number for each drop. */
+export interface Columns {
   sizes: BigUint64Array;
   areas: BigUint64Array;
   losts: BigUint64Array;
+}
+
+/** The chips after all drops, and what these set off. */
+export interface Avalanches extends Columns {
+  chips: BigUint64Array;
+}
+
+/** How a recurrent configuration burns. */
+export interface Burning {
+  /** How often each vertex fires: the least burning script. */
+  script: BigUint64Array;
+  /** How many chips that takes from each vertex on balance. */
+  chips: BigUint64Array;
 }
 
 /** A game that is kept, and on which chips are dropped. The most chips and the limit are for all drops together. */
 export interface Pile {
   /** Plays what is still to be played, then drops chips on a vertex, 1 if not said, and plays to the end. */
   drop(vertex: Whole, amount?: Whole): Avalanche;
+  /** The same for many drops, one after another: `amounts[i]` chips, 1 if not said, on vertex `at[i]`. All are looked at
+   * before the first falls, so a fault changes nothing, but for 13: there the limit stopped the drop at its place, and
+   * `made` of the fault has the rows of those before. */
+  drops(at: Wholes, amounts?: Wholes): Columns;
   /** The chips of each vertex; before the first drop those that were put there. */
   chips(): BigUint64Array;
   /** How often each vertex has fired. */
@@ -158,6 +176,19 @@ export class Chipfire {
   avalanches(graph: Graph, chips: Wholes, at: Wholes, amounts: Wholes, options?: Limited): Avalanches;
   /** Throws fault 53 unless a game that begins with `chips` ends with these counts and `ends`. */
   verify(graph: Graph, chips: Wholes, fired: Wholes, ends: Wholes, options?: Limited): void;
+  /** The least burning script of a graph. */
+  burning(graph: Graph): Burning;
+  /** Whether configurations, whose chips stand one's after another's, are recurrent. Chips on the sink do not count, here
+   * and below. */
+  areRecurrent(graph: Graph, chips: Wholes): boolean[];
+  /** For each of so many configurations the one recurrent configuration that is equivalent to it. */
+  recurrent(graph: Graph, chips: Wholes): BigUint64Array;
+  /** For each the one superstable configuration that is equivalent to it. */
+  superstable(graph: Graph, chips: Wholes): BigUint64Array;
+  /** For each the recurrent configuration whose stable sum with it, or with its recurrent representative, is the identity. */
+  inverse(graph: Graph, chips: Wholes): BigUint64Array;
+  /** The identity of the sandpile group. */
+  identity(graph: Graph): BigUint64Array;
   /** Keeps a game. It plays nothing yet. */
   pile(graph: Graph, chips: Wholes, options?: Limited): Pile;
   /** New books of a process, by the numbers of its edges, ascending. */

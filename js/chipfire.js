@@ -7,23 +7,18 @@
  *
  * chipfire.d.ts says what each call takes and returns. Nothing in this file is proved. */
 import { faults } from "./faults.js";
+import { Graph, word, words } from "./graph.js";
+
+export { Graph };
 
 /** The most that a vertex may fire. */
 export const MAX_LIMIT = 2n ** 40n;
 /** The parent of a process that no message engages. */
 const NEUTRAL = 2n ** 64n - 1n;
-/** Which half of a number of 64 bits is the low one here. */
-const LOW = new Uint32Array(BigUint64Array.of(1n).buffer)[0] === 1 ? 0 : 1;
-/** Which squares lie beside one, as [rows down, columns to the right]: if row and column together are even, or odd. */
-const SQUARE = [[-1, 0], [0, -1], [0, 1], [1, 0]];
-const TRIANGULAR = [...SQUARE, [-1, 1], [1, -1]];
-const BESIDE = {
-  square: [SQUARE, SQUARE],
-  triangular: [TRIANGULAR, TRIANGULAR],
-  hexagonal: [SQUARE.slice(1), SQUARE.slice(0, 3)],
-};
-const NO_PILE = 14;
-const NO_MEMORY = 90;
+/** The most vertices of a graph. */
+const MOST_VERTICES = 2 ** 21;
+/** The numbers of some faults. */
+const FAULT = { vertices: 1, stopped: 13, noPile: 14, noMemory: 90 };
 
 /** A call that was refused: the number of the first fault, where it is, and what is wrong. */
 export class ChipfireFault extends Error {
@@ -35,33 +30,6 @@ export class ChipfireFault extends Error {
   }
 }
 
-/** A whole number as the module has it. */
-function word(number) {
-  if (typeof number !== "bigint" && !Number.isSafeInteger(number)) {
-    throw new TypeError(`${String(number)} is no whole number, or has to be a BigInt`);
-  }
-  const found = BigInt(number);
-  if (BigInt.asUintN(64, found) === found) return found;
-  throw new RangeError(`${number} is not from 0 to 2^64 - 1`);
-}
-
-/** Whole numbers as the module has them: the same array, if it has them so. */
-function words(numbers) {
-  if (numbers instanceof BigUint64Array) return numbers;
-  if (!Number.isSafeInteger(numbers?.length)) throw new TypeError("numbers are an array");
-  if (!(numbers instanceof Uint32Array)) return BigUint64Array.from(numbers, word);
-  const found = new BigUint64Array(numbers.length);
-  const halves = new Uint32Array(found.buffer);
-  for (let at = 0; at < numbers.length; at++) halves[2 * at + LOW] = numbers[at];
-  return found;
-}
-
-/** A place in a direction of this size: beyond its end the first one again, or none. */
-function wrapped(place, size, isPeriodic) {
-  if (place >= 0 && place < size) return place;
-  return isPeriodic ? (place + size) % size : NaN;
-}
-
 /** Numbers that a call reads. */
 const read = (array) => ({ array, length: [BigInt(array.length)], isWritten: false });
 /** Numbers that a call reads and writes. */
@@ -71,70 +39,22 @@ const cell = (array) => ({ array, length: [], isWritten: true });
 /** Tallies of edges, of three numbers each. */
 const tallied = (array) => ({ array, length: [BigInt(array.length / 3)], isWritten: true });
 
-/** A directed multigraph: its number of vertices, its sink, and of each edge the tail, the head, and how many chips one
- * firing of the tail sends along it. */
-export class Graph {
-  constructor(vertices, sink, tails, heads, mults) {
-    this.vertices = vertices;
-    this.sink = sink;
-    this.tails = words(tails);
-    this.heads = words(heads);
-    this.mults = words(mults);
-  }
-
-  /** The graph of edges as rows [tail, head] or [tail, head, mult]. */
-  static fromEdges(vertices, sink, edges) {
-    const rows = Array.from(edges, ([tail, head, mult = 1]) => [tail, head, mult]);
-    return new Graph(vertices, sink, ...[0, 1, 2].map((at) => rows.map((row) => row[at])));
-  }
-
-  /** The squares of a lattice by rows, and the sink after them, which gets a chip for each side without a neighbour. */
-  static grid(rows, columns = rows, { lattice = "square", periodic = [false, false], loss = 0 } = {}) {
-    const [sink, each] = [word(rows) * word(columns), word(loss)].map(Number);
-    const sides = BESIDE[lattice];
-    if (!sides) throw new RangeError(`there is no ${lattice} lattice`);
-    if (lattice === "hexagonal" && [rows, columns].some((size, at) => periodic[at] && size % 2)) {
-      throw new RangeError("a hexagonal lattice has an even size where it is periodic");
-    }
-    const most = sink * (sides[0].length + 1);
-    const [tails, heads, mults] = [0, 1, 2].map(() => new Uint32Array(most));
-    let count = 0;
-    const add = (tail, head, mult) => {
-      tails[count] = tail;
-      heads[count] = head;
-      mults[count++] = mult;
-    };
-    for (let square = 0; square < sink; square++) {
-      const column = square % columns;
-      const row = (square - column) / columns;
-      let lost = each;
-      for (const [down, right] of sides[(row + column) % 2]) {
-        const there = columns * wrapped(row + down, rows, periodic[0]);
-        const head = there + wrapped(column + right, columns, periodic[1]);
-        if (Number.isNaN(head)) lost += 1;
-        else add(square, head, 1);
-      }
-      if (lost > 0) add(square, sink, lost);
-    }
-    return new Graph(sink + 1, sink, ...[tails, heads, mults].map((it) => it.subarray(0, count)));
-  }
-
-  /** Chips on the graph: none but those of an object by vertices. */
-  chips(on = {}) {
-    const found = new BigUint64Array(Number(this.vertices));
-    for (const [vertex, chips] of Object.entries(on)) {
-      if (!(Number(vertex) < found.length)) throw new RangeError(`there is no vertex ${vertex}`);
-      found[vertex] = word(chips);
-    }
-    return found;
-  }
-
-  /** What each call takes of it. */
-  get given() {
-    const columns = [this.tails, this.heads, this.mults].map(read);
-    return [word(this.vertices), word(this.sink), ...columns];
-  }
+/** A graph as each call takes it. */
+function given({ vertices, sink, tails, heads, mults }) {
+  return [word(vertices), word(sink), ...[tails, heads, mults].map(read)];
 }
+
+/** Numbers that a call writes, one for each vertex. */
+function none({ vertices }) {
+  if (vertices > MOST_VERTICES) throw new ChipfireFault(FAULT.vertices, 0);
+  return new BigUint64Array(Number(vertices));
+}
+
+/** How many configurations of a graph lie behind one another; a part of one counts too, and is refused. */
+const configurations = (graph, chips) => Math.ceil(chips.length / Math.max(Number(graph.vertices), 1));
+
+/** Columns of avalanches, one number for each drop. */
+const columns = (drops) => [0, 1, 2].map(() => new BigUint64Array(drops));
 
 /** An instance of the module, and its memory. */
 class Instance {
@@ -164,7 +84,7 @@ class Instance {
   take(length) {
     const at = this.run("room", 8n * BigInt(length));
     if (at !== 0n) return at;
-    throw new ChipfireFault(NO_MEMORY, 0);
+    throw new ChipfireFault(FAULT.noMemory, 0);
   }
 
   /** The numbers that lie in the memory. (If the memory grows, an earlier view has none any more.) */
@@ -231,27 +151,64 @@ export class Chipfire {
   stabilizeAll(graph, chips, { limit = MAX_LIMIT, guesses = [], games } = {}) {
     const ends = words(chips).slice();
     const fired = new BigUint64Array(ends.length);
-    const vertices = Number(graph.vertices);
-    const stopped = new BigUint64Array(games ?? Math.ceil(ends.length / Math.max(vertices, 1)));
+    const stopped = new BigUint64Array(games ?? configurations(graph, ends));
     const answers = [ends, fired, stopped].map(written);
-    const given = [...graph.given, word(limit), read(words(guesses)), ...answers];
-    this.#instance.callWithPlace("stabilize_all", given);
+    this.#call("stabilize_all", graph, [word(limit), read(words(guesses)), ...answers]);
     return { chips: ends, fired, stopped };
   }
 
   avalanches(graph, chips, at, amounts, { limit = MAX_LIMIT } = {}) {
     const ends = words(chips).slice();
     const drops = [words(at), words(amounts)];
-    const [sizes, areas, losts] = [0, 1, 2].map(() => new BigUint64Array(at.length));
+    const [sizes, areas, losts] = columns(at.length);
     const answers = [ends, sizes, areas, losts].map(written);
-    const given = [...graph.given, word(limit), ...drops.map(read), ...answers];
-    this.#instance.callWithPlace("avalanches", given);
+    this.#call("avalanches", graph, [word(limit), ...drops.map(read), ...answers]);
     return { chips: ends, sizes, areas, losts };
   }
 
   verify(graph, chips, fired, ends, { limit = MAX_LIMIT } = {}) {
     const claim = [chips, fired, ends].map((it) => read(words(it)));
-    this.#instance.callWithPlace("verify", [...graph.given, word(limit), ...claim]);
+    this.#call("verify", graph, [word(limit), ...claim]);
+  }
+
+  burning(graph) {
+    const [script, chips] = [none(graph), none(graph)];
+    this.#call("burning", graph, [script, chips].map(written));
+    return { script, chips };
+  }
+
+  areRecurrent(graph, chips) {
+    const flags = new BigUint64Array(configurations(graph, chips));
+    this.#call("are_recurrent", graph, [read(words(chips)), written(flags)]);
+    return Array.from(flags, (flag) => flag === 1n);
+  }
+
+  recurrent(graph, chips) {
+    return this.#represented("recurrent", graph, chips);
+  }
+
+  superstable(graph, chips) {
+    return this.#represented("superstable", graph, chips);
+  }
+
+  inverse(graph, chips) {
+    return this.#represented("inverse", graph, chips);
+  }
+
+  identity(graph) {
+    const chips = none(graph);
+    this.#call("identity", graph, [written(chips)]);
+    return chips;
+  }
+
+  #represented(name, graph, chips) {
+    const found = words(chips).slice();
+    this.#call(name, graph, [BigInt(configurations(graph, found)), written(found)]);
+    return found;
+  }
+
+  #call(name, graph, more) {
+    this.#instance.callWithPlace(name, [...given(graph), ...more]);
   }
 
   pile(graph, chips, options) {
@@ -270,7 +227,7 @@ class Pile {
   #vertices;
 
   constructor(instance, graph, chips, { limit = MAX_LIMIT } = {}) {
-    const game = [...graph.given, word(limit), read(words(chips))];
+    const game = [...given(graph), word(limit), read(words(chips))];
     const at = instance.take(2);
     instance.view(at, 2).fill(0n);
     try {
@@ -287,13 +244,30 @@ class Pile {
   /** Where it lies in the module. */
   get #place() {
     if (this.#at !== 0n) return this.#at;
-    throw new ChipfireFault(NO_PILE, 0);
+    throw new ChipfireFault(FAULT.noPile, 0);
   }
 
   drop(vertex, amount = 1) {
     const drop = [this.#place, word(vertex), word(amount)];
     const [size, area, lost] = this.#instance.ask("pile_drop", drop, 3);
     return { size, area, lost };
+  }
+
+  drops(at, amounts = new Uint32Array(at.length).fill(1)) {
+    const drops = [words(at), words(amounts)];
+    const answers = columns(at.length);
+    const rows = (count) => {
+      const [sizes, areas, losts] = answers.map((it) => it.subarray(0, count));
+      return { sizes, areas, losts };
+    };
+    const call = [this.#place, ...drops.map(read), ...answers.map(written)];
+    try {
+      this.#instance.callWithPlace("pile_drops", call);
+    } catch (fault) {
+      if (fault.number === FAULT.stopped) fault.made = rows(fault.place);
+      throw fault;
+    }
+    return rows(at.length);
   }
 
   #copied(name) {

@@ -28,7 +28,7 @@ def text_of(name):
 
 def inlined(text):
     """Returns a module of JavaScript as a part of a script, which has all that it imports before it."""
-    text = re.sub(r"(?m)^(import .*;\n|export )", "", text)
+    text = re.sub(r"(?m)^(import .*;\n|export \{.*\};\n|export )", "", text)
     return text.replace("import.meta.url", "location.href")
 
 
@@ -39,7 +39,8 @@ def hashed(text):
 
 def page(folder):
     """Returns the page's text."""
-    modules = (f"{folder}/faults.js", f"{folder}/chipfire.js", "js/board/worker.js")
+    names = ("faults.js", "graph.js", "chipfire.js")
+    modules = [*(f"{folder}/{it}" for it in names), "js/board/worker.js"]
     worker = "".join(inlined(text_of(it)) for it in modules)
     style, script = text_of("js/board/board.css"), text_of("js/board/board.js")
     scripts = f"script-src {hashed(script)} 'wasm-unsafe-eval'"

@@ -27,7 +27,7 @@ from packing.crates import below, libraries
 from packing.repository import content
 
 CRATE = f"{paths.ROOT}/crates/chip_exports"
-SCRIPTS = ("chipfire.js", "chipfire.d.ts", "README.md")
+SCRIPTS = ("chipfire.js", "chipfire.d.ts", "graph.js", "README.md")
 TABLE = "crates/chip_command/src/table.rt"
 #: The faults of the library's calls.
 NUMBERS = (*range(1, 15), 26, 46, 47, 53, 90)

@@ -59,12 +59,18 @@ function keep(chips, limit) {
 /** Plays the pile to its end, or as far as its limit allows: whether it ended. */
 function playOn() {
   try {
-    pile.drop(graph.sink, 0);
+    pile.drops([]);
     return true;
   } catch (fault) {
     if (fault instanceof ChipfireFault && fault.number === STOPPED) return false;
     throw fault;
   }
+}
+
+/** Drops a chip on each of these vertices: of each avalanche the size, the area, and what was lost. */
+function dropAll(vertices) {
+  const { sizes, areas, losts } = pile.drops(vertices);
+  return Array.from(sizes, (size, drop) => [size, areas[drop], losts[drop]].map(Number));
 }
 
 const ends = (chips) => numbersOf(chipfire.stabilize(graph, wordsOf(chips)).chips);
@@ -81,21 +87,14 @@ const FILLS = {
     const draw = drawn(seed);
     return new Float64Array(graph.vertices).map((_, at) => (at < graph.sink ? Math.floor(draw() * (amount + 1)) : 0));
   },
-  identity() {
-    const twice = degrees().map((degree) => 2 * Math.max(degree - 1, 0));
-    const ended = ends(twice);
-    return withoutSink(ends(twice.map((chips, at) => (at < graph.sink ? chips - ended[at] : 0))));
-  },
+  identity: () => numbersOf(chipfire.identity(graph)),
   recurrent({ seed }) {
     const draw = drawn(seed);
-    return withoutSink(ends(degrees().map((degree) => degree && degree - 1 + Math.floor(draw() * degree))));
+    const chips = ends(degrees().map((degree) => degree && degree - 1 + Math.floor(draw() * degree)));
+    chips[graph.sink] = 0;
+    return chips;
   },
 };
-
-function withoutSink(chips) {
-  chips[graph.sink] = 0;
-  return chips;
-}
 
 /** Whether two graphs have the same edges, in any order, out of the vertices below some number. */
 function areSame(one, other, most) {
@@ -186,16 +185,13 @@ const ANSWERS = {
     if (chips) keep(chips);
     playOn();
     const draw = drawn(seed);
-    const avalanches = [];
-    let before;
-    let at;
-    for (let drop = 0; drop < count; drop++) {
-      at = vertex ?? Math.floor(draw() * graph.sink);
-      if (drop === count - 1) before = pile.fired();
-      avalanches.push(Object.values(pile.drop(at)).map(Number));
-    }
+    const places = Array.from({ length: count }, () => vertex ?? Math.floor(draw() * graph.sink));
+    const last = places.pop();
+    const avalanches = dropAll(places);
+    const before = pile.fired();
+    avalanches.push(...dropAll([last]));
     const lit = Uint8Array.from(pile.fired(), (count, place) => Number(count !== before[place]));
-    return { avalanches, lit, at, chips: numbersOf(pile.chips()) };
+    return { avalanches, lit, at: last, chips: numbersOf(pile.chips()) };
   },
   save({ chips }) {
     const { vertices, sink } = graph;

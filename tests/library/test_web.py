@@ -19,10 +19,14 @@ from library import BUILT, LARGEST, ROOT, Graph, Room, avalanches, called, need,
 from test_books import NEUTRAL, check, made
 from test_games import drawn, grid, spoilt, stepped
 from test_piles import Pile
+from test_recurrents import are_recurrent, burning, identity, represented
+from packing import web
 
 WEB = f"{BUILT}/{contents.WEB}"
 TESTS = f"{ROOT}/tests/library/web"
 CALLS = int(os.environ.get("CHIPFIRE_SOAK") or 1000)
+#: The most bytes that a release has for browsers and Node.
+MOST = 2_000_000
 #: The oldest Node that the package takes.
 NODE = 18
 #: The names of the calls on books, in JavaScript and in C.
@@ -30,6 +34,10 @@ BOOKS = {
     "sent": "sent", "got": "got", "mayAck": "may_ack", "acked": "acked", "settled": "settled", "deficit": "deficit",
     "isOver": "is_over",
 }
+
+
+#: The calls that put another configuration in place of one.
+REPRESENTATIVES = ("recurrent", "superstable", "inverse")
 
 
 class Halves(ctypes.Structure):
@@ -106,13 +114,44 @@ def piles(draw):
     chips, pile = chips_of(draw, graph), Pile(graph)
     status, place = pile.new(chips, limit)
     steps, found = [], [[status, place]]
-    for at, amount in drops_of(draw, graph) if not status else []:
-        its = chips_of(draw, graph) if draw.random() < 0.1 else None
-        told = (pile.put(its, limit), ()) if its is not None else pile.drop(at, amount)
-        steps.append([at, amount, its])
-        found += [ended(told[0], 0, told[1]), pile.now()]
+    for drop in drops_of(draw, graph) if not status else []:
+        step, told = step_on(draw, pile, limit, drop)
+        steps.append(step)
+        found += [told, pile.now()]
     pile.free()
     return "pile", [columns_of(graph), limit, chips, steps], found
+
+
+def step_on(draw, pile, limit, drop):
+    """Draws a call on a pile. Returns what is given, and what the native library returns of it."""
+    what = draw.choice(["put", "drops", "drops", *["drop"] * 7])
+    if what == "put":
+        chips = chips_of(draw, pile.graph)
+        return [what, chips], [pile.put(chips, limit), 0]
+    if what == "drop":
+        status, told = pile.drop(*drop)
+        return [what, *drop], ended(status, 0, told)
+    its = drops_of(draw, pile.graph)
+    status, place, rows = pile.drops(its)
+    made = {0: len(rows), 13: place}.get(status, 0)
+    columns = [[row[i] for row in rows[:made]] for i in range(3)]
+    return [what, *([it[i] for it in its] for i in range(2))], [status, place, *(columns if status in (0, 13) else [])]
+
+
+def groups(draw):
+    """Draws a call on recurrent configurations."""
+    graph, name = graph_of(draw), draw.choice(["burning", "areRecurrent", "identity", *REPRESENTATIVES])
+    chips = chips_of(draw, graph, draw.choice([0, 1, 1, 3]))
+    rows = [chips[i:i + graph.vertices] for i in range(0, len(chips), graph.vertices)]
+    if name in ("burning", "identity"):
+        status, place, *told = (burning if name == "burning" else identity)(graph)
+    elif name == "areRecurrent":
+        status, place, *told = are_recurrent(graph, rows)
+    else:
+        function = getattr(library.LIBRARY, f"chipfire_{name}")
+        status, place, found = represented(function, graph, rows)
+        told = [sum(found, [])]
+    return "group", [columns_of(graph), name, chips], [ended(status, place, told)]
 
 
 def side_of(draw):
@@ -163,7 +202,7 @@ def texts(it):
     return str(it) if isinstance(it, int) and not isinstance(it, bool) else it
 
 
-DRAWN = games, drops, claims, piles, books, books, grids
+DRAWN = games, drops, claims, piles, books, books, books, grids, groups
 
 
 @unittest.skipUnless(os.path.isdir(WEB), f"{contents.WEB}/ is not beside the program: tools/webassembly.py makes it")
@@ -254,10 +293,8 @@ class Web(Room):
         words = ["--noEmit", "--strict", "--target", "es2020", "--lib", "es2020,dom", "--module", "node16"]
         self.runs("tsc", *words, "use.mts", cwd=self.room)
 
-    def test_the_example_of_its_page(self):
-        """225 topplings, as firing one vertex after another has them."""
-        need("node")
-        self.packed()
+    def expect_example(self):
+        """The example of its page: 225 topplings, as firing one vertex after another has them."""
         with open(f"{WEB}/README.md", encoding="utf-8") as file:
             code = re.search(r"^```js\n(.*?)^```", file.read(), re.DOTALL | re.MULTILINE)[1]
         with open(f"{self.room}/example.mjs", "w", encoding="utf-8") as file:
@@ -267,6 +304,24 @@ class Web(Room):
         ends, fired, *_ = stepped(grid(7), start, LARGEST)
         shown = self.runs("node", "example.mjs", cwd=self.room)
         self.assertEqual(shown, f"{sum(fired)}n {''.join(map(str, ends[:7]))}\n")
+
+    def test_the_example_of_its_page(self):
+        need("node")
+        self.packed()
+        self.expect_example()
+
+    def test_npm_installs_what_is_in_a_release(self):
+        """Without network; and a release has room for it."""
+        need("node", "npm")
+        carried = web.built_in(BUILT)
+        self.assertLess(sum(map(len, carried.values())), MOST)
+        with open(f"{self.room}/{contents.npm_name()}", "wb") as file:
+            file.write(carried[contents.NPM])
+        quiet = ["--offline", "--no-audit", "--no-fund", "--no-update-notifier", f"--cache={self.room}/cache"]
+        self.runs("npm", "install", *quiet, f"./{contents.npm_name()}", cwd=self.room)
+        installed = os.listdir(f"{self.room}/node_modules/chipfire")
+        self.assertEqual({*installed, contents.BOARD}, {*os.listdir(WEB), contents.BOARD})
+        self.expect_example()
 
     def test_the_same_sources_make_the_same_bytes(self):
         need("rt", "wasm-opt")

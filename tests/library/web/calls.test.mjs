@@ -27,12 +27,24 @@ const CALLS = {
   pile(graph, limit, chips, steps) {
     let pile;
     const found = [outcome(() => ((pile = chipfire.pile(graphOf(graph), chips, { limit })), []))];
-    for (const [vertex, amount, its] of pile ? steps : []) {
-      const play = () => (its ? (pile.put(its, { limit }), []) : Object.values(pile.drop(vertex, amount)));
-      found.push(outcome(play), [pile.chips(), pile.fired()]);
+    const calls = {
+      put: (its) => (pile.put(its, { limit }), []),
+      drop: (vertex, amount) => Object.values(pile.drop(vertex, amount)),
+      drops: (at, amounts) => Object.values(pile.drops(at, amounts)),
+    };
+    for (const [name, ...step] of pile ? steps : []) {
+      found.push(outcome(() => calls[name](...step)), [pile.chips(), pile.fired()]);
     }
     pile?.free();
     return found;
+  },
+  group(graph, name, chips) {
+    const calls = {
+      burning: () => Object.values(chipfire.burning(graphOf(graph))),
+      areRecurrent: () => [chipfire.areRecurrent(graphOf(graph), chips).map((is) => BigInt(is))],
+      identity: () => [chipfire.identity(graphOf(graph))],
+    };
+    return [outcome(calls[name] ?? (() => [chipfire[name](graphOf(graph), chips)]))];
   },
   grid(rows, columns, lattice, periodic, loss) {
     const how = { lattice, periodic, loss: Number(loss) };

@@ -69,6 +69,31 @@ for (const [number, place, text, call] of CASES) {
   });
 }
 
+test("drops that the limit stops keep the rows of those before", () => {
+  const pile = chipfire.pile(TRIANGLE, [1, 1, 0], { limit: 2 });
+  assert.throws(() => pile.drops([0, 1, 0], [1, 0, 9]), (fault) => {
+    assert.deepEqual([fault.number, fault.place], [13, 2]);
+    assert.deepEqual(Object.entries(fault.made).map(([name, row]) => [name, ...row]), [
+      ["sizes", 2n, 0n],
+      ["areas", 2n, 0n],
+      ["losts", 2n, 0n],
+    ]);
+    return true;
+  });
+  pile.put([0, 0, 0]);
+  assert.deepEqual(Object.values(pile.drops([0, 0])).map((it) => [...it]), [[0n, 1n], [0n, 1n], [0n, 1n]]);
+  pile.free();
+});
+
+test("a graph that is too large has no identity and no script", () => {
+  for (const vertices of [2 ** 21 + 1, 2n ** 63n]) {
+    for (const call of ["identity", "burning"]) {
+      const graph = Graph.fromEdges(vertices, 0, []);
+      assert.throws(() => chipfire[call](graph), (fault) => fault.number === 1 && fault.place === 0);
+    }
+  }
+});
+
 test("a claim that is right is no fault", () => {
   assert.equal(chipfire.verify(TRIANGLE, [2, 0, 0], [1, 0, 0], [0, 1, 1]), undefined);
 });

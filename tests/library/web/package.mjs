@@ -8,13 +8,14 @@ export const { Chipfire, ChipfireFault, Graph, MAX_LIMIT, load } = await import(
   new URL("chipfire.js", FOLDER)
 );
 
-/** What a call throws if that is a fault, as [number, place], and else [0, 0] and what it returns, as columns. */
+/** What a call throws if that is a fault, as [number, place] and the columns of what was made before, and else [0, 0] and what
+ * it returns, as columns. */
 export function outcome(call) {
   try {
     return [0n, 0n, ...call()];
   } catch (error) {
     if (!(error instanceof ChipfireFault)) throw error;
-    return [BigInt(error.number), BigInt(error.place)];
+    return [BigInt(error.number), BigInt(error.place), ...Object.values(error.made ?? {})];
   }
 }
 

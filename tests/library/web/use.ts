@@ -14,8 +14,13 @@ async function play(): Promise<void> {
   chipfire.verify(grid, [], fired, chips, { limit: 5 });
   const pile: Pile = chipfire.pile(grid, chips);
   const size: bigint = pile.drop(24).size + stopped + BigInt(sums.length) + sizes[0] + areas[0] + losts[0];
+  const dropped: BigUint64Array = pile.drops([24, 25], new Uint8Array([1, 2])).sizes;
   pile.put(pile.chips());
   pile.free();
+  const { script } = chipfire.burning(grid);
+  const configurations = [chipfire.identity(grid), chipfire.recurrent(grid, chips), chipfire.superstable(grid, script)];
+  const areAll: boolean = chipfire.areRecurrent(grid, chipfire.inverse(grid, dropped)).every((is) => is);
+  if (areAll) configurations.pop();
   const books: Books = chipfire.books([1], new Set<Whole>([2, 3n]));
   books.sent(2);
   const isOver: boolean = books.isOver(true) && books.parent === null && books.mayAck(1, true) > size;

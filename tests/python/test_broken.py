@@ -4,6 +4,7 @@ Nothing here depends on how fast anything is. The crawler is coroutines, which g
 the search by processes there is one process, which gets its own messages in their order.
 """
 import asyncio
+import collections
 import multiprocessing
 import os
 import re
@@ -62,26 +63,28 @@ def done_first_shared(me):
         yield message.content
 
 
-def answer_again(me, message):
-    """Acknowledges a message again, as if it were another one."""
-    _, answered = me.books._ins.counts(message.edge)
-    me._inboxes[message.tail].put_nowait(Answer(message.edge, answered + 1))
+def answer_by_hand(me, message, got):
+    """Acknowledges a message without the books, which acknowledge it too when they may."""
+    got[message.edge] += 1
+    me._inboxes[message.tail].put_nowait(Answer(message.edge, got[message.edge]))
 
 
 async def answered_twice(me):
     """A loop that acknowledges each message twice."""
+    got = collections.Counter()
     while (message := await me.receive_async()) is not None:
         yield message.content
         me.done()
-        answer_again(me, message)
+        answer_by_hand(me, message, got)
 
 
 def answered_twice_shared(me):
     """The same in a process of the system: the root claims then, and the next that comes is that all is over."""
+    got = collections.Counter()
     while (message := me.receive()) is not None:
         yield message.content
         me.done()
-        answer_again(me, message)
+        answer_by_hand(me, message, got)
         TOLD.put("it has answered")
         CLAIMED.wait()
         return

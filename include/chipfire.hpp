@@ -9,7 +9,8 @@
  *
  * What each call does, which numbers it takes, and what it answers, chipfire.h says. Numbers that a call reads may be a
  * vector, an array, a list in braces, or a pointer with a length. A fault is thrown as chipfire::Error, and changes nothing
- * but where chipfire.h says so. No call may be made in the forked child of a process that has threads. */
+ * but where chipfire.h says so. These calls take memory: none may be made in the forked child of a process that has
+ * threads. */
 #ifndef CHIPFIRE_HPP
 #define CHIPFIRE_HPP
 
@@ -32,8 +33,8 @@
 
 namespace chipfire {
 
-/// The most chips of a game, and how often a vertex may fire at most.
-constexpr std::uint64_t most = std::uint64_t{1} << 40;
+/// How often a vertex may fire at most; there are no more chips of a game either.
+constexpr std::uint64_t max_limit = std::uint64_t{1} << 40;
 
 /// The fault of a process that sends while it is passive, as `chipfire judge` names it.
 constexpr std::uint64_t fault_passive = 32;
@@ -48,7 +49,8 @@ public:
 
     /// The fault of a call of the library.
     Error(std::uint64_t fault, std::uint64_t place)
-        : Error(fault, place, "fault " + std::to_string(fault) + " at " + std::to_string(place) + ": " + chipfire_strerror(fault))
+        : Error(fault, place,
+                "fault " + std::to_string(fault) + " at " + std::to_string(place) + ": " + chipfire_strerror(fault))
     {
     }
 
@@ -205,7 +207,7 @@ private:
 };
 
 /// Plays games in memory of the caller (chipfire_stabilize_all).
-inline void stabilize_all(const Graph &graph, Room chips, Room fired, Room stopped, std::uint64_t limit = most,
+inline void stabilize_all(const Graph &graph, Room chips, Room fired, Room stopped, std::uint64_t limit = max_limit,
                           Numbers guesses = {})
 {
     detail::call(chipfire_stabilize_all, graph, limit, guesses.data(), guesses.size(), chips.data(), chips.size(),
@@ -213,7 +215,7 @@ inline void stabilize_all(const Graph &graph, Room chips, Room fired, Room stopp
 }
 
 /// Plays games, and returns their ends.
-inline Games stabilize_all(const Graph &graph, std::vector<std::uint64_t> chips, std::uint64_t limit = most,
+inline Games stabilize_all(const Graph &graph, std::vector<std::uint64_t> chips, std::uint64_t limit = max_limit,
                            Numbers guesses = {})
 {
     Games games{std::move(chips), {}, {}};
@@ -225,7 +227,7 @@ inline Games stabilize_all(const Graph &graph, std::vector<std::uint64_t> chips,
 
 /// Plays a game in memory of the caller, and drops amounts[i] chips on vertex at[i], one i after another
 /// (chipfire_avalanches).
-inline Drops avalanches(const Graph &graph, Room chips, Numbers at, Numbers amounts, std::uint64_t limit = most)
+inline Drops avalanches(const Graph &graph, Room chips, Numbers at, Numbers amounts, std::uint64_t limit = max_limit)
 {
     Drops drops(at.size());
     detail::call(chipfire_avalanches, graph, limit, at.data(), at.size(), amounts.data(), amounts.size(), chips.data(),
@@ -234,7 +236,7 @@ inline Drops avalanches(const Graph &graph, Room chips, Numbers at, Numbers amou
 }
 
 /// Says whether counts and chips are those at the end of a game.
-inline bool verify(const Graph &graph, Numbers chips, Numbers fired, Numbers ends, std::uint64_t limit = most)
+inline bool verify(const Graph &graph, Numbers chips, Numbers fired, Numbers ends, std::uint64_t limit = max_limit)
 {
     try {
         detail::call(chipfire_verify, graph, limit, chips.data(), chips.size(), fired.data(), fired.size(), ends.data(),
@@ -293,7 +295,7 @@ inline std::vector<std::uint64_t> identity(const Graph &graph)
 class Pile {
 public:
     /// Makes a pile. It plays nothing.
-    Pile(const Graph &graph, Numbers chips, std::uint64_t limit = most)
+    Pile(const Graph &graph, Numbers chips, std::uint64_t limit = max_limit)
         : vertices_(static_cast<std::size_t>(graph.vertices())), pile_(new chipfire_pile{})
     {
         std::uint64_t place = 0;
@@ -305,7 +307,7 @@ public:
     }
 
     /// Puts other chips there, with counts 0. It plays nothing.
-    void put(Numbers chips, std::uint64_t limit = most)
+    void put(Numbers chips, std::uint64_t limit = max_limit)
     {
         detail::must(chipfire_pile_put(its(), limit, chips.data(), chips.size()));
     }

@@ -23,7 +23,8 @@ public:
     using Task = std::function<void(std::size_t worker)>;
 
     /// A pool of so many workers. With logs, each worker, and the root behind them, has one.
-    explicit Pool(std::size_t workers, const std::vector<std::ostream *> &logs = {}) : workers_(workers), acked_((workers + 1) * workers)
+    explicit Pool(std::size_t workers, const std::vector<std::ostream *> &logs = {})
+        : workers_(workers), acked_((workers + 1) * workers)
     {
         for (std::size_t me = 0; me <= workers; me++) {
             std::vector<std::uint64_t> ins, outs;

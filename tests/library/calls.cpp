@@ -53,13 +53,13 @@ static void play_games()
     const auto games = chipfire::stabilize_all(graph, {4, 0, 0, 1, 1, 5});
     EXPECT((games.chips == Row{1, 0, 3, 1, 1, 5} && games.fired == Row{2, 1, 0, 0, 0, 0} && games.stopped == Row{0, 0}));
     EXPECT((chipfire::stabilize_all(graph, {4, 0, 0}, 1).stopped == Row{1}));
-    EXPECT((chipfire::stabilize_all(graph, {4, 0, 0}, chipfire::most, {2, 1, 0}).fired == Row{2, 1, 0}));
+    EXPECT((chipfire::stabilize_all(graph, {4, 0, 0}, chipfire::max_limit, {2, 1, 0}).fired == Row{2, 1, 0}));
     std::array<std::uint64_t, 3> chips{4, 0, 0}, fired{};
     std::uint64_t stopped[1];
     chipfire::stabilize_all(graph, chips, fired, stopped);
     EXPECT(chips[0] == 1 && chips[2] == 3 && fired[0] == 2 && stopped[0] == 0);
     EXPECT(fault_of([&] { chipfire::stabilize_all(graph, {4, 0}); }) == at(CHIPFIRE_FAULT_LENGTHS, 0));
-    EXPECT(fault_of([&] { chipfire::stabilize_all(graph, {4, 0, chipfire::most}); }) == at(CHIPFIRE_FAULT_TOTAL, 0));
+    EXPECT(fault_of([&] { chipfire::stabilize_all(graph, {4, 0, chipfire::max_limit}); }) == at(CHIPFIRE_FAULT_TOTAL, 0));
     EXPECT(fault_of([] { chipfire::stabilize_all({3, 3}, {0, 0, 0}); }) == at(CHIPFIRE_FAULT_SINK, 0));
     EXPECT(fault_of([] { chipfire::stabilize_all({3, 2, {0, 1}, {2, 1}, {1, 1}}, {0, 0, 0}); }) == at(CHIPFIRE_FAULT_LOOP, 1));
     EXPECT(chipfire::verify(graph, {4, 0, 0}, {2, 1, 0}, {1, 0, 3}));

@@ -75,8 +75,8 @@ add_executable(grid {examples}/grid.c)
 target_link_libraries(grid chipfire::chipfire)
 add_executable(pool {examples}/pool.cpp)
 target_link_libraries(pool chipfire::chipfire pthread)
-add_executable(static-pool {examples}/pool.cpp)
-target_link_libraries(static-pool chipfire::static pthread)
+add_executable(static-grid {examples}/grid.c)
+target_link_libraries(static-grid chipfire::static)
 """
 
     def is_linked(self, libraries, version, include, **where):
@@ -102,9 +102,9 @@ target_link_libraries(static-pool chipfire::static pthread)
         made.write(f"{room}/CMakeLists.txt", project.encode())
         made.run("cmake", "-S", room, "-B", f"{room}/built", f"-DCMAKE_PREFIX_PATH={prefix}", check=True)
         made.run("cmake", "--build", f"{room}/built", check=True)
-        self.assertTrue(made.run(f"{room}/built/grid", check=True).stdout.startswith("0320230\n"))
-        for name in ("pool", "static-pool"):
-            self.assertEqual(made.run(f"{room}/built/{name}", check=True).stdout, "92 ways\n")
+        for name in ("grid", "static-grid"):
+            self.assertTrue(made.run(f"{room}/built/{name}", check=True).stdout.startswith("0320230\n"))
+        self.assertEqual(made.run(f"{room}/built/pool", check=True).stdout, "92 ways\n")
         made.write(f"{room}/CMakeLists.txt", project.replace(f"{version} EXACT", "99.0").encode())
         refused = made.run("cmake", "-S", room, "-B", f"{room}/other", f"-DCMAKE_PREFIX_PATH={prefix}")
         self.assertNotEqual(refused.returncode, 0)

@@ -2,4 +2,5 @@ pub mod BatchLemmas
 pub mod DropLemmas
 pub mod KeptLemmas
 pub mod BooksLemmas
+pub mod SumsLemmas
 pub mod EdgesLemmas

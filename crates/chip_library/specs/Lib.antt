@@ -4,6 +4,7 @@ pub mod Batch
 pub mod Claims
 pub mod Drops
 pub mod PartBooks
+pub mod Sums
 pub mod Worked
 pub mod KeptGames
 pub mod GroupCalls

@@ -1,6 +1,6 @@
 -- Lists, rows, drops and books worked out by hand.
-use Rattle.std.specs.Prelude.{◌≡◌, ℕ, true, false, List, [], ◌∷◌, Some, None}
-use Rattle.chip_detect.specs.Books.{Books, deficit}
+use Rattle.std.specs.Prelude.{◌≡◌, ℕ, true, false, List, [], ◌∷◌, Some, None, Ok, Err}
+use Rattle.chip_detect.specs.Books.{Books, all_owed, deficit}
 use Rattle.chip_detect.specs.Acknowledging.{may_ack}
 use Rattle.chip_detect.specs.Steps.{Acked}
 use Rattle.chip_graph.specs.Worked.{triangle}
@@ -9,6 +9,7 @@ use Rattle.chip_library.specs.Batch.{row}
 use Rattle.chip_library.specs.Drops.{Told, drops_of, AreOn, AreTold}
 use Rattle.chip_library.specs.declared.detector.BooksFault.TheVariants.{NotYet}
 use Rattle.chip_library.specs.PartBooks.{books_fault_number, neutral, parent_of, books_of, IsRefusal}
+use Rattle.chip_library.specs.Sums.{HasSums, count_in}
 
 -- 1 chip on vertex 0 lets two vertices fire, and then 4 chips there let these fire 4 times
 abbrev pub two_drops : List Told
@@ -30,7 +31,11 @@ pub record WorkedCalls : Type 0 where
   pub told : AreTold two_drops (2 ∷ 4 ∷ []) (2 ∷ 2 ∷ []) (2 ∷ 4 ∷ [])
   pub no_parent : parent_of neutral ≡ None
   pub parent : (books 0).parent ≡ Some 0
+  pub owes : all_owed (books 0) ≡ 1
   pub waits : deficit (books 0) ≡ 0
+  pub sums : HasSums (record { books = books 0; owed = 1; deficit = 0 })
+  pub counted : count_in (Ok (record { count = 1; so_far = 2 })) ≡ 1
+  pub none_counted : count_in (Err NotYet) ≡ 0
   pub at_rest : may_ack (books 0) 0 true ≡ 1
   pub at_work : may_ack (books 0) 0 false ≡ 0
   pub refused : IsRefusal (books 0) false (Acked 0 1) NotYet

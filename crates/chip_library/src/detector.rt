@@ -6,10 +6,10 @@
 //! refuses, and it refuses if it adds up tallies of which one is impossible: with more answered than there was, or more
 //! than there may be.
 
-ghost use Rattle.std.specs.Prelude.{◌≡◌, ℕ, ◌↔◌, true, List, IsTrue, MatchOption, MatchResult};
+ghost use Rattle.std.specs.Prelude.{◌≡◌, ℕ, ◌≤◌, ◌↔◌, true, List, IsTrue, MatchOption, MatchResult};
 ghost use Rattle.std.specs.List.Sorted.{IsStrictlyIncreasing};
 ghost use Rattle.chip_detect.specs.declared.tallies.Tally.{Tally};
-ghost use Rattle.chip_detect.specs.Tally.{AreTallies, edges_of, all_open};
+ghost use Rattle.chip_detect.specs.Tally.{AreTallies, edges_of, open_on, all_open};
 ghost use Rattle.chip_detect.specs.Books.{in_edges, deficit};
 ghost use Rattle.chip_detect.specs.Acknowledging.{may_ack};
 ghost use Rattle.chip_detect.specs.Steps.{Got, Acked, Sent};
@@ -152,6 +152,19 @@ pub fn acked(
 pub fn settled(outs: &mut [Tally], edge: u64, word: u64) -> Result<u64, BooksFault>
     ensures { Settling outs.old outs.new edge word result }
 {
+    settled_within(outs, MESSAGE_LIMIT, edge, word)
+}
+
+/// Notes the same, if no more than `most` are new.
+pub(crate) fn settled_within(
+    outs: &mut [Tally],
+    most: u64,
+    edge: u64,
+    word: u64,
+) -> Result<u64, BooksFault>
+    ensures settles { (AreTallies outs.old → open_on outs.old edge ≤ most) → Settling outs.old outs.new edge word result }
+    ensures within { MatchResult result (λ more. more ≤ most) (λ _. outs.new ≡ outs.old) }
+{
     let Some((slot, tally)) = found(outs, edge) else {
         return Err(BooksFault::NotSound);
     };
@@ -159,6 +172,9 @@ pub fn settled(outs: &mut [Tally], edge: u64, word: u64) -> Result<u64, BooksFau
         return Err(BooksFault::NotSound);
     }
     let more = word.saturating_sub(tally.answered);
+    if more > most {
+        return Err(BooksFault::NotSound);
+    }
     add_answers_at(outs, slot, more);
     Ok(more)
 }
@@ -212,7 +228,7 @@ pub fn check(ins: &[Tally], outs: &[Tally], parent: u64) -> Result<(), BooksFaul
 }
 
 /// The slot of an edge and its tally, if it is possible.
-fn found(tallies: &[Tally], edge: u64) -> Option<(Slot, Tally)>
+pub(crate) fn found(tallies: &[Tally], edge: u64) -> Option<(Slot, Tally)>
     ensures { MatchOption result (AreTallies tallies.now → HasEdge (edges_of tallies.now) edge → ⊥)
         (λ r. IsFound tallies.now edge r.0 r.1) }
 {
@@ -238,7 +254,7 @@ fn is_possible(tally: Tally) -> bool
 }
 
 /// How many messages are open on all edges together, if all tallies are possible.
-fn all_open(tallies: &[Tally]) -> Option<u64>
+pub(crate) fn all_open(tallies: &[Tally]) -> Option<u64>
     ensures { MatchOption result (ArePossible tallies.now → ⊥)
         (λ total. ArePossible tallies.now × (AreTallies tallies.now → total ≡ all_open tallies.now)) }
 {

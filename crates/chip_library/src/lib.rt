@@ -22,6 +22,7 @@ mod group;
 mod kept;
 pub mod laws;
 mod stabilize;
+pub mod sums;
 
 /// The version of the library: 1,000,000 for each of the first number, 1,000 for each of the second, and the third.
 pub const VERSION: u64 = 8_000;

@@ -15,3 +15,5 @@ mod guesses;
 mod kept;
 #[cfg(test)]
 mod stabilize;
+#[cfg(test)]
+mod sums;

@@ -6,7 +6,7 @@ use Rattle.chip_detect.specs.declared.tallies.Tally.{Tally}
 use Rattle.chip_detect.specs.declared.slot.Slot.{Slot}
 use Rattle.chip_detect.specs.Tally.{AreTallies, edges_of, answered_on, open_on, all_open}
 use Rattle.chip_detect.specs.Change.{AddsAnswers}
-use Rattle.chip_detect.specs.Books.{IsSound, deficit}
+use Rattle.chip_detect.specs.Books.{IsSound}
 use Rattle.chip_detect.specs.Acknowledging.{acknowledgeable_count, may_ack}
 use Rattle.chip_detect.specs.Steps.{Got, Sent, Acked, Gets, Sends, Settles, Acknowledges}
 use Rattle.chip_detect.proofs.ChangesLemmas.{message_total, answers_total, open_within_total}

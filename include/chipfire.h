@@ -36,7 +36,8 @@
  *   - Each slice has its length, and what is written overlaps nothing else. Only a slice of length 0 may be null.
  *   - One call at a time writes to one memory. Apart from that calls may run on any threads at once: nothing but piles is
  *     kept from one to the next.
- *   - No call from a signal handler, nor in the forked child of a process that has threads. */
+ *   - No call from a signal handler, nor in the forked child of a process that has threads. There chipfire_version and the
+ *     calls on books may be made: they take no memory. */
 #ifndef CHIPFIRE_H
 #define CHIPFIRE_H
 
@@ -333,7 +334,8 @@ void chipfire_pile_free(struct chipfire_pile *pile);
  *
  *   - One call at a time works on the books of one part.
  *   - A message is noted as sent before it can be got, and as got before it is worked on. None is lost or comes twice.
- *   - The tail of an edge learns how many messages were acknowledged only after chipfire_acked has answered 0.
+ *   - The tail of an edge learns how many messages were acknowledged only after chipfire_acked, or
+ *     chipfire_books_acknowledge, has answered 0.
  *   - A part that says that it is passive sends nothing, and only a message wakes it. Only the root begins at work, and no
  *     edge leads to the root. */
 struct chipfire_tally {
@@ -374,6 +376,52 @@ uint64_t chipfire_is_over(const struct chipfire_tally *outs, size_t outs_len, ui
 /* Says whether the books of a part are sound. */
 uint64_t chipfire_books_check(const struct chipfire_tally *ins, size_t ins_len,
                               const struct chipfire_tally *outs, size_t outs_len, uint64_t parent);
+
+/* Books with two sums: what is owed on all edges, and the deficit. Of the calls above, chipfire_deficit and
+ * chipfire_is_over add up all tallies, and on the parent edge chipfire_may_ack and chipfire_acked do. Those on this struct
+ * search for one edge each, and chipfire_books_is_over takes no longer for many edges than for one.
+ *
+ *     struct chipfire_books books = {ins, ins_len, outs, outs_len, CHIPFIRE_NEUTRAL, 0, 0};
+ *     chipfire_books_open(&books);            fills in the sums
+ *     chipfire_books_sent(&books, edge);      and so on
+ *
+ * They do on the tallies what the calls above do. They answer 0 or 46, and at 46 nothing has changed. They write the
+ * tallies, parent, owed and deficit, and all of these may be read between calls. An edge with counts 0 may be added to a
+ * side, also in other memory, without chipfire_books_open. If the sums are not those of the tallies, a call touches no
+ * other memory, lets no sum pass below 0 or above 2^64 - 1, and what it answers means nothing. */
+struct chipfire_books {
+    struct chipfire_tally *ins;   /* the edges into the part */
+    size_t ins_len;
+    struct chipfire_tally *outs;  /* the edges out of it */
+    size_t outs_len;
+    uint64_t parent;              /* the parent edge, or CHIPFIRE_NEUTRAL */
+    uint64_t owed;                /* how many messages were got and are not acknowledged, on all edges */
+    uint64_t deficit;             /* how many were sent and are not known to be acknowledged, on all edges */
+};
+
+/* Fills in the sums, if the books are sound. It reads all tallies. */
+uint64_t chipfire_books_open(struct chipfire_books *books);
+
+/* Says whether the books are sound, and the sums those of the tallies. It reads all tallies. */
+uint64_t chipfire_books_verify(const struct chipfire_books *books);
+
+/* Notes a message that was sent on the edge. */
+uint64_t chipfire_books_sent(struct chipfire_books *books, uint64_t edge);
+
+/* Notes a message that came on the edge. It engages a neutral part. */
+uint64_t chipfire_books_got(struct chipfire_books *books, uint64_t edge);
+
+/* Acknowledges as many messages of the edge as chipfire_may_ack would write. Writes their number, which may be 0, and as
+ * word how many of the edge are acknowledged from the beginning on: the tail's chipfire_books_settled takes that. */
+uint64_t chipfire_books_acknowledge(struct chipfire_books *books, uint64_t edge, uint64_t passive,
+                                    uint64_t *count, uint64_t *word);
+
+/* Notes that the edge's head has acknowledged word messages from the beginning on, as it says now or said before, and
+ * writes how many of these are new. */
+uint64_t chipfire_books_settled(struct chipfire_books *books, uint64_t edge, uint64_t word, uint64_t *more);
+
+/* Asked of the root: writes whether all is over. It always answers 0. */
+uint64_t chipfire_books_is_over(const struct chipfire_books *books, uint64_t ended, uint64_t *over);
 
 #ifdef __cplusplus
 }

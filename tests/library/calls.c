@@ -444,6 +444,42 @@ static void try_detector(void)
     EXPECT(chipfire_sent(outs, 1, 0) == 46 && outs[0].messages == 1);
 }
 
+/* The same part by the calls that keep sums, and then books that are not sound or have other sums. */
+static void try_sums(void)
+{
+    struct chipfire_tally ins[] = {{1, 0, 0}, {3, 0, 0}}, outs[] = {{0, 0, 0}};
+    struct chipfire_books books = {ins, 2, outs, 1, CHIPFIRE_NEUTRAL, GUARD, GUARD};
+    uint64_t told = GUARD, word = GUARD;
+    EXPECT(chipfire_books_verify(&books) == 46 && chipfire_books_open(&books) == 0 && chipfire_books_verify(&books) == 0);
+    EXPECT(books.ins == ins && books.ins_len == 2 && books.outs == outs && books.outs_len == 1);
+    EXPECT(books.parent == CHIPFIRE_NEUTRAL && books.owed == 0 && books.deficit == 0);
+    EXPECT(chipfire_books_got(&books, 3) == 0 && books.parent == 3 && books.owed == 1 && ins[1].messages == 1);
+    EXPECT(chipfire_books_got(&books, 2) == 46 && books.parent == 3 && books.owed == 1);
+    EXPECT(chipfire_books_sent(&books, 0) == 0 && books.deficit == 1 && outs[0].messages == 1);
+    EXPECT(chipfire_books_sent(&books, 1) == 46 && books.deficit == 1);
+    EXPECT(chipfire_books_got(&books, 1) == 0 && books.parent == 3 && books.owed == 2);
+    EXPECT(chipfire_books_acknowledge(&books, 2, 1, &told, &word) == 46 && told == GUARD && word == GUARD);
+    EXPECT(chipfire_books_acknowledge(&books, 3, 1, &told, &word) == 0 && told == 0 && word == 0);
+    EXPECT(chipfire_books_acknowledge(&books, 1, 0, &told, &word) == 0 && told == 1 && word == 1);
+    EXPECT(ins[0].answered == 1 && books.owed == 1 && books.parent == 3);
+    EXPECT(chipfire_books_acknowledge(&books, 3, 1, &told, &word) == 0 && told == 0 && books.parent == 3);
+    EXPECT(chipfire_books_is_over(&books, 1, &told) == 0 && told == 0);
+    told = GUARD;
+    EXPECT(chipfire_books_settled(&books, 0, 2, &told) == 46 && told == GUARD && outs[0].answered == 0 && books.deficit == 1);
+    EXPECT(chipfire_books_settled(&books, 0, 1, &told) == 0 && told == 1 && outs[0].answered == 1 && books.deficit == 0);
+    EXPECT(chipfire_books_settled(&books, 0, 0, &told) == 0 && told == 0 && books.deficit == 0);
+    EXPECT(chipfire_books_acknowledge(&books, 3, 0, &told, &word) == 0 && told == 0 && word == 0 && books.owed == 1);
+    EXPECT(chipfire_books_acknowledge(&books, 3, 7, &told, &word) == 0 && told == 1 && word == 1);
+    EXPECT(books.parent == CHIPFIRE_NEUTRAL && books.owed == 0 && ins[1].answered == 1);
+    EXPECT(chipfire_books_is_over(&books, 0, &told) == 0 && told == 0);
+    EXPECT(chipfire_books_is_over(&books, 9, &told) == 0 && told == 1);
+    EXPECT(chipfire_books_verify(&books) == 0 && books.ins == ins && books.outs == outs && books.outs_len == 1);
+    books.deficit = UINT64_MAX;
+    EXPECT(chipfire_books_verify(&books) == 46 && chipfire_books_sent(&books, 0) == 46 && outs[0].messages == 1);
+    outs[0].answered = 2;
+    EXPECT(chipfire_books_open(&books) == 46 && books.deficit == UINT64_MAX);
+}
+
 /* Slices of length 0 that are null: all of them, on the sink alone, and those that games and drops on the triangle may leave
  * out. Vertices without chips are fault 9, and books without edges have none. */
 static void try_nulls(void)
@@ -482,6 +518,12 @@ static void try_nulls(void)
     EXPECT(chipfire_deficit(NULL, 0, &told) == 0 && told == 0);
     EXPECT(chipfire_is_over(NULL, 0, 1, &told) == 0 && told == 1);
     EXPECT(chipfire_books_check(NULL, 0, NULL, 0, CHIPFIRE_NEUTRAL) == 0 && chipfire_books_check(NULL, 0, NULL, 0, 0) == 46);
+    struct chipfire_books none = {NULL, 0, NULL, 0, CHIPFIRE_NEUTRAL, GUARD, GUARD};
+    EXPECT(chipfire_books_open(&none) == 0 && none.owed == 0 && none.deficit == 0 && chipfire_books_verify(&none) == 0);
+    told = GUARD;
+    EXPECT(chipfire_books_sent(&none, 0) == 46 && chipfire_books_got(&none, 0) == 46);
+    EXPECT(chipfire_books_acknowledge(&none, 0, 1, &told, &place) == 46 && chipfire_books_settled(&none, 0, 0, &told) == 46);
+    EXPECT(told == GUARD && chipfire_books_is_over(&none, 1, &told) == 0 && told == 1 && none.ins == NULL);
 }
 
 /* A part without edges out acknowledges the message that engages it, and then the root, which has none into it, is over. */
@@ -512,5 +554,6 @@ int main(void)
     try_claims();
     try_groups();
     try_detector();
+    try_sums();
     return wrong;
 }

@@ -1,6 +1,7 @@
 -- What a call on the books of a part answers to C.
 use Rattle.std.specs.Prelude.{◌≡◌, ℕ, Bool, true, false, not, ◌==◌, Result, Ok, Err}
 use Rattle.chip_library.specs.declared.detector.BooksFault.{BooksFault}
+use Rattle.chip_library.specs.declared.sums.Acknowledged.{Acknowledged}
 use Rattle.chip_library.specs.PartBooks.{books_fault_number}
 
 -- whether a word is true
@@ -25,3 +26,8 @@ abbrev pub flag_of : Result Bool BooksFault → ℕ → ℕ
 flag_of (Ok true) old = 1
 flag_of (Ok false) old = 0
 flag_of (Err fault) old = old
+
+-- what is written of an acknowledgement
+abbrev pub acknowledged_of : Result Acknowledged BooksFault → ℕ × ℕ → ℕ × ℕ
+acknowledged_of (Ok now) old = (now.count, now.so_far)
+acknowledged_of (Err fault) old = old

@@ -113,7 +113,7 @@ pub extern "C" fn chipfire_books_check(ins: &[Tally], outs: &[Tally], parent: u6
 }
 
 /// The number of a fault, or 0.
-fn status(done: Result<(), BooksFault>) -> u64
+pub(crate) fn status(done: Result<(), BooksFault>) -> u64
     ensures { result ≡ status_of done }
 {
     match done {
@@ -123,7 +123,7 @@ fn status(done: Result<(), BooksFault>) -> u64
 }
 
 /// The number of a fault; or 0, and the count is written.
-fn told(answer: Result<u64, BooksFault>, count: &mut u64) -> u64
+pub(crate) fn told(answer: Result<u64, BooksFault>, count: &mut u64) -> u64
     ensures status { result ≡ status_of answer }
     ensures count { count.new ≡ count_of answer count.old }
 {

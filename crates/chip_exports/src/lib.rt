@@ -14,6 +14,7 @@ use std::alloc::Global;
 mod detector;
 mod group;
 mod pile;
+mod sums;
 
 /// The version of the library: 1,000,000 for each of the first number, 1,000 for each of the second, and the third.
 #[unsafe(no_mangle)]

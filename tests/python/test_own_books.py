@@ -82,6 +82,33 @@ class Duties(unittest.TestCase):
             counts = collections.Counter(kind for _, kind, _ in run.log)
             self.assertEqual([counts["receive"], counts["tell"], counts["hear"]], [counts["send"]] * 3)
 
+    def test_the_sums_that_are_kept_are_those_of_the_tallies(self):
+        for seed in range(5):
+            run = Run(seed)
+            for step in range(400):
+                run.step()
+                if step % 50 == 0:
+                    run.books = [pickle.loads(pickle.dumps(books)) for books in run.books]
+                    run.log = []
+                for books in run.books:
+                    self.assertEqual(library.books().chipfire_books_verify(books._books), 0, (seed, step))
+
+    def test_edges_that_come_while_messages_are_open(self):
+        books = Books([4], [4])
+        books.got(4)
+        books.sent(4)
+        for edge in (1, 9, 5):
+            books.add_in(edge)
+            books.add_out(edge)
+            books.got(edge)
+            books.sent(edge)
+        self.assertEqual((books.parent, books.deficit), (4, 4))
+        self.assertEqual(books.acknowledge(True), [(1, 1), (5, 1), (9, 1)])
+        for left, edge in zip((3, 2, 1, 0), (4, 1, 5, 9)):
+            self.assertEqual((books.settled(edge, 1), books.deficit), (1, left))
+        self.assertEqual(books.acknowledge(True), [(4, 1)])
+        self.assertIsNone(books.parent)
+
     def test_the_message_that_engaged_waits_for_all_others(self):
         books = Books([2, 5], [7])
         books.got(5)

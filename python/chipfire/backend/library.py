@@ -47,6 +47,23 @@ _NUMBER = ctypes.c_uint64
 _SLICE = (ctypes.c_void_p, ctypes.c_size_t)
 _OUT = ctypes.POINTER(_NUMBER)
 
+
+class BooksStruct(ctypes.Structure):
+    """The books of a process as the calls with sums take them: both sides, the parent, what is owed, and the deficit."""
+
+    _fields_ = [
+        ("ins", ctypes.c_void_p),
+        ("ins_len", ctypes.c_size_t),
+        ("outs", ctypes.c_void_p),
+        ("outs_len", ctypes.c_size_t),
+        ("parent", _NUMBER),
+        ("owed", _NUMBER),
+        ("deficit", _NUMBER),
+    ]
+
+
+_STRUCT = ctypes.POINTER(BooksStruct)
+
 #: What the calls on the books of a process take.
 _BOOKS: dict[str, tuple[Any, ...]] = {
     "sent": (*_SLICE, _NUMBER),
@@ -57,6 +74,13 @@ _BOOKS: dict[str, tuple[Any, ...]] = {
     "deficit": (*_SLICE, _OUT),
     "is_over": (*_SLICE, _NUMBER, _OUT),
     "books_check": (*2 * _SLICE, _NUMBER),
+    "books_open": (_STRUCT,),
+    "books_verify": (_STRUCT,),
+    "books_sent": (_STRUCT, _NUMBER),
+    "books_got": (_STRUCT, _NUMBER),
+    "books_acknowledge": (_STRUCT, _NUMBER, _NUMBER, _OUT, _OUT),
+    "books_settled": (_STRUCT, _NUMBER, _NUMBER, _OUT),
+    "books_is_over": (_STRUCT, _NUMBER, _OUT),
 }
 
 #: The calls on rows of configurations, and what each takes behind the graph.

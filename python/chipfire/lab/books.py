@@ -54,14 +54,6 @@ class _Side:
         place = bisect.bisect_left(self.edges, edge)
         return self.edges[place : place + 1] == [edge]
 
-    def counts(self, edge: int) -> tuple[int, int]:
-        """How many messages the edge had, and how many of these are acknowledged; zeros if it is not there."""
-        place = bisect.bisect_left(self.edges, edge)
-        if self.edges[place : place + 1] != [edge]:
-            return 0, 0
-        messages, answered = self.words[3 * place + 1 : 3 * place + 3]
-        return messages, answered
-
 
 _NOTHING = array("Q", [0])
 
@@ -97,9 +89,8 @@ class Books:
         self._outs = _Side(outs)
         if root and self._ins.edges:
             raise ValueError("no edge leads to the root: put one of your own before the process")
-        self._library = library.books()
-        self._parent = _NEUTRAL
         self._owed = set[int]()
+        self._open(_NEUTRAL)
         self.process = as_int(process, "process")
         self.is_root = root
         #: Whether the process may send: the root from the beginning, others from a message on, until they are passive.
@@ -111,11 +102,15 @@ class Books:
             self._note("active")
 
     def __getstate__(self) -> dict[str, Any]:
-        return {**self.__dict__, "_file": None, "_library": None}
+        own = {**self.__dict__, "_file": None}
+        del own["_library"], own["_books"]
+        return {**own, "parent": self._books.parent}
 
     def __setstate__(self, state: dict[str, Any]) -> None:
-        self.__dict__.update(state)
-        self._library = library.books()
+        own = {**state}
+        parent = own.pop("parent")
+        self.__dict__.update(own)
+        self._open(parent)
 
     def __repr__(self) -> str:
         state = "active" if self.is_active else "passive"
@@ -124,24 +119,25 @@ class Books:
     @property
     def deficit(self) -> int:
         """How many acknowledgements the process waits for."""
-        count = ctypes.c_uint64()
-        self._call("deficit", "its books are not sound", *self._outs.slice(), count)
-        return count.value
+        return int(self._books.deficit)
 
     @property
     def parent(self) -> int | None:
         """The edge of the message that engaged the process; None if it is neutral."""
-        return None if self._parent == _NEUTRAL else self._parent
+        parent = int(self._books.parent)
+        return None if parent == _NEUTRAL else parent
 
     def add_in(self, edge: int) -> None:
         """Adds an edge into the process, as if it had been there with counts 0 from the start."""
         if self.is_root:
             raise ValueError("no edge leads to the root")
         self._ins.add(as_int(edge, "an edge", 0, _NEUTRAL - 1))
+        self._point()
 
     def add_out(self, edge: int) -> None:
         """Adds an edge out of the process, as if it had been there with counts 0 from the start."""
         self._outs.add(as_int(edge, "an edge", 0, _NEUTRAL - 1))
+        self._point()
 
     def has_in(self, edge: int) -> bool:
         """Whether the edge leads to the process."""
@@ -151,14 +147,12 @@ class Books:
         """Notes a message out of the process, before anybody can get it."""
         if not self.is_active:
             raise _fault(_PASSIVE, self.process, f"it sends on edge {edge} while it is passive")
-        self._call("sent", f"no message can be sent on edge {edge}", *self._outs.slice(), edge)
+        self._call("sent", f"no message can be sent on edge {edge}", edge)
         self._note("send", edge)
 
     def got(self, edge: int) -> None:
         """Notes a message into the process, with it and before it is worked on."""
-        parent = ctypes.c_uint64(self._parent)
-        self._call("got", f"no message can be got on edge {edge}", *self._ins.slice(), parent, edge)
-        self._parent = parent.value
+        self._call("got", f"no message can be got on edge {edge}", edge)
         self._owed.add(edge)
         self.is_active = True
         self._note("receive", edge)
@@ -178,7 +172,7 @@ class Books:
         of these are new."""
         more = ctypes.c_uint64()
         why = f"{count} acknowledgements on edge {edge} are more than its messages"
-        self._call("settled", why, *self._outs.slice(), edge, count, more)
+        self._call("settled", why, edge, count, more)
         self._note("hear", edge, more.value)
         return more.value
 
@@ -190,7 +184,7 @@ class Books:
             self._rest()
         over = ctypes.c_uint64()
         has_ended = not self.is_active
-        self._call("is_over", "its books are not sound", *self._outs.slice(), has_ended, over)
+        self._call("is_over", "its books are not sound", has_ended, over)
         if over.value and not self._has_claimed:
             self._has_claimed = True
             self._note("over")
@@ -198,21 +192,17 @@ class Books:
 
     def _last(self, edge: int) -> tuple[bool, int]:
         """Sorts the parent behind the others, since its last message waits for all of theirs."""
-        return edge == self._parent, edge
+        return edge == self._books.parent, edge
 
     def _acknowledged(self, edge: int, passive: bool) -> tuple[int, int, int]:
         """Acknowledges what may be on an edge: how many messages that are, and with those before them."""
-        more, parent = ctypes.c_uint64(), ctypes.c_uint64(self._parent)
-        sides = (*self._ins.slice(), *self._outs.slice())
+        count, so_far = ctypes.c_uint64(), ctypes.c_uint64()
         why = f"its acknowledgements on edge {edge}"
-        self._call("may_ack", why, *sides, self._parent, edge, passive, more)
-        self._call("acked", why, *sides, parent, edge, passive, more)
-        self._parent = parent.value
-        messages, answered = self._ins.counts(edge)
-        if messages == answered:
+        self._call("acknowledge", why, edge, passive, count, so_far)
+        if edge != self._books.parent:
             self._owed.discard(edge)
-        self._note("tell", edge, more.value)
-        return edge, more.value, answered
+        self._note("tell", edge, count.value)
+        return edge, count.value, so_far.value
 
     def _rest(self) -> None:
         """Notes that the process is passive, if it was not."""
@@ -220,9 +210,21 @@ class Books:
             self.is_active = False
             self._note("passive")
 
+    def _open(self, parent: int) -> None:
+        """Has the library keep the sums of both sides, with this parent."""
+        self._library = library.books()
+        self._books = library.BooksStruct(parent=parent)
+        self._point()
+        self._call("open", "its books are not sound")
+
+    def _point(self) -> None:
+        """Tells the library where both sides lie."""
+        self._books.ins, self._books.ins_len = self._ins.slice()
+        self._books.outs, self._books.outs_len = self._outs.slice()
+
     def _call(self, name: str, why: str, *words: Any) -> None:
         """Makes a call of the library; `why` says what a refusal means."""
-        number = getattr(self._library, f"chipfire_{name}")(*words)
+        number = getattr(self._library, f"chipfire_books_{name}")(self._books, *words)
         if number:
             raise _fault(number, self.process, why)
 

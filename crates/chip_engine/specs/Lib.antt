@@ -5,6 +5,7 @@ pub mod VerifyCommand
 pub mod GuessCommand
 pub mod DropRows
 pub mod AvalanchesCommand
+pub mod RecurrentCommand
 pub mod Sittings
 pub mod Worked
 pub mod SimulatedBytes

@@ -19,6 +19,7 @@ import diffusing
 import drops
 import estimates
 import feeds
+import group
 import guesses
 import judged
 import large
@@ -37,7 +38,7 @@ import written
 #: Those whose tests take the program.
 MODULES = (
     chains, boards, closing, feeds, crews, seals, verdicts, guesses, logs, detectors, long_logs, missing_rows, drops,
-    largest, diffusing, judged, terminal, written, paced, progress, estimates, busy,
+    group, largest, diffusing, judged, terminal, written, paced, progress, estimates, busy,
 )  # fmt: skip
 
 

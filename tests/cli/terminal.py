@@ -52,6 +52,9 @@ TOLD = {
         ("70 Stuck 0 0", ["in trace.csv", "fault 70 Stuck v i: the rows of a trace or a log fit together in no order"]),
     "resume graph.json report.json":
         ("52 Mismatch", ["in report.json", "fault 52 Mismatch: the report has another number of vertices than the graph"]),
+    "recurrent graph.json beyond.csv":
+        ("26 Vertex 2", ["in beyond.csv: row 2, which is line 4 if no line is empty", "fault 26 Vertex i: row i names a vertex, an edge, a process or a channel that does not exist"]),
+    "identity far.json": ("8 Unreached 0", ["in far.json", "fault 8 Unreached v: no walk leads from vertex v to the sink"]),
     "verify graph.json chips.csv played.json":
         ("53 Differs 0", ["in played.json", "fault 53 Differs v: the report is not of this game, and v is the least vertex that differs"]),
 }

@@ -105,6 +105,8 @@ class Model:
             graph = read_graph(files[0], limits)
             if command == "check":
                 return Answer(f"{self.play.check(graph)}\n".encode())
+            if command == "identity":
+                return Answer(chips_text(recurrent(graph, [0] * graph["vertices"])))
             if command == "resume":
                 return resumed(graph, files[1], limit, limits)
             chips = read_chips(files[1], graph, limits)
@@ -112,6 +114,8 @@ class Model:
                 chips = with_feeds(chips, read_chips(files[2], graph))
             if command == "avalanches":
                 return dropped(graph, chips, read_pairs(files[2], graph, b"chips", limits, may_repeat=True))
+            if command == "recurrent":
+                return represented(graph, chips)
             if command == "plain" and len(files) > 2:
                 read_guess(files[2], graph, limits)
             if command == "verify":
@@ -486,6 +490,65 @@ def dropped(graph, chips, drops):
         row = vertex, count, sum(more), sum(it > 0 for it in more), lost + chips[graph["sink"]]
         lines += [] if over else [",".join(map(str, row))]
     return Answer("".join(f"{line}\n" for line in lines).encode(), status=2 if over else 0)
+
+
+def settled(graph, chips):
+    """The stabilization of chips off the sink, or the fault for which there is none within the limits."""
+    chips = [0 if v == graph["sink"] else count for v, count in enumerate(chips)]
+    if sum(chips) > MAX_CHIPS:
+        raise Fault("10 Total")
+    if play(graph, chips, MAX_CHIPS)[1]:
+        raise Fault("13 Stopped 0")
+    return [0 if v == graph["sink"] else count for v, count in enumerate(chips)]
+
+
+def burning_chips(graph):
+    """What vertices lose on balance by the burning script of Speer: while one gains, it fires once more."""
+    degree, sink = degrees(graph), graph["sink"]
+    script = [int(v != sink) for v in range(graph["vertices"])]
+    for _ in range(MAX_ROUNDS):
+        lost = [count * times for count, times in zip(degree, script)]
+        for tail, head, mult in graph["edges"]:
+            lost[head] -= mult * script[tail]
+        lost[sink] = 0
+        gaining = [v for v, count in enumerate(lost) if count < 0]
+        if not gaining:
+            return lost
+        for v in gaining:
+            script[v] += 1
+    raise Unjudged
+
+
+def burnt(graph, chips):
+    """The recurrent chips that are equivalent to these: twice as many burning chips come each time, until they burn off."""
+    burning, times, before = burning_chips(graph), 1, None
+    while chips != before:
+        before = chips
+        chips = [count + times * more for count, more in zip(chips, burning)]
+        play(graph, chips, math.inf)
+        chips[graph["sink"]] = 0
+        times *= 2
+    return chips
+
+
+def recurrent(graph, chips):
+    """The same, or the fault of one of three stabilizations: of twice the greatest stable chips, of these chips, and of what
+    is left of these with what the first lost."""
+    twice = [2 * max(count - 1, 0) for count in degrees(graph)]
+    lost = [count - left for count, left in zip(twice, settled(graph, twice))]
+    settled(graph, [count + more for count, more in zip(settled(graph, chips), lost)])
+    return burnt(graph, settled(graph, chips))
+
+
+def chips_text(chips):
+    return "".join(f"{row}\n" for row in ["vertex,chips", *(f"{v},{count}" for v, count in enumerate(chips))]).encode()
+
+
+def represented(graph, chips):
+    """The recurrent chips that are equivalent to these, and whether they are these."""
+    found = recurrent(graph, chips)
+    chips[graph["sink"]] = 0
+    return Answer(chips_text(found), status=0 if found == chips else 2)
 
 
 def report_answer(graph, chips, limit, prior=None):

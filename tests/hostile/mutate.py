@@ -2,7 +2,9 @@
 import json
 
 EVENTS = ["take", "ack", "fire", "clear", "claim", "put", "halt", "settle", "seal", "read", "feed", "end"]
-COMMANDS = ["check", "plain", "avalanches", "simulate", "run", "replay", "resume", "verify"]
+COMMANDS = [
+    "check", "plain", "avalanches", "recurrent", "identity", "simulate", "run", "replay", "resume", "verify",
+]
 NUMBERS = [
     b"0", b"1", b"2", b"3", b"00", b"01", b"-0", b"-1", b"+1", b"1.0", b"1.5", b"1e0", b"1e400", b"4096", b"4097",
     b"65536", b"1048576", b"1048577", b"2097152", b"2097153", b"1099511627776", b"1099511627777", b"1152921504606846976",
@@ -124,7 +126,7 @@ def random_files(command, draw, replay, played):
     texts = [json.dumps(graph, separators=draw.choice([(",", ":"), (", ", ": ")]))]
     if command == "resume":
         texts.append(report_text(graph, chips, draw))
-    elif command != "check":
+    elif command not in ("check", "identity"):
         texts.append(chips_text(chips, draw))
     if command == "simulate":
         texts.append(schedule_text(graph, draw))

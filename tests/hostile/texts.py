@@ -12,6 +12,8 @@ NAMES = {
     "check": ["graph.json"],
     "plain": ["graph.json", "chips.csv", "guess.csv"],
     "avalanches": ["graph.json", "chips.csv", "drops.csv"],
+    "recurrent": ["graph.json", "chips.csv"],
+    "identity": ["graph.json"],
     "simulate": ["graph.json", "chips.csv", "schedule.csv"],
     "run": ["graph.json", "chips.csv", "feed.csv"],
     "replay": ["graph.json", "chips.csv", "trace.csv"],
@@ -23,9 +25,10 @@ NAMES = {
 def options_of(command, draw):
     """Options of a command at random, by their names."""
     options = {}
-    if command not in ("check", "avalanches") and draw.random() < 0.5:
+    group = ("recurrent", "identity")
+    if command not in ("check", "avalanches", *group) and draw.random() < 0.5:
         options["limit"] = draw.choice([0, 1, 2, 5, 1 << 40])
-    if command in ("check", "plain", "avalanches", "resume", "verify"):
+    if command in ("check", "plain", "avalanches", *group, "resume", "verify"):
         options.update(large=draw.random() < 0.5)
     if command == "simulate":
         options.update(ring=draw.choice([1, 1, 2, 3, 64]), rounds=draw.choice([0, 1, 3, 50]))

@@ -40,7 +40,8 @@ class Helps(made.Test):
         self.assertEqual(words("check"), ["--help", "--large", "-h"])
         self.assertEqual(words(""), ["--help", "--version", "-V", "-h"])
         self.assertEqual(commands(), [
-            "check", "plain", "avalanches", "run", "simulate", "replay", "resume", "verify", "judge", "explain"])
+            "check", "plain", "avalanches", "recurrent", "identity", "run", "simulate", "replay", "resume", "verify", "judge",
+            "explain"])
 
 
 class Manual(made.Test):

@@ -47,9 +47,9 @@ pub struct GameArguments<'a> {
     pub progress: bool,
 }
 
-/// A graph to check.
+/// A graph alone.
 #[derive(Clone, Copy)]
-pub struct CheckArguments<'a> {
+pub struct GraphArguments<'a> {
     pub graph: FileArgument<'a>,
     pub large: bool,
 }
@@ -135,9 +135,12 @@ pub struct JudgeArguments<'a> {
 pub enum Request<'a> {
     /// The help or the version, to be printed.
     Help(String),
-    Check(CheckArguments<'a>),
+    Check(GraphArguments<'a>),
     Plain(PlainArguments<'a>),
     Avalanches(AvalancheArguments<'a>),
+    Recurrent(GameArguments<'a>),
+    /// Of the group of this graph.
+    Identity(GraphArguments<'a>),
     Simulate(SimulationArguments<'a>),
     Run(RunArguments<'a>),
     Replay(ReplayArguments<'a>),
@@ -213,24 +216,19 @@ impl<'m, 'a> Found<'m, 'a> {
     /// What is asked of the command with this name.
     fn request(&self, name: &str) -> Option<Request<'a>> {
         match name {
-            "check" => self.check(),
+            "check" => Some(Request::Check(self.graph())),
             "plain" => self.plain(),
             "avalanches" => self.avalanches(),
+            "recurrent" => Some(Request::Recurrent(self.game(CHIPS))),
+            "identity" => Some(Request::Identity(self.graph())),
             "simulate" => self.simulation(),
             "run" => self.play_on_threads(),
             "replay" => self.replay(),
-            "resume" => self.resume(),
+            "resume" => Some(Request::Resume(self.game(REPORT))),
             "verify" => self.verify(),
             "judge" => self.judge(),
             _ => self.explanation(),
         }
-    }
-
-    fn check(&self) -> Option<Request<'a>> {
-        Some(Request::Check(CheckArguments {
-            graph: self.file(GRAPH),
-            large: self.matches.get_flag(LARGE.name),
-        }))
     }
 
     fn plain(&self) -> Option<Request<'a>> {
@@ -282,10 +280,6 @@ impl<'m, 'a> Found<'m, 'a> {
         }))
     }
 
-    fn resume(&self) -> Option<Request<'a>> {
-        Some(Request::Resume(self.game(REPORT)))
-    }
-
     fn verify(&self) -> Option<Request<'a>> {
         Some(Request::Verify(VerifyArguments {
             game: self.game(CHIPS),
@@ -315,6 +309,14 @@ impl<'m, 'a> Found<'m, 'a> {
                 let number = self.matches.get_one::<u64>(FAULT_NUMBER.name)?;
                 Some(Request::Explain(Some(number)))
             }
+        }
+    }
+
+    /// The graph that is asked for.
+    fn graph(&self) -> GraphArguments<'a> {
+        GraphArguments {
+            graph: self.file(GRAPH),
+            large: self.matches.get_flag(LARGE.name),
         }
     }
 

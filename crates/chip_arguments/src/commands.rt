@@ -266,6 +266,34 @@ Example: chipfire avalanches graph.json chips.csv drops.csv >avalanches.csv",
     arguments: &[GRAPH, CHIPS, DROPS, LARGE, WRITTEN_REPORT, PROGRESS],
 };
 
+static RECURRENT: CommandRow = CommandRow {
+    name: "recurrent",
+    about: "Says whether chips are recurrent, and writes the recurrent ones equivalent to them",
+    after_help: "\
+Chips are recurrent if they are stable and from all others some more lead to them by firings.
+Firings lead chips to equivalent ones, and back. Of these exactly one is recurrent: the output
+is that one as a chips file, with 0 on the sink. Chips on the sink do not count.
+
+Exit status: 0 the chips are recurrent, so that they are written; 2 they are not; 1 a fault,
+which `chipfire explain N` explains.
+
+Example: chipfire recurrent graph.json chips.csv >recurrent.csv",
+    arguments: &[GRAPH, CHIPS, LARGE],
+};
+
+static IDENTITY: CommandRow = CommandRow {
+    name: "identity",
+    about: "Writes the identity of the graph's sandpile group",
+    after_help: "\
+The recurrent chips are a group: the sum of two is their stabilized sum. The output is its
+identity as a chips file, with 0 on the sink.
+
+Exit status: 0 done; 1 a fault, which `chipfire explain N` explains.
+
+Example: chipfire identity graph.json >identity.csv",
+    arguments: &[GRAPH, LARGE],
+};
+
 static RUN: CommandRow = CommandRow {
     name: "run",
     about: "Plays a game to its end on threads, and writes the same report as plain",
@@ -395,11 +423,13 @@ Example: chipfire explain 21",
 };
 
 /// The commands, in the order in which the help lists them.
-pub fn commands() -> [&'static CommandRow; 10] {
+pub fn commands() -> [&'static CommandRow; 12] {
     [
         &CHECK,
         &PLAIN,
         &AVALANCHES,
+        &RECURRENT,
+        &IDENTITY,
         &RUN,
         &SIMULATE,
         &REPLAY,

@@ -5,8 +5,9 @@ pub const VERSION: &str = "0.8.0";
 
 pub const PROGRAM: &str = "\
 Exit status: 0 done, and no vertex was stopped; 1 a fault, in one line on standard error; 2
-some vertex was stopped, `replay` has something left, or `judge` finds a claim early; 3
-`simulate` leaves the root open, `run` has too few turns (fault 61), or `judge` finds no claim.
+some vertex was stopped, the chips of `recurrent` are not recurrent, `replay` has something
+left, or `judge` finds a claim early; 3 `simulate` leaves the root open, `run` has too few turns
+(fault 61), or `judge` finds no claim.
 
 `chipfire explain N` explains fault N. `chipfire help COMMAND` has the options, the exit
 statuses and an example of a command.

@@ -4,7 +4,7 @@
 #![tactic(auto)]
 
 pub use arguments::{
-    AvalancheArguments, CheckArguments, FileArgument, GameArguments, JudgeArguments,
+    AvalancheArguments, FileArgument, GameArguments, GraphArguments, JudgeArguments,
     PlainArguments, ReplayArguments, Request, RunArguments, SimulationArguments, VerifyArguments,
     parse,
 };

@@ -4,7 +4,7 @@ use Rattle.std.specs.Prelude.{◌≡◌, ◌⊎◌, ◌∷◌, [], ℕ, List, Co
 use Rattle.std.specs.Prelude.{None, MatchOption, Result, Err, is_some}
 use Rattle.chip_arguments.specs.declared.arguments.FileArgument.{FileArgument}
 use Rattle.chip_arguments.specs.declared.arguments.GameArguments.{GameArguments}
-use Rattle.chip_arguments.specs.declared.arguments.CheckArguments.{CheckArguments}
+use Rattle.chip_arguments.specs.declared.arguments.GraphArguments.{GraphArguments}
 use Rattle.chip_arguments.specs.declared.arguments.PlainArguments.{PlainArguments}
 use Rattle.chip_arguments.specs.declared.arguments.AvalancheArguments.{AvalancheArguments}
 use Rattle.chip_arguments.specs.declared.arguments.SimulationArguments.{SimulationArguments}
@@ -18,6 +18,7 @@ use Rattle.chip_command.specs.PlainCommand.{PlainAnswers}
 use Rattle.chip_engine.specs.AvalanchesCommand.{AvalanchesAnswers}
 use Rattle.chip_engine.specs.CheckCommand.{CheckAnswers}
 use Rattle.chip_engine.specs.GuessCommand.{GuessAnswers}
+use Rattle.chip_engine.specs.RecurrentCommand.{RecurrentAnswers, IdentityAnswers}
 use Rattle.chip_engine.specs.ReplayCommand.{ReplayAnswers}
 use Rattle.chip_engine.specs.ResumeCommand.{ResumeAnswers}
 use Rattle.chip_engine.specs.SimulateCommand.{SimulateAnswers}
@@ -33,7 +34,7 @@ Known = FileArgument → Option (List ℕ)
 abbrev pub IsUnopened : List ℕ → Option (List ℕ) → Option (List ℕ) → Result Ended Fault → Type 0
 IsUnopened numbers old new result = (n : ℕ) × Contains numbers n × (result ≡ Err (Open n)) × (new ≡ old)
 
-abbrev pub Checks : Known → CheckArguments → Option (List ℕ) → Option (List ℕ) → Result Ended Fault → Type 0
+abbrev pub Checks : Known → GraphArguments → Option (List ℕ) → Option (List ℕ) → Result Ended Fault → Type 0
 Checks known asked old new result = IsUnopened (asked.graph.number ∷ []) old new result
     ⊎ CheckAnswers (limits_of asked.large) (known asked.graph) old new result
 
@@ -70,6 +71,14 @@ DropsAll known asked old new result =
 
 abbrev pub Drops : Known → AvalancheArguments → Option (List ℕ) → Option (List ℕ) → Result Ended Fault → Type 0
 Drops known asked old new result = DropsNothing asked old new result ⊎ DropsAll known asked old new result
+
+abbrev pub Represents : Known → GameArguments → Option (List ℕ) → Option (List ℕ) → Result Ended Fault → Type 0
+Represents known asked old new result = IsUnopened (asked.graph.number ∷ asked.start.number ∷ []) old new result
+    ⊎ RecurrentAnswers (limits_of asked.large) (known asked.graph) (known asked.start) old new result
+
+abbrev pub Identifies : Known → GraphArguments → Option (List ℕ) → Option (List ℕ) → Result Ended Fault → Type 0
+Identifies known asked old new result = IsUnopened (asked.graph.number ∷ []) old new result
+    ⊎ IdentityAnswers (limits_of asked.large) (known asked.graph) old new result
 
 abbrev pub Simulates : Known → SimulationArguments → Option (List ℕ) → Option (List ℕ) → Result Ended Fault → Type 0
 Simulates known asked old new result = MatchOption (simulate_options asked) ((result ≡ Err Usage) × (new ≡ old))

@@ -4,20 +4,21 @@
 //! the bytes are known.
 
 ghost use Rattle.std.specs.Prelude.{◌≡◌, ◌⊎◌, IfErr, IfOk};
-ghost use Rattle.chip_console.specs.Commands.{Checks, Drops, Judges, Plays, Replays, Resumes, Simulates, Verifies};
+ghost use Rattle.chip_console.specs.Commands.{Checks, Drops, Identifies, Judges, Plays, Replays, Represents, Resumes};
+ghost use Rattle.chip_console.specs.Commands.{Simulates, Verifies};
 ghost use Rattle.chip_console.specs.Options.{limits_of, judge_options, play_options, replay_options, simulate_options};
 
 use crate::console::{Console, Opener};
 use crate::progress::{ClaimProgress, RoundProgress};
 use chip_arguments::{
-    AvalancheArguments, CheckArguments, GameArguments, JudgeArguments, PlainArguments,
+    AvalancheArguments, GameArguments, GraphArguments, JudgeArguments, PlainArguments,
     ReplayArguments, SimulationArguments, VerifyArguments,
 };
 use chip_command::{Ended, Fault};
 use chip_engine::{
     PlayOptions, ReplayOptions, SimulateOptions, avalanches_engine_with, check_engine_with,
-    plain_engine_with, plain_guess_engine_with, replay_engine_with, resume_engine_with,
-    simulate_engine_with, verify_engine_with,
+    identity_engine, plain_engine_with, plain_guess_engine_with, recurrent_engine,
+    replay_engine_with, resume_engine_with, simulate_engine_with, verify_engine_with,
 };
 use chip_graph::Limits;
 use chip_judge::{JudgeOptions, judge_engine_with};
@@ -31,7 +32,7 @@ impl<R: Files<File = File> + Input + Clock + Eprint + AllocGlobal> Console<'_, R
     pub fn check<O: Opener, W: Write>(
         &self,
         files: &O,
-        asked: &CheckArguments<'_>,
+        asked: &GraphArguments<'_>,
         output: &mut W,
     ) -> Result<Ended, Fault>
         ensures { Checks O.known asked.now (W.contents output.old) (W.contents output.new) result }
@@ -99,6 +100,38 @@ impl<R: Files<File = File> + Input + Clock + Eprint + AllocGlobal> Console<'_, R
             Some(report) => report.put(ended),
             None => ended,
         }
+    }
+
+    /// Finds the recurrent configuration that is equivalent to chips.
+    pub fn represent<O: Opener, W: Write>(
+        &self,
+        files: &O,
+        asked: &GameArguments<'_>,
+        output: &mut W,
+    ) -> Result<Ended, Fault>
+        ensures { Represents O.known asked.now (W.contents output.old) (W.contents output.new) result }
+    {
+        let (mut graph, mut chips) = open_game(files, asked)?;
+        recurrent_engine(
+            self.rt.alloc(),
+            &mut graph,
+            &mut chips,
+            limits_of(asked.large),
+            output,
+        )
+    }
+
+    /// Finds the identity of the group of a graph.
+    pub fn identify<O: Opener, W: Write>(
+        &self,
+        files: &O,
+        asked: &GraphArguments<'_>,
+        output: &mut W,
+    ) -> Result<Ended, Fault>
+        ensures { Identifies O.known asked.now (W.contents output.old) (W.contents output.new) result }
+    {
+        let mut graph = files.open(&asked.graph)?;
+        identity_engine(self.rt.alloc(), &mut graph, limits_of(asked.large), output)
     }
 
     /// Runs a schedule.

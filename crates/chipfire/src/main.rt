@@ -144,6 +144,8 @@ fn serve<
         Request::Check(asked) => console.check(&console, asked, output),
         Request::Plain(asked) => console.play(&console, asked, output),
         Request::Avalanches(asked) => console.drop_chips(&console, asked, output),
+        Request::Recurrent(asked) => console.represent(&console, asked, output),
+        Request::Identity(asked) => console.identify(&console, asked, output),
         Request::Simulate(asked) => console.simulate(&console, asked, output),
         Request::Run(asked) => play_on_threads(console, asked, output),
         Request::Replay(asked) => console.replay(&console, asked, output),

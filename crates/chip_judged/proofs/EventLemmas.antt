@@ -1,6 +1,6 @@
 -- Serves Rows.antt.
 -- What a part logs of its events is a run of its states.
-use Rattle.std.proofs.Common.{◌≡◌, ◌≢◌, ℕ, zero, suc, ◌+◌, ◌-◌, ◌<◌, ◌≤◌, Bool, true, false, List, [], ◌∷◌, ◌++◌, length, get_or}
+use Rattle.std.proofs.Common.{◌≡◌, ◌≢◌, ℕ, zero, suc, ◌+◌, ◌-◌, ◌<◌, ◌≤◌, Bool, true, false, List, [], ◌∷◌, length, get_or}
 use Rattle.std.proofs.Common.{refl, sym, ap, ◌∙◌, subst, arith, set, replicate, Option, Some, None, eq-eqb}
 use Rattle.std.specs.Prelude.{if◌then◌else◌, not, ◌&&◌}
 use Rattle.std.specs.List.{Contains}
@@ -20,16 +20,14 @@ use Rattle.chip_detect.proofs.AllowedLemmas.{within_owed}
 use Rattle.chip_detect.proofs.SoundnessLemmas.{steps_keep_soundness}
 use Rattle.chip_diffusing.specs.Network.{Network, IsNetwork}
 use Rattle.chip_diffusing.specs.Computation.{Part, World, Event, Send, Get, Ack, Settle, Work, Log, Happens, Leads, part_of}
-use Rattle.chip_diffusing.proofs.KeptLemmas.{IsKept, who_inside, acked_most, kept_on, more_when_passive}
+use Rattle.chip_diffusing.proofs.KeptLemmas.{IsKept, acked_most, kept_on, more_when_passive}
 use Rattle.chip_log.specs.Log.{steps_of}
-use Rattle.chip_log.specs.Claims.{basic}
 use Rattle.chip_log.specs.Judged.{control}
-use Rattle.chip_log.specs.declared.row.LogRow.{LogRow}
 use Rattle.chip_log.specs.declared.row.Step.{Step}
 use Rattle.chip_log.specs.declared.row.Step.TheVariants.{Out, In, Passive}
 use Rattle.chip_log.proofs.CountLemmas.{steps_of-append}
 use Rattle.chip_judged.specs.Rows.{steps_by, rows_by, rows_between}
-use Rattle.chip_judged.proofs.RunLemmas.{Run, Does, run_on}
+use Rattle.chip_judged.proofs.RunLemmas.{Run, run_on}
 
 -- ---- tallies
 
@@ -40,8 +38,7 @@ OneMore b e = (c : Books) × AddsAnswers b.ins c.ins e 1
 one_more : (b : Books) (e : ℕ) → AreTallies b.ins → Contains (edges_of b.ins) e → OneMore b e
 one_more b e are (k, l, at) =
     let few : k < length b.ins = omega (arith, length-map b.ins (λ u. u.edge)) in
-    let t = tally_at b.ins k in
-    (
+    let t = tally_at b.ins k in (
       record { ins = set b.ins k (record t { answered = t.answered + 1 }); outs = []; parent = None },
       answers_written b.ins (record { index = k; edge = e }) t are
           (record { within = l; edge = subst (λ (x : ℕ). x ≡ e) (get_or_default (edges_of b.ins) k e 0 l) at })
@@ -91,7 +88,7 @@ owed_twice (Some q) f g less = let a = less q in grind (arith, nat_tests)
 -- who may acknowledge so many may acknowledge one fewer after one
 may_next : (e : ℕ) (o : Option ℕ) (owes : ℕ → ℕ) (here all waiting : ℕ) (passive : Bool) → 0 < here → here ≤ all
     → acknowledgeable_count e o here all waiting passive
-        ≤ 1 + acknowledgeable_count e (parent_while_owed o owes) (here - 1) (all - 1) waiting passive
+    ≤ 1 + acknowledgeable_count e (parent_while_owed o owes) (here - 1) (all - 1) waiting passive
 may_next e None owes here all waiting passive some within = omega arith
 may_next e (Some q) owes here all waiting true some within = grind (arith, nat_tests)
 may_next e (Some q) owes here all waiting false some within = grind (arith, nat_tests)
@@ -216,7 +213,7 @@ module _ (net : Network) (p e : ℕ) (l : e < net.edges) (passive : Bool) where
 -- it becomes passive, or stays what it is
 rests : (net : Network) (p : ℕ) → p < net.parts → (b : Books) (was now : Bool) → (was ≡ true → now ≡ true)
     → Run net p (record { books = b; passive = was }) (if now && not was then Passive ∷ [] else [])
-        (record { books = b; passive = now })
+    (record { books = b; passive = now })
 rests net p l b false false wakes = refl
 rests net p l b true true wakes = refl
 rests net p l b true false wakes = let z = wakes refl in absurd (cc)
@@ -251,18 +248,18 @@ module _ (net : Network) (is : IsNetwork net) (old new : World) (kept : IsKept n
   )
   event_run (Ack e n) step = let p = net.head e in let l = is.heads e step.may.0 in
       run_on net p (was (Ack e n)) (replicate n (Out (control e))) _
-          (record { books = (now (Ack e n)).books; passive = (was (Ack e n)).passive }) (now (Ack e n))
-          (acks net p e step.may.0 (was (Ack e n)).passive refl n (was (Ack e n)).books (now (Ack e n)).books (kept.sound p l)
-          ((kept.ins p l).all e (step.may.0, refl)) step.may.1 step.notes)
-          (rests net p l (now (Ack e n)).books (was (Ack e n)).passive (now (Ack e n)).passive step.wakes)
+      (record { books = (now (Ack e n)).books; passive = (was (Ack e n)).passive }) (now (Ack e n))
+      (acks net p e step.may.0 (was (Ack e n)).passive refl n (was (Ack e n)).books (now (Ack e n)).books (kept.sound p l)
+      ((kept.ins p l).all e (step.may.0, refl)) step.may.1 step.notes)
+      (rests net p l (now (Ack e n)).books (was (Ack e n)).passive (now (Ack e n)).passive step.wakes)
   event_run (Settle e word) step = let x = Settle e word in let p = net.tail e in let l = is.tails e step.may.0 in
       run_on net p (was x) (replicate (word - settled_of (was x).books e) (In (control e))) _
-          (record { books = (now x).books; passive = (was x).passive }) (now x)
-          (settles net p e step.may.0 (was x).passive refl (word - settled_of (was x).books e) (was x).books (now x).books
-          (kept.sound p l).outs ((kept.outs p l).all e (step.may.0, refl))
-          (let a = acked_most net is old kept e step.may.0 in let b = kept.got e step.may.0 in
-          let c = step.may.2 in let d = step.may.1 in omega arith) step.notes)
-          (rests net p l (now x).books (was x).passive (now x).passive step.wakes)
+      (record { books = (now x).books; passive = (was x).passive }) (now x)
+      (settles net p e step.may.0 (was x).passive refl (word - settled_of (was x).books e) (was x).books (now x).books
+      (kept.sound p l).outs ((kept.outs p l).all e (step.may.0, refl))
+      (let a = acked_most net is old kept e step.may.0 in let b = kept.got e step.may.0 in
+      let c = step.may.2 in let d = step.may.1 in omega arith) step.notes)
+      (rests net p l (now x).books (was x).passive (now x).passive step.wakes)
   event_run (Work p) step = subst
       (λ (b : Books). Run net p (record { books = b; passive = (old p).passive }) (steps_by net old (Work p) new) (new p))
       step.notes (rests net p step.may (new p).books (old p).passive (new p).passive step.wakes)

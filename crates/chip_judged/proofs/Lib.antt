@@ -2,3 +2,4 @@ mod RunLemmas
 mod EventLemmas
 mod ReachLemmas
 mod WholeLemmas
+mod AnswerLemmas

@@ -1,8 +1,8 @@
 -- Serves Laws.antt.
 -- Rows in any order in which each is met are a legal log of the computation again.
-use Rattle.std.proofs.Common.{◌≡◌, ◌≢◌, ℕ, ◌+◌, ◌<◌, ◌≤◌, Bool, true, false, cond, eqb, List, [], ◌∷◌, ◌++◌, refl, sym, ap, ◌∙◌}
+use Rattle.std.proofs.Common.{◌≡◌, ◌≢◌, ℕ, ◌<◌, ◌≤◌, Bool, true, false, cond, eqb, List, [], ◌∷◌, ◌++◌, refl, sym, ap, ◌∙◌}
 use Rattle.std.proofs.Common.{subst, arith, eq-eqb, append-nil, append_assoc}
-use Rattle.std.specs.Prelude.{not, All, if◌then◌else◌}
+use Rattle.std.specs.Prelude.{not, All}
 use Rattle.std.proofs.lemmas.Bool.{ne_eqb}
 use Rattle.std.proofs.lemmas.Bool.Decides.{nat_tests}
 use Rattle.std.proofs.lemmas.List.Elements.{All-head, All-tail}
@@ -24,7 +24,7 @@ use Rattle.chip_log.specs.declared.row.LogRow.{LogRow}
 use Rattle.chip_log.specs.declared.row.Stream.{Stream}
 use Rattle.chip_log.specs.declared.row.Step.{Step}
 use Rattle.chip_log.specs.declared.row.Step.TheVariants.{Out, In, Passive, Active, Over}
-use Rattle.chip_log.proofs.CountLemmas.{all_own, steps_own, steps_other, steps_push, steps_push_other, same_stream_is}
+use Rattle.chip_log.proofs.CountLemmas.{all_own, steps_own, steps_other, steps_push, steps_push_other}
 use Rattle.chip_log.proofs.PastLemmas.{are_met_first}
 use Rattle.chip_judged.proofs.RunLemmas.{Run, Does, MayOwn, event_of, sender_of, receiver_of, run_counted, run_on, run_active}
 use Rattle.chip_judged.proofs.RunLemmas.{run_sends, run_gets, run_of, inside}
@@ -161,9 +161,9 @@ module _ (net : Network) (is : IsNetwork net) (first end : World) (rows : List L
           let t = net.tail c in
           let h = net.head c in
           let a = none_beyond net.edges (basic c) beyond (steps_of t before)
-              (run_of net t (first t) (steps_of t before) (now t) (past t)) in
+          (run_of net t (first t) (steps_of t before) (now t) (past t)) in
           let b = none_beyond net.edges (basic c) beyond (steps_of h before)
-              (run_of net h (first h) (steps_of h before) (now h) (past h)) in
+          (run_of net h (first h) (steps_of h before) (now h) (past h)) in
           (outs_are (basic c) ∙ a.0, ins_are (basic c) ∙ b.1)
 
       pub active_is : (p : ℕ) → p < net.parts → is_active rows before p ≡ not (now p).passive
@@ -208,8 +208,12 @@ module _ (net : Network) (is : IsNetwork net) (first end : World) (rows : List L
     step_on before x later r met = record {
       now = new;
       log = event_of p (r.now p) x.step ∷ r.log;
-      way = (r.now, r.way, happens net r.now p mine.0 x.step mine.1
-          (reaches before r.now r.past p x.step mine.0 mine.1 met));
+      way = (
+        r.now,
+        r.way,
+        happens net r.now p mine.0 x.step mine.1
+            (reaches before r.now r.past p x.step mine.0 mine.1 met),
+      );
       past = λ q. dite (ℕ_discrete p q) (λ z. subst (λ (q : ℕ). Run net q (first q) (steps_of q (before ++ x ∷ [])) (new q)) z
           past_own) (past_other q);
       future = λ q. dite (ℕ_discrete p q) (λ z. subst (λ (q : ℕ). Run net q (new q) (steps_of q later) (end q)) z

@@ -1,7 +1,7 @@
 -- Serves Laws.antt.
 -- The rows of a whole log, and what the judge says of them.
-use Rattle.std.proofs.Common.{◌≡◌, ◌≢◌, ℕ, zero, suc, ◌+◌, ◌-◌, ◌<◌, ◌≤◌, Bool, true, false, List, [], ◌∷◌, ◌++◌, length, map}
-use Rattle.std.proofs.Common.{refl, sym, ap, ◌∙◌, subst, arith, replicate, append_assoc}
+use Rattle.std.proofs.Common.{◌≡◌, ℕ, zero, suc, ◌+◌, ◌-◌, ◌<◌, ◌≤◌, Bool, true, false, List, [], ◌∷◌, ◌++◌, length}
+use Rattle.std.proofs.Common.{refl, sym, ap, subst, arith, replicate, append_assoc}
 use Rattle.std.specs.Prelude.{not, All, if◌then◌else◌}
 use Rattle.std.proofs.lemmas.Bool.Decides.{nat_tests}
 use Rattle.std.proofs.lemmas.List.{map-append}
@@ -10,10 +10,10 @@ use mathlib.Core.Logic.{dite}
 use native.Mathlib.Decide.{ℕ_discrete, dec_lt}
 use Rattle.chip_diffusing.specs.Network.{Network, IsNetwork}
 use Rattle.chip_diffusing.specs.Computation.{Part, World, Event, Send, Get, Ack, Settle, Work, Log, May, Leads, IsLegalLog}
-use Rattle.chip_diffusing.specs.Computation.{OpensPart, IsClosed, part_of, settled_on}
+use Rattle.chip_diffusing.specs.Computation.{IsClosed, part_of, settled_on}
 use Rattle.chip_diffusing.proofs.KeptLemmas.{opens_kept}
 use Rattle.chip_log.specs.Log.{steps_of, outs, ins, is_out, is_in, begins_active, AreMet, IsInterleaving, HasEnds}
-use Rattle.chip_log.specs.Claims.{basic, IsBefore, IsRight}
+use Rattle.chip_log.specs.Claims.{IsBefore, IsRight}
 use Rattle.chip_log.specs.Judged.{control, is_claim, is_over, is_over_at}
 use Rattle.chip_log.specs.Order.{AreSent}
 use Rattle.chip_log.specs.Past.{Fits, FitsRow}
@@ -276,8 +276,12 @@ module _ (net : Network) (is : IsNetwork net) (log : Log) (w : World) (legal : I
     };
     ordered = (opening ++ (between ++ closing), in_order);
     none_early = λ with_past. right;
-    claimed = (net.root, length (steps_of net.root (opening ++ between)), last_claim,
-        right net.root (length (steps_of net.root (opening ++ between))) last_claim);
+    claimed = (
+      net.root,
+      length (steps_of net.root (opening ++ between)),
+      last_claim,
+      right net.root (length (steps_of net.root (opening ++ between))) last_claim,
+    );
   }
 
 pub every_log_is_judged_right : EveryLogIsJudgedRight

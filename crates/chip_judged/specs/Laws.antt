@@ -1,14 +1,17 @@
 -- What the judge says of the rows of a diffusing computation.
-use Rattle.std.specs.Prelude.{◌≡◌, ℕ, Bool, List, None}
+use Rattle.std.specs.Prelude.{◌≡◌, ℕ, Bool, List, All, None}
 use Rattle.chip_diffusing.specs.Network.{Network, IsNetwork}
 use Rattle.chip_diffusing.specs.Computation.{World, Log, IsLegalLog, IsClosed}
 use Rattle.chip_log.specs.Log.{steps_of, IsInterleaving}
 use Rattle.chip_log.specs.Order.{IsWellFormed}
-use Rattle.chip_log.specs.Judged.{IsEnd}
+use Rattle.chip_log.specs.Judged.{IsEnd, IsJudgedLog}
 use Rattle.chip_log.specs.First.{IsFirstEarly}
 use Rattle.chip_log.specs.declared.row.LogRow.{LogRow}
 use Rattle.chip_log.specs.declared.past.Sizes.{Sizes}
+use Rattle.chip_log.specs.declared.judged.ClaimVerdict.{ClaimVerdict}
+use Rattle.chip_log.specs.declared.judged.JudgedLog.{JudgedLog}
 use Rattle.chip_log.specs.declared.judged.LogEnd.TheVariants as end
+use Rattle.chip_log.specs.declared.verdict.Verdict.TheVariants as verdict
 use Rattle.chip_judged.specs.Rows.{rows_of}
 
 -- a process for each part, and a channel for each edge
@@ -27,3 +30,10 @@ abbrev pub EveryLogIsJudgedRight : Type 0
 EveryLogIsJudgedRight = (net : Network) → IsNetwork net → (log : Log) (w : World) (legal : IsLegalLog net log w)
     → IsClosed net w → (rows : List LogRow) → ((p : ℕ) → steps_of p rows ≡ steps_of p (rows_of net log w legal))
     → AreJudgedRight net rows
+
+-- and so the judge answers: its verdict on each claim is that it is right, and the log ends with a claim
+abbrev pub EveryAnswerIsRight : Type 0
+EveryAnswerIsRight = (net : Network) → IsNetwork net → (log : Log) (w : World) (legal : IsLegalLog net log w)
+    → IsClosed net w → (rows : List LogRow) → ((p : ℕ) → steps_of p rows ≡ steps_of p (rows_of net log w legal))
+    → (with_past : Bool) (judged : JudgedLog) → IsJudgedLog with_past rows judged
+    → All (λ (c : ClaimVerdict). c.verdict ≡ verdict.Right) judged.claims.items × (judged.end ≡ end.Claimed)

@@ -1,5 +1,5 @@
 -- What the parts of a diffusing computation log of it: rows of the judge.
-use Rattle.std.specs.Prelude.{ℕ, ◌-◌, Bool, true, false, not, ◌&&◌, if◌then◌else◌, List, [], ◌∷◌, ◌++◌, map, replicate}
+use Rattle.std.specs.Prelude.{ℕ, ◌-◌, Bool, not, ◌&&◌, if◌then◌else◌, List, [], ◌∷◌, ◌++◌, map, replicate}
 use Rattle.chip_diffusing.specs.Network.{Network}
 use Rattle.chip_diffusing.specs.Computation.{World, Event, Send, Get, Ack, Settle, Work, Log, Leads, IsLegalLog}
 use Rattle.chip_diffusing.specs.Computation.{part_of, settled_on}

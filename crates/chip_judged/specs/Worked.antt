@@ -1,5 +1,5 @@
 -- Worked rows: of the run in which the root, part 1, sends one message to part 0, and of single events.
-use Rattle.std.specs.Prelude.{◌≡◌, ℕ, List, [], ◌∷◌}
+use Rattle.std.specs.Prelude.{◌≡◌, ℕ, [], ◌∷◌}
 use Rattle.chip_diffusing.specs.Computation.{Get, Ack, Settle, IsLegalLog}
 use Rattle.chip_diffusing.specs.Worked.{pair, whole, closed, at_work}
 use Rattle.chip_log.specs.Claims.{basic}

@@ -1,6 +1,6 @@
 use Rattle.std.proofs.Common.{◌≡◌, ℕ, zero, suc, ◌<◌, refl, arith, [], ◌∷◌, Contains, None, true, false, rules}
 use Rattle.std.proofs.lemmas.Bool.Decides.{nat_tests}
-use Rattle.chip_diffusing.specs.Computation.{World, OpensPart, Leads, IsLegalLog}
+use Rattle.chip_diffusing.specs.Computation.{World, OpensPart, Leads}
 use Rattle.chip_diffusing.specs.Worked.{pair, root_part, other_part, both, at_work, at_rest, acknowledged, closed, whole}
 use Rattle.chip_judged.proofs.laws.worked.Goals as goal
 
@@ -38,9 +38,27 @@ opens (suc zero) l = record {
 opens (suc (suc p)) l = absurd (omega arith)
 
 leads : Leads pair opening whole closed
-leads = (acknowledged, (at_rest, (at_work, (ended, (sent, (opening, refl, search (rules, arith, nat_tests)),
-    search (rules, arith, nat_tests)), search (rules, arith, nat_tests)), search (rules, arith, nat_tests)),
-    search (rules, arith, nat_tests)), search (rules, arith, nat_tests))
+leads = (
+  acknowledged,
+  (
+    at_rest,
+    (
+      at_work,
+      (
+        ended,
+        (
+          sent,
+          (opening, refl, search (rules, arith, nat_tests)),
+          search (rules, arith, nat_tests),
+        ),
+        search (rules, arith, nat_tests),
+      ),
+      search (rules, arith, nat_tests),
+    ),
+    search (rules, arith, nat_tests),
+  ),
+  search (rules, arith, nat_tests),
+)
 
 pub returns-clause-whole : goal.returns-clause-whole
 unfolding leads

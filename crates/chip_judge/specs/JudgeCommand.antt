@@ -3,6 +3,7 @@ use Rattle.std.specs.Prelude.{◌≡◌, ◌⊎◌, ℕ, List, ◌++◌, codes, 
 use Rattle.std.specs.Prelude.{Option, Some, None, Result}
 use Rattle.std.specs.Fmt.{decimal}
 use Rattle.std.specs.List.{list_any}
+use Rattle.chip_graph.specs.Limits.{SizeLimits}
 use Rattle.chip_log.specs.declared.row.LogRow.{LogRow}
 use Rattle.chip_log.specs.declared.verdict.Verdict.{Verdict}
 use Rattle.chip_log.specs.declared.verdict.Verdict.TheVariants as verdict
@@ -13,7 +14,8 @@ use Rattle.chip_log.specs.declared.judged.LogEnd.TheVariants as end
 use Rattle.chip_log.specs.declared.judged.JudgedLog.{JudgedLog}
 use Rattle.chip_log.specs.Judged.{is_early, IsJudgedLog}
 use Rattle.chip_log.specs.First.{IsFirstEarly, IsFirstAbsent}
-use Rattle.chip_log.specs.Order.{IsStuck}
+use Rattle.chip_log.specs.Order.{IsStuck, IsWellFormed}
+use Rattle.chip_log.specs.declared.past.Sizes.{Sizes}
 use Rattle.chip_file.specs.LogText.{log_of_text, log_text_fault}
 use Rattle.chip_judge.specs.declared.judge.JudgeOptions.{JudgeOptions}
 use Rattle.chip_command.specs.CommandAnswers.{Spec, bind, CommandAnswers, OrMemory}
@@ -95,11 +97,18 @@ judging options log = record {
       ⊎ (IsFirstAbsent log options.processes None × IsUnordered log fault));
 }
 
+-- what reading a log may give: the rows that its text means, which are well formed, and their sizes
+abbrev pub reading_log : SizeLimits → Option (List ℕ) → Spec (List LogRow × Sizes)
+reading_log limits log =
+    let read = reading limits (λ text log. log_of_text limits text ≡ Some log)
+    (λ text f. log_text_fault limits text ≡ Some f) log in record {
+      gives = λ (rows, sizes). read.gives (rows, sizes) × IsWellFormed sizes rows;
+      refuses = read.refuses;
+    }
+
 -- the same of the log of a reader
 abbrev pub judging_from : JudgeOptions → Option (List ℕ) → Spec (List ℕ × ℕ)
-judging_from options log =
-    bind (reading options.limits (λ text log. log_of_text options.limits text ≡ Some log)
-    (λ text f. log_text_fault options.limits text ≡ Some f) log) (λ (rows, _). judging options rows)
+judging_from options log = bind (reading_log options.limits log) (λ (rows, _). judging options rows)
 
 -- what `judge` answers: the verdict on each claim, and the end
 abbrev pub JudgeAnswers : Option (List ℕ) → JudgeOptions → Option (List ℕ) → Option (List ℕ) → Result Ended Fault → Type 0

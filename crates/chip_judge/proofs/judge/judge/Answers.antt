@@ -15,4 +15,4 @@ follows first a next (Err fault) given gives = inr (a, given, gives)
 pub returns : goal.returns
 returns g c = follows _ (c.in_ok-log.log.rows.items, c.in_ok-log.log.sizes) (λ (rows, _). judging c.args.options rows)
     c.judge_rows.result
-    (λ text is. at_some _ _ text is c.in_ok-log.ensures.reads.means) (rw c.deref.ensures.value at c.judge_rows.ensures)
+    (λ text is. at_some _ _ text is c.in_ok-log.ensures.reads.means, c.in_ok-log.ensures.well_formed) (rw c.deref.ensures.value at c.judge_rows.ensures)

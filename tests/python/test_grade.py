@@ -161,14 +161,18 @@ class Suite(unittest.TestCase):
         game, found = shown(students.LostWakeup)
         self.assertEqual((game, found.verdict), ("chain", suite.EARLY))
 
-    def test_the_games_are_ordered_by_their_states(self):
-        known = [suite.explore(setting).states for setting in suite.GAMES.values()]
+    def test_the_right_detector_is_right_on_all_and_orders_the_games_by_its_states(self):
+        found = [suite.explore(setting, DETECTORS["right"].make) for setting in suite.GAMES.values()]
+        self.assertEqual([(it.status, it.is_whole) for it in found], [(0, True)] * len(found))
+        known = [it.states for it in found]
         self.assertEqual(known, sorted(known))
 
 
 class RightOnes(unittest.TestCase):
     def test_right_classes_are_right_within_20_seconds_of_a_processor(self):
-        names = ["right", "credit", f"{EXERCISES}/answers.py:FourCounters", f"{HERE}/students.py:ParentFirst"]
+        # (that of the model is seen by the suite)
+        names = ["credit", f"{EXERCISES}/answers.py:FourCounters"]
+        names += [f"{HERE}/students.py:ParentFirst"] if os.environ.get("CHIPFIRE_SOAK") else []
         found, status = of_json("--seconds", "20", *names)
         self.assertEqual([(it["class"], it["verdict"]) for it in found], [(name, "right") for name in names])
         self.assertEqual(status, 0)

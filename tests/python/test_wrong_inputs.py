@@ -99,6 +99,8 @@ CALLS = [
     (lambda: chipfire.avalanche(GRID, 3, [1, 1]), KeyError, "the graph has no vertex [1, 1]"),
     (lambda: GRID.position_after(3, [1] * 5), ValueError, "there are firings for 5 vertices, and the graph has 7"),
     (lambda: chipfire.stabilize_many(GRID, None), TypeError, "configurations are rows of an array, or stand in a list"),
+    (lambda: chipfire.inverse(GRID, [1] * 5), ValueError, "there are chips for 5 vertices, and the graph has 7"),
+    (lambda: chipfire.inverse(GRID, TURNED.max_stable()), ValueError, "the configuration is one of another graph"),
     (lambda: chipfire.are_recurrent(GRID, 5), TypeError, "stand in a list, and are no int"),
     (lambda: chipfire.Group(GRID).element(None), TypeError, "coordinates stand in a list, and not None"),
     (lambda: chipfire.power_law(None), TypeError, "sizes come one by one, or as a histogram, and not None"),

@@ -46,6 +46,8 @@ def configurations(grid: chipfire.Graph) -> None:
     assert_type((most.is_stable(), most.is_recurrent(), most.is_superstable()), Tuple[bool, bool, bool])
     assert_type((grid.order(), grid.identity(), chipfire.order(grid)), Tuple[int, chipfire.Configuration, int])
     assert_type(chipfire.is_recurrent(grid, most), bool)
+    assert_type(chipfire.inverse(grid, most), chipfire.Configuration)
+    assert_type(most.inverse() + chipfire.Group(grid).identity, chipfire.Configuration)
     assert_type(chipfire.Group(grid).coordinates(most), Row)
     assert_type(chipfire.invariant_factors(grid), Row)
     assert_type(chipfire.are_recurrent(grid, [most, 3]), List[bool])

@@ -120,7 +120,8 @@ def superstables(graph: AnyGraph, *, as_array: bool = False, program: AnyProgram
 
     With `as_array` all are rows of one array, with a column for each vertex by numbers, 0 for the sink; it is one of
     NumPy if that is installed, else a list of rows. What there is no memory for is a MemoryError before it begins.
-    Nothing of this is proved but the burning script: Python burns each of them itself."""
+    Nothing of this is proved but the burning script: no call lists them, so Python burns each of them itself.
+    """
     known = known_graph(graph, program)
     if as_array:
         return _all_rows(known, _superstable_rows(known, program))

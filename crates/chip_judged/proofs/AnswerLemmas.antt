@@ -1,13 +1,13 @@
 -- Serves Laws.antt.
 -- What is answered of rows whose claims are right.
-use Rattle.std.proofs.Common.{◌≡◌, ℕ, ◌+◌, ◌<◌, ◌≤◌, Bool, true, cond, List, length, get_or, map, refl, arith}
+use Rattle.std.proofs.Common.{◌≡◌, ℕ, ◌<◌, Bool, true, cond, List, length, get_or, map, refl, arith}
 use Rattle.std.specs.Prelude.{All}
 use Rattle.std.proofs.lemmas.Bool.Decides.{nat_tests}
 use Rattle.std.proofs.lemmas.List.{get_or-map, length-map}
 use Rattle.std.proofs.lemmas.List.Sums.{get_or-le-sum_by}
 use Rattle.chip_log.specs.Log.{HasEnds}
 use Rattle.chip_log.specs.Claims.{IsRight}
-use Rattle.chip_log.specs.Judged.{is_claim, is_at, RowPlace, place_of, AreJudged, IsEnd, IsJudgedLog}
+use Rattle.chip_log.specs.Judged.{is_claim, is_at, RowPlace, place_of, AreJudged, IsEnd}
 use Rattle.chip_log.specs.declared.row.LogRow.{LogRow}
 use Rattle.chip_log.specs.declared.judged.ClaimVerdict.{ClaimVerdict}
 use Rattle.chip_log.specs.declared.judged.LogEnd.{LogEnd}
@@ -15,7 +15,7 @@ use Rattle.chip_log.specs.declared.judged.LogEnd.TheVariants as end
 use Rattle.chip_log.specs.declared.verdict.Verdict.TheVariants as verdict
 use Rattle.chip_log.proofs.MetLemmas.{count_yes}
 use Rattle.chip_log.proofs.VerdictLemmas.{one_verdict}
-use Rattle.chip_judged.specs.Laws.{AreJudgedRight, EveryAnswerIsRight}
+use Rattle.chip_judged.specs.Laws.{EveryAnswerIsRight}
 use Rattle.chip_judged.proofs.WholeLemmas.{every_log_is_judged_right}
 
 abbrev one_at : ℕ → ℕ → RowPlace → ℕ

@@ -11,7 +11,8 @@ use native.Mathlib.Decide.{ℕ_discrete, dec_lt}
 use Rattle.chip_detect.specs.Books.{settled_of}
 use Rattle.chip_diffusing.specs.Network.{Network, IsNetwork}
 use Rattle.chip_diffusing.specs.Computation.{Part, World, Event, Send, Get, Ack, Settle, Work, Log, May, Notes, Wakes, Happens}
-use Rattle.chip_diffusing.specs.Computation.{OpensPart, Leads, IsLegalLog, IsClosed, part_of, sent_on, got_on, acked_on, settled_on}
+use Rattle.chip_diffusing.specs.Computation.{OpensPart, Leads, IsLegalLog, IsClosed, part_of}
+use Rattle.chip_diffusing.specs.Computation.{sent_on, got_on, acked_on, settled_on}
 use Rattle.chip_diffusing.specs.Computation as diffusing
 use Rattle.chip_diffusing.proofs.KeptLemmas.{legal_kept}
 use Rattle.chip_diffusing.proofs.OrderLemmas.{closed_silent}
@@ -203,45 +204,47 @@ module _ (net : Network) (is : IsNetwork net) (first end : World) (rows : List L
       pub past : (q : ℕ) → Run net q (first q) (steps_of q before) (now q)
       pub future : (q : ℕ) → Run net q (now q) (steps_of q later) (end q)
 
-    step_on : (before : List LogRow) (x : LogRow) (later : List LogRow) → Reached before (x ∷ later)
-        → is_met rows before x.process x.step ≡ true → Reached (before ++ x ∷ []) later
-    step_on before x later r met = record {
-      now = new;
-      log = event_of p (r.now p) x.step ∷ r.log;
-      way = (
-        r.now,
-        r.way,
-        happens net r.now p mine.0 x.step mine.1
-            (reaches before r.now r.past p x.step mine.0 mine.1 met),
-      );
-      past = λ q. dite (ℕ_discrete p q) (λ z. subst (λ (q : ℕ). Run net q (first q) (steps_of q (before ++ x ∷ [])) (new q)) z
-          past_own) (past_other q);
-      future = λ q. dite (ℕ_discrete p q) (λ z. subst (λ (q : ℕ). Run net q (new q) (steps_of q later) (end q)) z
-          (subst (λ (s : Part). Run net p s (steps_of p later) (end p)) (sym (with_own r.now p mine.0)) mine.2))
-          (future_other q);
-    }
-      where
-        p : ℕ
-        p = x.process
+    module _ (before : List LogRow) (x : LogRow) (later : List LogRow) (r : Reached before (x ∷ later))
+        (met : is_met rows before x.process x.step ≡ true) where
+      abbrev p : ℕ
+      p = x.process
 
-        mine : (s : Part) × Does net x.process (r.now x.process) x.step s × Run net x.process s (steps_of x.process later) (end x.process)
-        mine = subst (λ (steps : List Step). Run net x.process (r.now x.process) steps (end x.process))
-            (steps_own x.process x later refl) (r.future x.process)
+      mine : (s : Part) × Does net p (r.now p) x.step s × Run net p s (steps_of p later) (end p)
+      mine = subst (λ (steps : List Step). Run net p (r.now p) steps (end p)) (steps_own p x later refl) (r.future p)
 
-        new : World
-        new = with_part r.now x.process mine.0
+      abbrev new : World
+      new = with_part r.now p mine.0
 
-        past_own : Run net x.process (first x.process) (steps_of x.process (before ++ x ∷ [])) (with_part r.now x.process mine.0 x.process)
-        past_own = rw (steps_push x.process before x refl, with_own r.now x.process mine.0)
-            (run_on net x.process (first x.process) (steps_of x.process before) (x.step ∷ []) (r.now x.process) mine.0
-            (r.past x.process) (mine.0, mine.1, refl))
+      past_own : Run net p (first p) (steps_of p (before ++ x ∷ [])) (new p)
+      past_own = rw (steps_push p before x refl, with_own r.now p mine.0)
+          (run_on net p (first p) (steps_of p before) (x.step ∷ []) (r.now p) mine.0 (r.past p) (mine.0, mine.1, refl))
 
-        past_other : (q : ℕ) → x.process ≢ q → Run net q (first q) (steps_of q (before ++ x ∷ [])) (with_part r.now x.process mine.0 q)
-        past_other q other = rw (steps_push_other q before x other, with_other r.now x.process mine.0 q other) (r.past q)
+      past_other : (q : ℕ) → p ≢ q → Run net q (first q) (steps_of q (before ++ x ∷ [])) (new q)
+      past_other q other = rw (steps_push_other q before x other, with_other r.now p mine.0 q other) (r.past q)
 
-        future_other : (q : ℕ) → x.process ≢ q → Run net q (with_part r.now x.process mine.0 q) (steps_of q later) (end q)
-        future_other q other = rw (with_other r.now x.process mine.0 q other)
-            (subst (λ (steps : List Step). Run net q (r.now q) steps (end q)) (steps_other q x later other) (r.future q))
+      future_own : Run net p (new p) (steps_of p later) (end p)
+      future_own = subst (λ (s : Part). Run net p s (steps_of p later) (end p)) (sym (with_own r.now p mine.0)) mine.2
+
+      future_other : (q : ℕ) → p ≢ q → Run net q (new q) (steps_of q later) (end q)
+      future_other q other = rw (with_other r.now p mine.0 q other)
+          (subst (λ (steps : List Step). Run net q (r.now q) steps (end q)) (steps_other q x later other) (r.future q))
+
+      step_on : Reached (before ++ x ∷ []) later
+      step_on = record {
+        now = new;
+        log = event_of p (r.now p) x.step ∷ r.log;
+        way = (
+          r.now,
+          r.way,
+          happens net r.now p mine.0 x.step mine.1 (reaches before r.now r.past p x.step mine.0 mine.1 met),
+        );
+        past = λ q. dite (ℕ_discrete p q)
+            (λ z. subst (λ (q : ℕ). Run net q (first q) (steps_of q (before ++ x ∷ [])) (new q)) z past_own)
+            (past_other q);
+        future = λ q. dite (ℕ_discrete p q)
+            (λ z. subst (λ (q : ℕ). Run net q (new q) (steps_of q later) (end q)) z future_own)
+            (future_other q);
+      }
 
     reach : (before ys zs : List LogRow) → AreMet rows before ys → Reached before (ys ++ zs) → Reached (before ++ ys) zs
     reach before [] zs met r = subst (λ (xs : List LogRow). Reached xs zs) (sym (append-nil before)) r

@@ -66,7 +66,8 @@ over_at (x ∷ xs) = over_at xs
 -- ---- sizes
 
 module _ (net : Network) where
-  rows_fit : (xs : List LogRow) → ((p : ℕ) → net.parts ≤ p → steps_of p xs ≡ []) → ((p : ℕ) → All (IsOf net.edges) (steps_of p xs))
+  rows_fit : (xs : List LogRow) → ((p : ℕ) → net.parts ≤ p → steps_of p xs ≡ [])
+      → ((p : ℕ) → All (IsOf net.edges) (steps_of p xs))
       → Fits (sizes_of net) xs
   rows_fit [] none of = All-nil (FitsRow (sizes_of net))
   rows_fit (x ∷ xs) none of = All-cons (FitsRow (sizes_of net)) x xs

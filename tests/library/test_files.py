@@ -77,7 +77,7 @@ class Explained(Room):
             self.assertRegex(self.runs(library.PROGRAM, "explain", number), rf"^fault {number} ")
 
     #: What the sentences of the header leave out of those of the program: places, and limits of files.
-    SAID = {"edge i": "the edge", "vertex v": "the vertex", " of drop i": "", "4096": "2097152", "65536": "8388608"}
+    SAID = {"edge i": "the edge", "vertex v": "the vertex", " of drop i, or of configuration i": "", "4096": "2097152", "65536": "8388608"}
     #: Those of a fault that files have too, in other words.
     OWN = {26: "the drop falls on no vertex", 53: "what was claimed is not how the game ends"}
 

@@ -24,7 +24,8 @@ def tgz_of(top):
 
 def files_of(top):
     """Returns the paths of the three files in release/ by their words in PROVED."""
-    return {"chipfire.wasm": f"{top}/release/chipfire.wasm", "npm": tgz_of(top), "chipfire.html": f"{top}/release/chipfire.html"}
+    single = {name: f"{top}/release/{name}" for name in ("chipfire.wasm", "chipfire.html")}
+    return {**single, "npm": tgz_of(top)}
 
 
 def lines_of(top):
@@ -122,7 +123,8 @@ class NotMade(made.Test):
         change_page(top)
         made.commit(top)
         made.build(top)
-        self.assertRegex(releases(top).stderr, f"release: the release of commit [0-9a-f]{{12}} has version {made.version()}, and ")
+        why = f"release: the release of commit [0-9a-f]{{12}} has version {made.version()}, and another "
+        self.assertRegex(releases(top).stderr, why)
 
 
 class Taken(made.Test):

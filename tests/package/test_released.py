@@ -66,8 +66,8 @@ def change_sources(top):
 class Carried(made.Test):
     def test_it_is_the_archive_and_PROVED_and_what_is_for_browsers(self):
         top = released()
-        names = ["PROVED", f"chipfire-{made.version()}.tgz", os.path.basename(archive_of(top)), "chipfire.html", "chipfire.wasm"]
-        self.assertEqual(sorted(os.listdir(f"{top}/release")), sorted(names))
+        names = {"PROVED", os.path.basename(archive_of(top)), "chipfire.html", "chipfire.wasm"}
+        self.assertEqual({*os.listdir(f"{top}/release")}, {*names, f"chipfire-{made.version()}.tgz"})
         checked = made.package(top, "--check", archive_of(top))
         self.assertIn(made.read(f"{top}/release/PROVED").decode(), checked.stdout)
 
@@ -274,7 +274,8 @@ class Compared(Comparing):
         for folder, made_here in ((None, "the same"), (self.another("chipfire"), "another program")):
             answer = self.compare(released(), folder, "another kit")
             of_program = f"{made.KIT} built what is in release/, and another kit built {made_here} here."
-            self.goes_on(answer, of_program, "The package for browsers and Node in release/ was made by .*, and is not compared: .*")
+            of_web = "The package for browsers and Node in release/ was made by .*, and is not compared: .*"
+            self.goes_on(answer, of_program, of_web)
 
     def test_a_library_is_missing(self):
         for name in made.LIBRARIES:

@@ -1,3 +1,4 @@
 mod ReportedLemmas
 mod StoppingLemmas
 mod RowsLemmas
+mod RefusedLemmas

@@ -25,10 +25,13 @@ use Rattle.chip_command.proofs.OneReportLemmas.{one_game, same_numbers}
 use Rattle.chip_engine.specs.DropRows.{rows_text}
 use Rattle.chip_engine.specs.AvalanchesCommand.{AvalanchesAnswers, Closes, TellsDrops, ComesTo, ReportAnswer, ended_of}
 use Rattle.chip_library.specs.declared.fault.CallFault.TheVariants.{Stopped}
+use Rattle.chip_library.specs.declared.kept.PileState.TheVariants.{Halted}
+use Rattle.chip_library.specs.KeptGames.{KeptGame, IsKept, BeginsGame, Rows, StopsDrops, with_rows}
+use Rattle.chip_library.proofs.DropLemmas.{all_more, pile_ends, stopped_there}
 use Rattle.chip_library.specs.Drops.{Told, drops_of, AreOn, AreMade, ComesToRest, IsStopped, IsFaultOfDrops, game_of}
 use Rattle.chip_library.proofs.KeptLemmas.{drops_follow}
 use Rattle.chip_agree.specs.Reported.{status_of_stopped}
-use Rattle.chip_agree.specs.DropsReported.{AreReported, EndsWith, AvalanchesAgree, StoppedDropsAgree, KeptDropsAgree}
+use Rattle.chip_agree.specs.DropsReported.{AreReported, EndsWith, AvalanchesAgree, StoppedDropsAgree, KeptDropsAgree, KeptStopsAgree, RowsTell}
 use Rattle.chip_agree.proofs.ReportedLemmas.{status_is, none_or_some}
 use Rattle.chip_agree.proofs.StoppingLemmas.{rests_too, stable_there, rests_there, none_outside, some_outcome}
 
@@ -267,10 +270,15 @@ Stops g ds i = ((i ≡ 0) × IsStopped g)
     ⊎ ((told : List Told) × (y : ℕ → ℕ) × AreMade g told y × (length told ≡ i) × (drops_of told ≡ take i ds) × (i < length ds)
     × (all : ChipGame) × HasMore g (take (i + 1) ds) all × IsStopped all)
 
--- what is then told
-abbrev TellsFirst : List (ℕ × ℕ) → List ℕ → Ended → ℕ → Type 0
-TellsFirst ds rows ended i = (told : List Told) × (length told ≡ i) × (drops_of told ≡ take i ds) × (rows ≡ rows_text told)
-    × (ended.status ≡ 2)
+-- the drops that were made before
+abbrev told_before : (g : ChipGame) (ds : List (ℕ × ℕ)) (i : ℕ) → Stops g ds i → List Told
+told_before g ds i (inl game) = []
+told_before g ds i (inr before) = before.0
+
+-- they are then told
+abbrev TellsFirst : List Told → List (ℕ × ℕ) → List ℕ → Ended → ℕ → Type 0
+TellsFirst told ds rows ended i =
+    (length told ≡ i) × (drops_of told ≡ take i ds) × (rows ≡ rows_text told) × (ended.status ≡ 2)
 
 module _ (g : ChipGame) (ds : List (ℕ × ℕ)) (rows : List ℕ) (asked report : Option (Option (List ℕ))) (ended : Ended)
     (is : ArePlayed g ds rows asked report ended) where
@@ -312,7 +320,7 @@ module _ (g : ChipGame) (ds : List (ℕ × ℕ)) (rows : List ℕ) (asked report
 
   -- where all drops before drop j were made, and its play was stopped
   at_drop : (j i : ℕ) → j < length ds → TellsDrops g (take j ds) rows → HasMore g (take (j + 1) ds) is.last
-      → is_closed is.outcome ≡ false → Stops g ds i → TellsFirst ds rows ended i
+      → is_closed is.outcome ≡ false → (stops : Stops g ds i) → TellsFirst (told_before g ds i stops) ds rows ended i
   at_drop j i inside tells last going (inl (first, stopped)) =
       let (few, more, rests) = first_closes j tells.0 in
       absurd (not_stopped j few more rests 0 (omega arith) g (no_more g) stopped)
@@ -324,18 +332,18 @@ module _ (g : ChipGame) (ds : List (ℕ × ℕ)) (rows : List ℕ) (asked report
       (λ l. absurd (not_open i made.rest.0 (rw drops at made.rest.1) made.rest.3 (j + 1) (omega arith) last going))
       (λ not_more. same (omega arith) tells))
     where
-      same : j ≡ i → TellsDrops g (take j ds) rows → TellsFirst ds rows ended i
+      same : j ≡ i → TellsDrops g (take j ds) rows → TellsFirst told ds rows ended i
       same level (closes, o, played, left, (others, on, are, text)) =
           let (p, played_too, are_too) = made.avalanches in
           let one = one_told g.graph (slice_index p.chips.items) told others y left are_too
           (subst (λ (f : ℕ → ℕ). AreAvalanches g.graph f others left) (same_chips g o p played played_too) are)
           (drops ∙ ap (λ (n : ℕ). take n ds) (sym level) ∙ sym on) in
-          (told, long, drops, text ∙ ap rows_text (sym one.0), status_two going)
+          (long, drops, text ∙ ap rows_text (sym one.0), status_two going)
 
   -- where the play of the game was stopped
-  at_game : (i : ℕ) → rows ≡ rows_text [] → is.last ≡ g → is_closed is.outcome ≡ false → Stops g ds i
-      → TellsFirst ds rows ended i
-  at_game i text same going (inl (first, stopped)) = ([], sym first, rw first refl, text, status_two going)
+  at_game : (i : ℕ) → rows ≡ rows_text [] → is.last ≡ g → is_closed is.outcome ≡ false → (stops : Stops g ds i)
+      → TellsFirst (told_before g ds i stops) ds rows ended i
+  at_game i text same going (inl (first, stopped)) = (sym first, rw first refl, text, status_two going)
   at_game i text same going (inr (told, y, made, long, drops, there, all, adds, stopped)) =
       absurd (not_open i made.rest.0 (rw drops at made.rest.1) made.rest.3 0 (omega arith) (rw same (no_more g)) going)
 
@@ -352,10 +360,10 @@ module _ (g : ChipGame) (ds : List (ℕ × ℕ)) (rows : List ℕ) (asked report
       by few more rests (inr (told, y, made, long, drops, there, all, adds, stopped)) =
           not_stopped (length ds) few more rests (i + 1) (omega arith) all adds stopped
 
-  pub stops_agree : (i : ℕ) → Stops g ds i → TellsFirst ds rows ended i
+  pub stops_agree : (i : ℕ) (stops : Stops g ds i) → TellsFirst (told_before g ds i stops) ds rows ended i
   stops_agree i stops = by is.comes
     where
-      by : ComesTo g ds rows is.last is.outcome → TellsFirst ds rows ended i
+      by : ComesTo g ds rows is.last is.outcome → TellsFirst (told_before g ds i stops) ds rows ended i
       by (inl (tells, last)) = absurd (at_end i tells stops)
       by (inr (inl (j, inside, tells, last, going))) = at_drop j i inside tells last going stops
       by (inr (inr (text, same, going))) = at_game i text same going stops
@@ -409,6 +417,25 @@ stops_of g ds i (inr (inr (told, y, made, fault))) =
     let now : HasMore g (take (length told + 1) ds) all = rw (next_drop ds (length told) there, ← drops) adds in
     inr (told, y, made, sym same, rw same drops, rw same there, all, rw same now, stopped)
 
+-- what is told of drops that a limit stopped
+module _ (g : ChipGame) (at amounts rows : List ℕ) (asked report : Option (Option (List ℕ))) (ended : Ended)
+    (reported : AreReported g at amounts rows asked report ended) (i : ℕ) (stops : Stops g reported.drops i) where
+  abbrev before_it : List Told
+  before_it = told_before g reported.drops i stops
+
+  told_agree : (length before_it ≡ i) × RowsTell before_it (take i at) (take i amounts) rows × (ended.status ≡ 2)
+  told_agree =
+      let ds = reported.drops in
+      let (long, drops, text, status) = stops_agree g ds rows asked report ended
+      (are_played g at amounts rows asked report ended reported) i stops in
+      let on : AreOn before_it (take i at) (take i amounts) = record {
+        vertices = sym (vertices_of before_it) ∙ ap (map (λ (d : ℕ × ℕ). d.0)) drops
+            ∙ sym (take-map (λ (d : ℕ × ℕ). d.0) i ds) ∙ ap (take i) reported.vertices;
+        chips = sym (chips_of before_it) ∙ ap (map (λ (d : ℕ × ℕ). d.1)) drops
+            ∙ sym (take-map (λ (d : ℕ × ℕ). d.1) i ds) ∙ ap (take i) reported.chips;
+      } in
+      (long, (on, text), status)
+
 pub stopped_drops_agree : StoppedDropsAgree
 stopped_drops_agree lists limit at amounts old new i (same, inl (lengths, none)) rows asked report ended reported =
     absurd (cc lengths)
@@ -420,14 +447,42 @@ stopped_drops_agree lists limit at amounts old new i (same, inr (inr (inl (align
 stopped_drops_agree lists limit at amounts old new i (same, inr (inr (inr (aligned, game, fault)))) rows asked report ended
     reported =
     let g = game_of lists limit old in
-    let ds = reported.drops in
-    let is = are_played g at amounts rows asked report ended reported in
-    let stops = stops_of g ds i (rw (reported.vertices, reported.chips) fault) in
-    let (told, long, drops, text, status) = stops_agree g ds rows asked report ended is i stops in
-    let on : AreOn told (take i at) (take i amounts) = record {
-      vertices = sym (vertices_of told) ∙ ap (map (λ (d : ℕ × ℕ). d.0)) drops ∙ sym (take-map (λ (d : ℕ × ℕ). d.0) i ds)
-          ∙ ap (take i) reported.vertices;
-      chips = sym (chips_of told) ∙ ap (map (λ (d : ℕ × ℕ). d.1)) drops ∙ sym (take-map (λ (d : ℕ × ℕ). d.1) i ds)
-          ∙ ap (take i) reported.chips;
-    } in
-    (told, long, (on, text), status)
+    let stops = stops_of g reported.drops i (rw (reported.vertices, reported.chips) fault) in
+    let (long, tell, status) = told_agree g at amounts rows asked report ended reported i stops in
+    (told_before g reported.drops i stops, long, tell, status)
+
+-- ---- a kept pile
+
+module _ (g : ChipGame) (ds : List (ℕ × ℕ)) (i : ℕ) (k new : KeptGame) (begins : BeginsGame g k)
+    (kept : IsKept new.pile new.state) (before after : Rows) where
+  abbrev at : List ℕ
+  at = map (λ (d : ℕ × ℕ). d.0) ds
+
+  abbrev amounts : List ℕ
+  amounts = map (λ (d : ℕ × ℕ). d.1) ds
+
+  -- the limit stopped the play of the game of a pile that is halted
+  halted_there : new.state ≡ Halted → IsStopped new.pile.game
+  halted_there is =
+      let both = kept.halted is in
+      stopped_there new.pile.game new.pile.chips.items (pile_ends new.pile both.0) both.1
+
+  kept_stops_of : StopsDrops k new at amounts before after i
+      → (stops : Stops g ds i) × (after ≡ with_rows (told_before g ds i stops) before)
+  kept_stops_of (inl (first, same, plays)) =
+      let game = plays.0.same_game ∙ begins.start.same_game in
+      (inl (first, subst IsStopped game (halted_there plays.1)), same)
+  kept_stops_of (inr (told, mid, (played, plays, stable, leaves), long, inside, on, rows_are, (halted, more))) =
+      let there : i < length ds = (let a = length-map ds (λ (d : ℕ × ℕ). d.0) in omega arith) in
+      let drops = first_drops told ds i on in
+      let game = plays.0.same_game ∙ begins.start.same_game in
+      let all = rw game at (all_more played.pile told mid.pile leaves _ new.pile.game more) in
+      let adds : HasMore g (take (i + 1) ds) new.pile.game = rw (next_drop ds i there, ← drops) all in
+      let made = drops_follow g k played begins plays told mid.pile leaves in
+      (inr (told, _, made, long, drops, there, new.pile.game, adds, halted_there halted), rows_are)
+
+pub kept_stops_agree : KeptStopsAgree
+kept_stops_agree g k new at amounts before after i begins kept (aligned, falls, stops) rows asked report ended reported =
+    let found = kept_stops_of g reported.drops i k new begins kept before after (rw (reported.vertices, reported.chips) stops) in
+    let (long, tell, status) = told_agree g at amounts rows asked report ended reported i found.0 in
+    (told_before g reported.drops i found.0, long, tell, found.1, status)

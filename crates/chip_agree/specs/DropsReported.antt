@@ -11,7 +11,7 @@ use Rattle.chip_engine.specs.AvalanchesCommand.{AvalanchesAnswers, ReportAnswer}
 use Rattle.chip_library.specs.declared.edges.EdgeLists.{EdgeLists}
 use Rattle.chip_library.specs.declared.fault.CallFault.TheVariants.{Stopped}
 use Rattle.chip_library.specs.Drops.{Told, Columns, Avalanches, AreOn, AreTold, game_of}
-use Rattle.chip_library.specs.KeptGames.{KeptGame, BeginsGame, Rows, DropsEach}
+use Rattle.chip_library.specs.KeptGames.{KeptGame, IsKept, BeginsGame, Rows, DropsEach, with_rows}
 
 -- three texts mean this game and these drops, and `avalanches` wrote these rows of them, and a report if it was asked for,
 -- and ended so
@@ -64,3 +64,12 @@ KeptDropsAgree = (g : ChipGame) (k new : KeptGame) (at amounts : List ℕ) (befo
     → AreReported g at amounts rows asked report ended
     → (told : List Told) × AreTold told after.sizes after.extents after.losts × RowsTell told at amounts rows
     × EndsWith new.pile.chips.items asked report ended
+
+-- and if the limit stops the play of drop i, those of the drops before it are written
+abbrev pub KeptStopsAgree : Type 0
+KeptStopsAgree = (g : ChipGame) (k new : KeptGame) (at amounts : List ℕ) (before after : Rows) (i : ℕ)
+    → BeginsGame g k → IsKept new.pile new.state → DropsEach k new at amounts before after (Err (Stopped i))
+    → (rows : List ℕ) (asked report : Option (Option (List ℕ))) (ended : Ended)
+    → AreReported g at amounts rows asked report ended
+    → (told : List Told) × (length told ≡ i) × RowsTell told (take i at) (take i amounts) rows
+    × (after ≡ with_rows told before) × (ended.status ≡ 2)

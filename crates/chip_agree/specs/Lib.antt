@@ -1,3 +1,4 @@
 pub mod Reported
 pub mod DropsReported
+pub mod Refused
 pub mod Worked

@@ -2,7 +2,8 @@
 
 ghost use Rattle.chip_agree.specs.Worked.{WorkedStatuses};
 ghost use Rattle.chip_agree.specs.Reported.{RowsAgree, ClaimsAgree, DifferencesAgree, PilesAgree};
-ghost use Rattle.chip_agree.specs.DropsReported.{AvalanchesAgree, StoppedDropsAgree, KeptDropsAgree};
+ghost use Rattle.chip_agree.specs.Refused.{GamesAreRefused};
+ghost use Rattle.chip_agree.specs.DropsReported.{AvalanchesAgree, StoppedDropsAgree, KeptDropsAgree, KeptStopsAgree};
 
 /// The exit statuses of small games, by the definitions.
 pub fn worked()
@@ -33,5 +34,11 @@ pub fn avalanches_agree()
 
 /// So it is of drops on a pile that is kept.
 pub fn kept_drops_agree()
-    ensures { KeptDropsAgree }
+    ensures all { KeptDropsAgree }
+    ensures stopped { KeptStopsAgree }
+{}
+
+/// What is no game is refused by both, by one number.
+pub fn games_are_refused()
+    ensures { GamesAreRefused }
 {}

@@ -18,3 +18,4 @@ mod OrderLemmas
 mod OneLemmas
 mod FirstLemmas
 mod MissingLemmas
+pub mod CutLemmas

@@ -14,3 +14,4 @@ pub mod Order
 pub mod Ordering
 pub mod First
 pub mod Missing
+pub mod Cut

@@ -17,6 +17,7 @@ mod absent;
 mod agenda;
 mod books;
 mod claims;
+pub mod cut;
 mod fault;
 mod first;
 mod judge;

@@ -14,6 +14,7 @@ import chains
 import closing
 import command_lines
 import crews
+import cut_logs
 import detectors
 import diffusing
 import drops
@@ -37,8 +38,8 @@ import written
 
 #: Those whose tests take the program.
 MODULES = (
-    chains, boards, closing, feeds, crews, seals, verdicts, guesses, logs, detectors, long_logs, missing_rows, drops,
-    group, largest, diffusing, judged, terminal, written, paced, progress, estimates, busy,
+    chains, boards, closing, feeds, crews, seals, verdicts, guesses, logs, detectors, long_logs, missing_rows, cut_logs,
+    drops, group, largest, diffusing, judged, terminal, written, paced, progress, estimates, busy,
 )  # fmt: skip
 
 

@@ -4,7 +4,7 @@
 use Rattle.chip_log.proofs.Names.{◌≡◌, ◌≢◌, ℕ, zero, suc, ◌+◌, ◌≤◌, ◌<◌, Bool, true, false, ◌&&◌, List, [], ◌∷◌, ◌++◌}
 use Rattle.chip_log.proofs.Names.{length, refl, sym, ap, ◌∙◌, subst, arith, append-nil, append_assoc, length-append, ltb-true, inl}
 use Rattle.chip_log.proofs.Names.{inr, ◌⊎◌, dite, ℕ_discrete, dec_lt, steps_of, is_out, is_in, outs, ins}
-use Rattle.chip_log.proofs.Names.{sends, gets, begins_active, is_met, AreMet, IsInterleaving, HasEnds}
+use Rattle.chip_log.proofs.Names.{begins_active, is_met, AreMet, IsInterleaving, HasEnds}
 use Rattle.chip_log.proofs.Names.{IsSilent, IsBefore, IsPast, IsRight, IsVerdict, is_early, AreShown}
 use Rattle.chip_log.proofs.Names.{is_claim, is_over, is_over_at, count_steps, PastRows, LogRow, Stream, Step, Out, In, Active, Over}
 use Rattle.std.proofs.Common.{max, min, lt-ltb}
@@ -16,6 +16,7 @@ use Rattle.chip_log.proofs.CountLemmas.{steps_of-append, steps_own, steps_other,
 use Rattle.chip_log.proofs.CountLemmas.{first_own, count-append}
 use Rattle.chip_log.proofs.MetLemmas.{owner_is, push_yes, same_self}
 use Rattle.chip_log.proofs.PastLemmas.{are_met_first, are_met_both, met_le, least_past}
+use Rattle.chip_log.proofs.SameLemmas.{are_met_as}
 use Rattle.chip_log.proofs.SilentLemmas.{silent_is_right}
 
 -- ---- first rows of the processes of a log
@@ -251,20 +252,6 @@ module _ (log : List LogRow) (ends : HasEnds log) (part : List LogRow) (first : 
       (record { first = none_first; met = tt; sized = λ q. omega arith }) in
       (made.0, made.1.first, made.1.met, made.1.sized)
 
--- ---- the same rows in another log, whose processes begin as well
-
-pub is_met_as : (a b : List LogRow) → ((p : ℕ) → begins_active (steps_of p a) ≡ begins_active (steps_of p b))
-    → (pre : List LogRow) (p : ℕ) (step : Step) → is_met a pre p step ≡ true → is_met b pre p step ≡ true
-is_met_as a b begins pre p (Out s) met = rw (begins p) at met
-is_met_as a b begins pre p (In s) met = met
-is_met_as a b begins pre p _ met = refl
-
-pub met_as : (a b : List LogRow) → ((p : ℕ) → begins_active (steps_of p a) ≡ begins_active (steps_of p b))
-    → (pre xs : List LogRow) → AreMet a pre xs → AreMet b pre xs
-met_as a b begins pre [] met = tt
-met_as a b begins pre (x ∷ xs) met =
-    (is_met_as a b begins pre x.process x.step met.0, met_as a b begins (pre ++ x ∷ []) xs met.1)
-
 -- ---- where a claim stands
 
 abbrev claim_of : ℕ → LogRow
@@ -324,7 +311,7 @@ module _ (log : List LogRow) (ends : HasEnds log) (xs : List LogRow) (whole : Is
   }
 
   as_part : (ys : List LogRow) → AreMet log [] ys → AreMet part [] ys
-  as_part ys = met_as log part (λ p. sym (begins p)) [] ys
+  as_part ys = are_met_as log part (λ p. sym (begins p)) [] ys
 
   part_whole : IsInterleaving part part
   part_whole = record { whole = λ p. refl; met = as_part part met }
@@ -344,7 +331,7 @@ module _ (log : List LogRow) (ends : HasEnds log) (xs : List LogRow) (whole : Is
     to_log before is =
         let front : List LogRow = before ++ claim_of p ∷ is.after in
         let on = goes_on_to log ends front (record { left = first.left; own = λ q. rw (is.whole.whole q) (first.own q) })
-        (met_as part log begins [] front is.whole.met) xs whole in
+        (are_met_as part log begins [] front is.whole.met) xs whole in
         record { after = is.after ++ on.0; whole = rw append_assoc at on.1; place = is.place }
 
     in_part : (other : List LogRow) → IsBefore log p i other
@@ -444,4 +431,4 @@ cut_keeps_verdicts with_past log cut used xs c ends is most whole claimed judged
     }
 
     met : AreMet log [] used
-    met = met_as cut log is.begins [] used most.progress.met
+    met = are_met_as cut log is.begins [] used most.progress.met

@@ -18,4 +18,4 @@ mod OrderLemmas
 mod OneLemmas
 mod FirstLemmas
 mod MissingLemmas
-pub mod CutLemmas
+mod CutLemmas

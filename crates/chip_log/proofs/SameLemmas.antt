@@ -4,7 +4,7 @@ use Rattle.chip_log.proofs.Names.{◌≡◌, ℕ, Bool, true, false, List, [], �
 use Rattle.chip_log.proofs.Names.{All-weaker, ◌&&◌, IsPast, IsVerdict, IsSilent, IsBefore, IsRight, IsOpenEnd}
 use Rattle.chip_log.proofs.Names.{is_claim, is_early, IsJudged, NoneRight, IsEnd, control, IsJudgedLog}
 use Rattle.chip_log.proofs.Names.{AreShown, steps_of, is_out, HasEnds, IsFirstEarly, Option, Some, None}
-use Rattle.chip_log.proofs.Names.{is_active, is_in, is_met, AreMet, IsInterleaving, IsLog, ClaimVerdict}
+use Rattle.chip_log.proofs.Names.{ap, begins_active, IsStuck, is_active, is_in, is_met, AreMet, IsInterleaving, IsLog, ClaimVerdict}
 use Rattle.chip_log.proofs.Names.{JudgedLog, LogEnd, LogRow, Step, Out, Over, Verdict, count_rows, count_steps}
 use Rattle.chip_log.proofs.CountLemmas.{all_own}
 use Rattle.chip_log.proofs.LeftLemmas.{SameBehind, got_as, left_as}
@@ -17,11 +17,12 @@ SameRows log other = (p : ℕ) → steps_of p log ≡ steps_of p other
 
 -- ---- interleavings
 
-module _ (log other : List LogRow) (same : SameRows log other) where
-  active_as : (before : List LogRow) (p : ℕ) → is_active log before p ≡ is_active other before p
-  active_as before p = rw (same p)
+-- logs whose processes begin as well
+module _ (log other : List LogRow) (begins : (p : ℕ) → begins_active (steps_of p log) ≡ begins_active (steps_of p other)) where
+  pub active_as : (before : List LogRow) (p : ℕ) → is_active log before p ≡ is_active other before p
+  active_as before p = rw (begins p)
 
-  met_as : (before : List LogRow) (p : ℕ) (step : Step) → is_met log before p step ≡ is_met other before p step
+  pub met_as : (before : List LogRow) (p : ℕ) (step : Step) → is_met log before p step ≡ is_met other before p step
   met_as before p (Out s) = rw (active_as before p)
   met_as before p _ = refl
 
@@ -30,8 +31,12 @@ module _ (log other : List LogRow) (same : SameRows log other) where
   are_met_as before (x ∷ xs) met =
       (rw (met_as before x.process x.step) at met.0, are_met_as (before ++ x ∷ []) xs met.1)
 
+module _ (log other : List LogRow) (same : SameRows log other) where
+  begins_as : (p : ℕ) → begins_active (steps_of p log) ≡ begins_active (steps_of p other)
+  begins_as p = ap begins_active (same p)
+
   interleaving_as : (xs : List LogRow) → IsInterleaving log xs → IsInterleaving other xs
-  interleaving_as xs is = record { whole = λ p. is.whole p ∙ same p; met = are_met_as [] xs is.met }
+  interleaving_as xs is = record { whole = λ p. is.whole p ∙ same p; met = are_met_as log other begins_as [] xs is.met }
 
   before_as : (p i : ℕ) (before : List LogRow) → IsBefore log p i before → IsBefore other p i before
   before_as p i before is = record {
@@ -41,7 +46,7 @@ module _ (log other : List LogRow) (same : SameRows log other) where
   }
 
   same_behind : (before : List LogRow) → SameBehind log before other before
-  same_behind before = record { outs = λ s. refl; ins = λ s. refl; active = active_as before }
+  same_behind before = record { outs = λ s. refl; ins = λ s. refl; active = active_as log other begins_as before }
 
   silent_as : (before : List LogRow) → IsSilent log before → IsSilent other before
   silent_as before is = left_as log before other before (same_behind before) verdict.Right is
@@ -55,6 +60,23 @@ module _ (log other : List LogRow) (same : SameRows log other) where
     receiver = ends.receiver;
     sends = λ s p ne. rw (same p) at (ends.sends s p ne);
     gets = λ s p ne. rw (same p) at (ends.gets s p ne);
+  }
+
+  pub stuck_as : (p i : ℕ) → IsStuck log p i → IsStuck other p i
+  stuck_as p i is = record {
+    used = is.used;
+    greatest = record {
+      progress = record {
+        left = is.greatest.progress.left;
+        own = λ q. is.greatest.progress.own q ∙ same q;
+        met = are_met_as log other begins_as [] is.used is.greatest.progress.met;
+      };
+      stuck = λ q step later next.
+          sym (met_as log other begins_as is.used q step) ∙ is.greatest.stuck q step later next;
+    };
+    place = is.place;
+    some = rw (same p) at is.some;
+    least = λ q less. is.least q less ∙ same q;
   }
 
   -- steps that one process alone has
@@ -163,5 +185,5 @@ module _ (log order : List LogRow) (is : IsInterleaving log order) where
   pub is_log : HasEnds log → IsLog order
   is_log ends = record {
     ends = ends_as log order (back order log is.whole) ends;
-    met = are_met_as log order (back order log is.whole) [] order is.met;
+    met = are_met_as log order (λ p. ap begins_active (back order log is.whole p)) [] order is.met;
   }

@@ -63,3 +63,7 @@ OneFirst = (with_past : Bool) (log : List LogRow) (one two : Option ClaimVerdict
 abbrev pub OneAbsent : Type 0
 OneAbsent = (log other : List LogRow) (n : ℕ) (one two : Option ℕ) → ((p : ℕ) → steps_of p log ≡ steps_of p other)
     → IsFirstAbsent log n one → IsFirstAbsent other n two → one ≡ two
+
+-- nor where it is stuck
+abbrev pub SameStuck : Type 0
+SameStuck = (log other : List LogRow) (p i : ℕ) → ((q : ℕ) → steps_of q log ≡ steps_of q other) → IsStuck log p i → IsStuck other p i

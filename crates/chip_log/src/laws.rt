@@ -1,7 +1,7 @@
 //! The laws of logs.
 
 ghost use Rattle.chip_log.specs.Laws.{LeastPast, MostProgress, OneAbsent, OneFirst, OneJudgment, OnePlace, OneVerdict};
-ghost use Rattle.chip_log.specs.Laws.{SameFirst, SameJudgment, SilentPast, StuckOrder};
+ghost use Rattle.chip_log.specs.Laws.{SameFirst, SameJudgment, SameStuck, SilentPast, StuckOrder};
 ghost use Rattle.chip_log.specs.Worked.{WorkedLog};
 
 /// Who is active in a small log, by the definitions.
@@ -57,6 +57,11 @@ pub fn same_first()
 /// A log has one first early claim: the same is told of it.
 pub fn one_first()
     ensures { OneFirst }
+{}
+
+/// Where a log is stuck does not depend on how the rows of processes are mixed.
+pub fn same_stuck()
+    ensures { SameStuck }
 {}
 
 /// A log has one first process without a row, however its rows are mixed.

@@ -49,7 +49,7 @@ extern "C" {
 #endif
 
 /* The version of this header, and that of the library: 1000000 * major + 1000 * minor + patch. */
-#define CHIPFIRE_VERSION UINT64_C(8000)
+#define CHIPFIRE_VERSION UINT64_C(9000)
 uint64_t chipfire_version(void);
 
 /* What calls answer: success, or a fault by the name that `chipfire explain` has for it. */

@@ -25,4 +25,4 @@ mod stabilize;
 pub mod sums;
 
 /// The version of the library: 1,000,000 for each of the first number, 1,000 for each of the second, and the third.
-pub const VERSION: u64 = 8_000;
+pub const VERSION: u64 = 9_000;

@@ -141,6 +141,29 @@ static void keep_books()
            "1,tell,2\n2,hear,2\n2,tell,1\n1,passive,0\n1,hear,1\n1,tell,0\n0,hear,0\n0,over,0\n");
 }
 
+/// One call acknowledges all: the parent, on which the first message came, last.
+static void acknowledge_all()
+{
+    std::ostringstream log;
+    chipfire::Books one({0, 1}, {}, false, 1, &log);
+    for (const std::uint64_t edge : {0u, 0u, 1u}) one.got(edge);
+    for (int piece = 0; piece < 2; piece++) one.done();
+    const auto before = one.acknowledge();
+    EXPECT(before.size() == 2 && before[0].edge == 1 && before[0].count == 1 && before[1].edge == 0 && before[1].count == 1);
+    EXPECT(one.parent() == 0u);
+    one.done();
+    const auto behind = one.acknowledge();
+    EXPECT(behind.size() == 1 && behind[0].edge == 0 && behind[0].count == 2 && !one.parent());
+    log.str("");
+    for (const std::uint64_t edge : {1u, 0u, 1u}) one.got(edge);
+    one.add_work(2);
+    for (int piece = 0; piece < 5; piece++) one.done();
+    const auto all = one.acknowledge();
+    EXPECT(all.size() == 2 && all[0].edge == 0 && all[0].count == 3 && all[1].edge == 1 && all[1].count == 3);
+    EXPECT(log.str() == "1,receive,1\n1,receive,0\n1,receive,1\n1,passive,0\n1,tell,0\n1,tell,1\n1,tell,1\n");
+    EXPECT(one.acknowledge().empty() && !one.is_active());
+}
+
 template <class Error, class Call>
 bool throws(Call call)
 {
@@ -200,6 +223,7 @@ int main()
     play_drops();
     play_group();
     keep_books();
+    acknowledge_all();
     break_books();
     share_books();
     return wrong;

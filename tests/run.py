@@ -73,6 +73,7 @@ LONGEST = (
     "docs pages",
     "library test_web",
     "python test_divisors",
+    "library test_cpp",
     "library test_games",
     "library test_board",
     "python test_modules",

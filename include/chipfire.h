@@ -36,8 +36,8 @@
  *   - Each slice has its length, and what is written overlaps nothing else. Only a slice of length 0 may be null.
  *   - One call at a time writes to one memory. Apart from that calls may run on any threads at once: nothing but piles is
  *     kept from one to the next.
- *   - No call from a signal handler, nor in the forked child of a process that has threads. There chipfire_version and the
- *     calls on books may be made: they take no memory. */
+ *   - No call from a signal handler, nor in the forked child of a process that has threads. There chipfire_version,
+ *     chipfire_strerror and the calls on books may be made: they take no memory. */
 #ifndef CHIPFIRE_H
 #define CHIPFIRE_H
 

@@ -240,6 +240,9 @@ comes sooner. The play mends the others. A vertex that the guess does not name h
 report only the counts are read. The test can fail for true counts if some vertex has a
 greater in-degree than out-degree.
 
+If no in-degree but the sink's is above the out-degree, as on undirected graphs, no vertex
+fires more often than there are chips, times its distance from the sink (chipfire check).
+
 Exit status: 0 no vertex can fire; 2 the limit stopped the vertices that the report lists
 under \"over\"; 1 a fault, which `chipfire explain N` explains.
 
@@ -330,8 +333,9 @@ With --fed the schedule feeds chips by the events clear, feed and put on root ed
 needs the event `end`: the root closes only after it.
 
 In a round each vertex has a turn, and then the root looks at its edges. The rounds stop when
-the root closes. 2^40 rounds close every game in which vertices, firings and five times the
-messages are together fewer than 2^40. No number of rounds closes a game that is fed without
+the root closes. A game of N vertices, M edges of any multiplicity and C chips, of which no
+vertex fires more than F times, closes in (N + 5 M) F + 5 C + N + 1 rounds: F is the limit, or
+less, as `chipfire plain --help` says. No number of rounds closes a game that is fed without
 `end`, or whose root claimed a message and did not put it.
 
 Exit status: 0 the root closed; 2 it closed, and the report lists halted vertices; 3 it is

@@ -487,6 +487,29 @@ class Table(unittest.TestCase):
             self.check(lambda it: chipfire.Graph(3, 2, it), wrong, None, "edge 0 is neither (tail, head) nor")
         self.check(lambda it: chipfire.Graph(3, 2, it), numpy.zeros(3, int), None, "edge 0 is neither (tail, head) nor")
 
+    @unittest.skipUnless(numpy and pandas, "NumPy or pandas is not here")
+    def test_tables_whose_names_are_whole_numbers_are_those_of_lists(self):
+        draw = numpy.random.default_rng(4)
+        for _ in range(60):
+            source, target, weight = draw.integers([[-5], [-5], [1]], 9, (3, draw.integers(1, 20)))
+            target = numpy.where(source == target, target + 20, target)
+            table = {"source": source, "target": target, **({"weight": weight} if draw.random() < 0.5 else {})}
+            sink, directed = draw.choice(target), bool(draw.random() < 0.5)
+            wanted = chipfire.from_edges({name: it.tolist() for name, it in table.items()}, int(sink), directed=directed)
+            for form in (table, pandas.DataFrame(table), {name: it.astype("i2") for name, it in table.items()}):
+                found = chipfire.from_edges(form, sink, directed=directed)
+                self.assertEqual((found, found.from_sink), (wanted, wanted.from_sink))
+                self.assertEqual({*map(type, found.names)}, {int})
+        far = {"source": numpy.array([2**63], "u8"), "target": numpy.array([-1])}
+        self.assertEqual([*chipfire.from_edges(far, -1).names], [-1, 2**63])
+        for sink in (2**70, 3, -2**70):
+            with self.assertRaisesRegex(KeyError, f"the graph has no vertex {sink}"):
+                chipfire.from_edges({"source": numpy.array([2, 4]), "target": numpy.array([4, 5])}, sink)
+        for weight in (0, -1):
+            with self.assertRaisesRegex(ValueError, "the edge from 1 to 2 is below 1"):
+                chipfire.from_edges({**{it: numpy.array([at]) for at, it in enumerate(("source", "target"), 1)},
+                                     "weight": numpy.array([weight])}, 2)
+
     @unittest.skipUnless(numpy and chipfire.find_library(), "NumPy or the library is not here")
     def test_squares_with_holes_and_a_sink_among_them(self):
         region, ring = chipfire.region([[1, 0, 1], [1, 1, 1]]), chipfire.torus(3, 3)

@@ -10,7 +10,7 @@ from chipfire.configurations import smith
 from chipfire.configurations.laplacian import laplacian
 from chipfire.graphs.edges import edge_rows, names_of_ends
 from chipfire.graphs.graph import Graph
-from chipfire.graphs.named import parts_of_named
+from chipfire.graphs.named import parts_of_arrays, parts_of_named
 from chipfire.utils import import_optional, is_of_networkx, listed, sorted_if_possible
 
 
@@ -71,6 +71,11 @@ def from_edges(
         )
     if lacking := [name for name in (source, target) if name not in table]:
         raise KeyError(f"the table has no column {lacking[0]!r}")
+    if loops is None and weight_scale == 1:
+        given = [table[it] if it in table else None for it in (source, target, weight)]
+        tails, heads, sent = (it.to_numpy() if hasattr(it, "to_numpy") else it for it in given)
+        if parts := parts_of_arrays(tails, heads, sent, sink, directed):
+            return Graph(**parts)
     columns = []
     for name in (source, target, weight):
         if name in table:

@@ -3,12 +3,14 @@
 from __future__ import annotations
 
 import math
+from array import array
 from collections.abc import Hashable, Iterable, Mapping
 from decimal import Decimal
 from fractions import Fraction
 from typing import Any
 
-from chipfire.utils import as_int
+from chipfire.graphs.edges import Columns, MAX_END
+from chipfire.utils import as_int, numpy_of
 
 
 def parts_of_named(
@@ -48,6 +50,48 @@ def parts_of_named(
         "from_sink": back,
         "loops": held,
     }
+
+
+def parts_of_arrays(
+    source: Any, target: Any, weight: Any, sink: Any, is_directed: bool
+) -> dict[str, Any] | None:
+    """The same for edges whose ends have whole numbers as names, in arrays of NumPy; each sends one chip if there are no
+    weights. None if there is a loop, or several sinks, or if some value has to be looked at by itself.
+    """
+    numpy = numpy_of(source)
+    weight = numpy.ones(len(source), "i") if numpy and weight is None else weight
+    columns = (source, target, weight)
+    sink = sink.tolist() if hasattr(sink, "tolist") else sink
+    if not all(map(_is_whole_column, columns)) or type(sink) is not int:
+        return None
+    if len({*map(len, columns)}) > 1 or (source == target).any():
+        return None
+    names = numpy.unique(numpy.concatenate((source, target)))
+    # (numbers of both signs and others from 0 on are floats together)
+    if names.dtype.kind == "f" or not int(names[0]) <= sink <= int(names[-1]):
+        return None
+    at = int(numpy.searchsorted(names, names.dtype.type(sink)))
+    if names[at] != sink or not 1 <= weight.min() <= weight.max() <= MAX_END:
+        return None
+    tails, heads = (numpy.searchsorted(names, it.astype(names.dtype)) for it in (source, target))
+    if not is_directed:
+        tails, heads = numpy.concatenate((tails, heads)), numpy.concatenate((heads, tails))
+        weight = numpy.concatenate((weight, weight))
+    back = tails == at
+    kept = [array("i", it[~back].astype("i").tobytes()) for it in (tails, heads, weight)]
+    return {
+        "vertices": len(names),
+        "sink": at,
+        "edges": Columns(*kept),
+        "names": names.tolist(),
+        "from_sink": [*zip(heads[back].tolist(), weight[back].tolist())],
+    }
+
+
+def _is_whole_column(column: Any) -> bool:
+    """Whether this is an array of NumPy with whole numbers in one direction, and has some."""
+    is_one = numpy_of(column) and column.ndim == 1 and len(column) > 0
+    return bool(is_one) and column.dtype.kind in "iu"
 
 
 def _numbered(names: list[Any], sink: Any) -> tuple[list[Any], dict[Any, int], int]:

@@ -10,6 +10,8 @@ mod drops;
 #[cfg(test)]
 mod graphs;
 #[cfg(test)]
+mod group;
+#[cfg(test)]
 mod guesses;
 #[cfg(test)]
 mod kept;

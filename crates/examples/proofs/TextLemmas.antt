@@ -1,7 +1,7 @@
 -- Serves Answers.antt, Rows.antt.
 -- What callers ask of texts, by what the commands answer.
 use Rattle.std.proofs.Common.{◌≡◌, ℕ, List, [], ◌++◌, Option, Some, None, Result, Ok, Err, MatchResult}
-use Rattle.std.proofs.Common.{refl, sym, ap, ◌∙◌, subst, inl, inr}
+use Rattle.std.proofs.Common.{refl, sym, ap, ◌∙◌, subst, inl, inr, ◌↔◌, ◌==◌, true}
 use Rattle.chip_graph.specs.Limits.{standard}
 use Rattle.chip_graph.specs.ChipGame.{ChipGame}
 use Rattle.chip_sequence.specs.Outcomes.{IsOutcome}
@@ -17,8 +17,9 @@ use Rattle.chip_command.specs.declared.ended.Ended.{Ended}
 use Rattle.chip_command.proofs.OneReportLemmas.{one_game, one_report}
 use Rattle.chip_engine.specs.AvalanchesCommand.{AvalanchesAnswers, ReportAnswer, ended_of}
 use Rattle.chip_engine.specs.GuessCommand.{GuessAnswers}
+use Rattle.chip_engine.specs.RecurrentCommand.{RecurrentAnswers, IdentityAnswers, TellsWhether}
 use Rattle.chip_engine.specs.VerifyCommand.{VerifyAnswers}
-use Rattle.examples.specs.Answers.{IsReportOf, IsToldEnd}
+use Rattle.examples.specs.Answers.{IsReportOf, IsToldEnd, IsRecurrentOf, IsIdentityOf}
 use Rattle.examples.specs.Rows.{AreRowsOf, AreRowsBy}
 use Rattle.examples.proofs.EndLemmas.{every_end}
 use Rattle.examples.proofs.RowLemmas.{rows_by}
@@ -96,3 +97,29 @@ are_rows graph chips drops limit start text old new ended empty
       subst (λ (t : List ℕ). AreRowsBy g ds t ended.status) (sym is)
           (rows_by g ds rows g' o ended.status played status comes),
     )
+
+-- what was written behind nothing is the recurrent representative
+pub is_recurrent_of : (graph chips start text : List ℕ) (ended : Ended) → start ≡ []
+    → RecurrentAnswers standard (Some graph) (Some chips) (Some start) (Some text) (Ok ended)
+    → IsRecurrentOf graph chips text (ended.status == 0)
+is_recurrent_of graph chips start text ended empty answers =
+    let (text', (g, gave, (c, each, (t, zero, is), spelled, status)), out, cut) = answers.answer in (
+      g,
+      gave.means graph refl chips refl,
+      c,
+      out ∙ ap (λ (before : List ℕ). before ++ text') empty ∙ spelled,
+      is.is.0,
+      is.is.1,
+      says ended.status status,
+    )
+  where
+    says : {P : Type 0} (n : ℕ) → TellsWhether P n → ((n == 0) ≡ true) ↔ P
+    says n (inl (done, p)) = (λ _. p, λ _. rw done refl)
+    says n (inr (other, refuted)) = (λ e. absurd (cc (rw other at e)), λ p. absurd (refuted p))
+
+-- and the identity
+pub is_identity_of : (graph start text : List ℕ) (ended : Ended) → start ≡ []
+    → IdentityAnswers standard (Some graph) (Some start) (Some text) (Ok ended) → IsIdentityOf graph text
+is_identity_of graph start text ended empty answers =
+    let (text', (G, means, (c, found, spelled, status)), out, cut) = answers.answer in
+    (G, (means graph refl).1, c, out ∙ ap (λ (before : List ℕ). before ++ text') empty ∙ spelled, found.is)

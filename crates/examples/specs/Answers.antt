@@ -1,7 +1,11 @@
 -- What callers ask.
-use Rattle.std.specs.Prelude.{◌≡◌, ℕ, ◌<◌, ◌==◌, if◌then◌else◌, List, [], ◌∷◌, slice_index}
-use Rattle.chip_graph.specs.Limits.{standard}
+use Rattle.std.specs.Prelude.{◌≡◌, ◌↔◌, ℕ, ◌<◌, ◌==◌, if◌then◌else◌, Bool, true, List, [], ◌∷◌, slice_index}
+use Rattle.chip_graph.specs.Limits.{standard, max_limit}
+use Rattle.chip_graph.specs.Multigraph.{Multigraph}
 use Rattle.chip_graph.specs.ChipGame.{ChipGame}
+use Rattle.chip_group.specs.Recurrent.{IsRecurrent, AreEquivalent, IsIdentity}
+use Rattle.chip_file.specs.ChipsText.{text_of_chips}
+use Rattle.chip_file.specs.GraphText.{MeansGraph}
 use Rattle.chip_sequence.specs.Sequence.{position_after, IsFiringSequence, counts, HasEnded, IsWithin, IsWholePlay}
 use Rattle.chip_sequence.specs.Sittings.{fired_in_all}
 use Rattle.chip_sequence.specs.declared.outcome.Outcome.{Outcome}
@@ -58,3 +62,15 @@ IsToldEnd graph_text chips_text limit report = (g : ChipGame) × MeansGame stand
 abbrev pub fired_by : ℕ → List (ℕ × ℕ) → List ℕ
 fired_by v [] = []
 fired_by v (x ∷ xs) = if x.0 == v then x.1 ∷ fired_by v xs else fired_by v xs
+
+-- a text has the recurrent chips that are equivalent to those of two texts, and it is said whether those are recurrent
+abbrev pub IsRecurrentOf : (graph_text chips_text text : List ℕ) → Bool → Type 0
+IsRecurrentOf graph_text chips_text text is_it = (g : ChipGame) × MeansGame standard graph_text chips_text max_limit g
+    × (c : List ℕ) × (text ≡ text_of_chips c) × IsRecurrent g.graph (slice_index c)
+    × AreEquivalent g.graph (slice_index g.start) (slice_index c)
+    × ((is_it ≡ true) ↔ IsRecurrent g.graph (slice_index g.start))
+
+-- a text has the identity of the group of the graph of another
+abbrev pub IsIdentityOf : (graph_text text : List ℕ) → Type 0
+IsIdentityOf graph_text text = (G : Multigraph) × MeansGraph standard graph_text G
+    × (c : List ℕ) × (text ≡ text_of_chips c) × IsIdentity G (slice_index c)

@@ -9,14 +9,17 @@ ghost use Rattle.chip_report.specs.Reportable.{content, FitsIn};
 ghost use Rattle.chip_report.specs.declared.fault.ReportFault.TheVariants.{NoMemory};
 ghost use Rattle.chip_trace.specs.Interleaving.{fires, trace_of};
 ghost use Rattle.chip_command.specs.Inputs.{MeansGame};
-ghost use Rattle.examples.specs.Answers.{IsReportOf, IsToldEnd, fired_by};
+ghost use Rattle.examples.specs.Answers.{IsReportOf, IsToldEnd, fired_by, IsRecurrentOf, IsIdentityOf};
 ghost use Rattle.examples.specs.Rows.{AreRowsOf};
 
 use chip_command::{Ended, Fault, PlayOptions};
-use chip_engine::{avalanches_engine, plain_engine, plain_guess_engine_with, verify_engine};
+use chip_engine::{
+    avalanches_engine, identity_engine, plain_engine, plain_guess_engine_with, recurrent_engine,
+    verify_engine,
+};
 use chip_file::{read_chips, read_graph, read_trace};
 use chip_fire::{Outcome, Unwatched};
-use chip_graph::Game;
+use chip_graph::{Game, Limits};
 use chip_report::{ReportFault, read_report, report};
 use chip_trace::replay;
 use std::alloc::Global;
@@ -115,6 +118,30 @@ pub fn rows_of_drops(
         &mut no_report,
     )?;
     Ok((text, ended))
+}
+
+/// A chips file with the recurrent configuration that is equivalent to that of two texts, and whether this is recurrent.
+pub fn recurrent_of_texts(
+    alloc: Global,
+    graph: &[u8],
+    chips: &[u8],
+) -> Result<(Vec<u8>, bool), Fault>
+    ensures { IfOk result (λ r. IsRecurrentOf graph.now chips.now r.0.items r.1) }
+{
+    let (mut graph, mut chips) = (graph, chips);
+    let mut text = Vec::new(alloc);
+    let ended = recurrent_engine(alloc, &mut graph, &mut chips, Limits::standard(), &mut text)?;
+    Ok((text, ended.status == 0))
+}
+
+/// A chips file with the identity of the sandpile group of the graph of a text.
+pub fn identity_of_text(alloc: Global, graph: &[u8]) -> Result<Vec<u8>, Fault>
+    ensures { IfOk result (λ text. IsIdentityOf graph.now text.items) }
+{
+    let mut graph = graph;
+    let mut text = Vec::new(alloc);
+    identity_engine(alloc, &mut graph, Limits::standard(), &mut text)?;
+    Ok(text)
 }
 
 /// The firings of a trace, each with its vertex, in an order in which they can be made.

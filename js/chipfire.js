@@ -24,7 +24,7 @@ const FAULT = { vertices: 1, stopped: 13, noPile: 14, noMemory: 90 };
 export class ChipfireFault extends Error {
   constructor(number, place) {
     const [kind, text] = faults[number];
-    const wrong = text.replace("{}", String(place));
+    const wrong = text.replaceAll("{}", String(place));
     super(`fault ${number} ${kind}, at ${place}: ${wrong}`);
     Object.assign(this, { name: "ChipfireFault", number, place, kind, text: wrong });
   }

@@ -252,7 +252,8 @@ class Long(unittest.TestCase):
 
     def test_a_signal_stops_a_long_call_and_keeps_what_was_made(self):
         script = [
-            "import chipfire", "def told(done, total):", "    done and print('begun', flush=True)", "g = chipfire.grid(40, 40)",
+            "import chipfire, signal", "signal.signal(signal.SIGINT, signal.default_int_handler)  # (or it may be ignored)",
+            "def told(done, total):", "    done and print('begun', flush=True)", "g = chipfire.grid(40, 40)",
             "found = chipfire.chains(g, 2, 10**7, 1, progress=told, partial=True)",
             "made = [int(it) for it in found.made]", "short = chipfire.chains(g, 2, min(made), 1)",
             "print(0 < min(made), max(made) < 10**7, [a[:min(made)].tolist() == b.tolist() for a, b in zip(found.size, short.size)])",

@@ -49,7 +49,7 @@ extern "C" {
 #endif
 
 /* The version of this header, and that of the library: 1000000 * major + 1000 * minor + patch. */
-#define CHIPFIRE_VERSION UINT64_C(9000)
+#define CHIPFIRE_VERSION UINT64_C(10000)
 uint64_t chipfire_version(void);
 
 /* What calls answer: success, or a fault by the name that `chipfire explain` has for it. */
@@ -228,6 +228,22 @@ uint64_t chipfire_identity(uint64_t vertices, uint64_t sink,
                            uint64_t *chips, size_t chips_len,
                            uint64_t *place);
 
+/* Draws so many random recurrent configurations, with 0 at the sink. They have the numbers first, first + 1, .., and that of
+ * a number follows from graph and seed alone.
+ *
+ * Where each edge that does not lead to the sink has one back with the same multiplicity, all recurrent configurations are
+ * equally probable, which is not proved. On other graphs they are recurrent, and not evenly drawn.
+ *
+ * seed     any number
+ * chips    gets the configurations */
+uint64_t chipfire_random_recurrent(uint64_t vertices, uint64_t sink,
+                                   const uint64_t *tails, size_t tails_len,
+                                   const uint64_t *heads, size_t heads_len,
+                                   const uint64_t *mults, size_t mults_len,
+                                   uint64_t seed, uint64_t first, size_t rows,
+                                   uint64_t *chips, size_t chips_len,
+                                   uint64_t *place);
+
 /* ---- Piles that are kept
  *
  * A pile is a game that is kept from one call to the next, and on which chips are dropped. Its graph is made once. What
@@ -235,6 +251,7 @@ uint64_t chipfire_identity(uint64_t vertices, uint64_t sink,
  *
  *     struct chipfire_pile pile = {0};        no pile yet
  *     chipfire_pile_new(&pile, ..);           makes one
+ *     chipfire_pile_play(&pile, ..);          plays it, in portions if you like; else the first drop does
  *     chipfire_pile_drop(&pile, ..);          as often as you like; or many at a time:
  *     chipfire_pile_drops(&pile, ..);
  *     chipfire_pile_free(&pile);              no pile any more
@@ -243,8 +260,8 @@ uint64_t chipfire_identity(uint64_t vertices, uint64_t sink,
  * chipfire_pile_new or chipfire_pile_put on.
  *
  * Each call returns 0 or the number of the first fault: 14 is the first of all. On a fault the pile and all slices stay as
- * they were, but for 13. That comes of drops alone: then the limit has stopped a play. Graph and limit stay, chips and
- * counts are those with which the play has stopped, and each later drop with no other fault has this one, until
+ * they were, but for 13. That comes of plays and drops alone: then the limit has stopped a play. Graph and limit stay, chips and
+ * counts are those with which the play has stopped, and each later play, and drop with no other fault, has this one, until
  * chipfire_pile_put.
  *
  * The caller sees to this too, which no call can check:
@@ -272,6 +289,13 @@ uint64_t chipfire_pile_new(struct chipfire_pile *pile,
 
 /* Puts other chips there, in place of all that are there, and sets the limit. All counts are 0 again. It plays nothing. */
 uint64_t chipfire_pile_put(struct chipfire_pile *pile, uint64_t limit, const uint64_t *chips, size_t chips_len);
+
+/* Plays on by about so many visits, of a vertex or an edge, if something is still to be played. *left is 1 if it still is
+ * then, and else 0; on a fault it stays. With one visit or more some vertex fires, or the play ends; so calls in a loop come
+ * to the end, and UINT64_MAX visits are a whole play. Between two portions chips and counts are those to which the play has
+ * come, and counts only rise. A portion takes longer than its visits where one step does: a search for counts makes steps of
+ * some 30 visits at each vertex and edge. */
+uint64_t chipfire_pile_play(struct chipfire_pile *pile, uint64_t visits, uint64_t *left);
 
 /* Plays what is still to be played, then drops amount chips on a vertex, and plays on to the end. The three numbers are
  * those of chipfire_avalanches for this drop. */

@@ -290,6 +290,19 @@ inline std::vector<std::uint64_t> identity(const Graph &graph)
     return chips;
 }
 
+/// Draws so many random recurrent configurations of a seed, one behind the other, from the one with this number on.
+inline std::vector<std::uint64_t> random_recurrent(const Graph &graph, std::uint64_t seed, std::size_t count = 1,
+                                                   std::uint64_t first = 0)
+{
+    std::vector<std::uint64_t> chips;
+    for (std::size_t row = 0; row < count; row++) {
+        const std::vector<std::uint64_t> one = detail::zeros(graph);
+        chips.insert(chips.end(), one.begin(), one.end());
+    }
+    detail::call(chipfire_random_recurrent, graph, seed, first, count, chips.data(), chips.size());
+    return chips;
+}
+
 /// A pile that is kept: chips on a graph, on which more are dropped. It owns its memory, and moves. One thread at a time
 /// calls. On a pile that was moved from there is fault 14.
 class Pile {
@@ -310,6 +323,14 @@ public:
     void put(Numbers chips, std::uint64_t limit = max_limit)
     {
         detail::must(chipfire_pile_put(its(), limit, chips.data(), chips.size()));
+    }
+
+    /// Plays on by about so many visits; whether the play has still to end.
+    bool play(std::uint64_t visits = UINT64_MAX)
+    {
+        std::uint64_t left = 0;
+        detail::must(chipfire_pile_play(its(), visits, &left));
+        return left != 0;
     }
 
     /// Drops chips on a vertex, and plays to the end.

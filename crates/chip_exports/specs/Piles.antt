@@ -1,5 +1,5 @@
 -- What a call on a pile returns to C.
-use Rattle.std.specs.Prelude.{◌≡◌, ℕ, Result, Ok, Err}
+use Rattle.std.specs.Prelude.{◌≡◌, ℕ, Bool, true, false, Result, Ok, Err}
 use Rattle.chip_fire.specs.declared.avalanche.Avalanche.{Avalanche}
 use Rattle.chip_library.specs.declared.fault.CallFault.{CallFault}
 use Rattle.chip_library.specs.CallFaults.{call_fault_number}
@@ -12,6 +12,12 @@ call_status_of (Err fault) = call_fault_number fault
 -- the status is that of a result of which the promise holds
 abbrev pub CallStatus : {T : Type 0} → ℕ → (Result T CallFault → Type 0) → Type 0
 CallStatus {T} status promise = (told : Result T CallFault) × promise told × (status ≡ call_status_of told)
+
+-- whether a play has still to end, as it is written, if `old` was written before
+abbrev pub left_of : Result Bool CallFault → ℕ → ℕ
+left_of (Ok true) old = 1
+left_of (Ok false) old = 0
+left_of (Err fault) old = old
 
 -- the size, the extent and the loss that are written, if `old` were written before
 abbrev pub written_of : Result Avalanche CallFault → ℕ × ℕ × ℕ → ℕ × ℕ × ℕ

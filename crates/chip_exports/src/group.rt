@@ -1,11 +1,13 @@
 //! The calls of `chip_library` on burning scripts, recurrent configurations and the identity.
 
-ghost use Rattle.chip_library.specs.GroupCalls.{FindsBurning, TestsRows, FindsForms, FindsIdentity};
+ghost use Rattle.chip_library.specs.GroupCalls.{FindsBurning, TestsRows, FindsForms, FindsIdentity, DrawsRows};
 ghost use Rattle.chip_recurrent.specs.declared.classes.Form.TheVariants.{Recurrent, Superstable, Inverse};
 ghost use Rattle.chip_exports.specs.Answers.{Answers};
 
 use crate::answer;
-use chip_library::{EdgeLists, Form, are_recurrent, burning, identity, representatives};
+use chip_library::{
+    EdgeLists, Form, are_recurrent, burning, identity, random_recurrents, representatives,
+};
 use std::alloc::Global;
 
 /// Writes the least burning script and its chips (`chip_library::burning`).
@@ -172,5 +174,35 @@ pub extern "C" fn chipfire_identity(
         mults,
     };
     let done = identity(alloc, edges, chips);
+    answer(done, place)
+}
+
+/// Writes random recurrent configurations (`chip_library::random_recurrents`).
+#[unsafe(no_mangle)]
+pub extern "C" fn chipfire_random_recurrent(
+    alloc: Global,
+    vertices: u64,
+    sink: u64,
+    tails: &[u64],
+    heads: &[u64],
+    mults: &[u64],
+    seed: u64,
+    first: u64,
+    rows: usize,
+    chips: &mut [u64],
+    place: &mut u64,
+) -> u64
+    ensures { Answers result place.new (DrawsRows
+        (record { vertices = vertices; sink = sink; tails = tails.entry; heads = heads.entry; mults = mults.entry })
+        rows chips.old chips.new) }
+{
+    let edges = EdgeLists {
+        vertices,
+        sink,
+        tails,
+        heads,
+        mults,
+    };
+    let done = random_recurrents(alloc, edges, seed, first, rows, chips);
     answer(done, place)
 }

@@ -1,15 +1,17 @@
 //! A pile that is kept from one call to the next (`chip_handle`).
 
-ghost use Rattle.std.specs.Prelude.{◌≡◌, None};
+ghost use Rattle.std.specs.Prelude.{◌≡◌, None, Bool};
 ghost use Rattle.chip_fire.specs.declared.avalanche.Avalanche.{Avalanche};
 ghost use Rattle.chip_library.specs.declared.fault.CallFault.{CallFault};
-ghost use Rattle.chip_library.specs.KeptGames.{PutsChips, Drops};
+ghost use Rattle.chip_library.specs.KeptGames.{PutsChips, PlaysSome, Drops};
 ghost use Rattle.chip_handle.specs.Handles.{MakesNew, OnPile, DropsOn, CopiesOf, chips_on, firings_on, bytes_held};
 ghost use Rattle.chip_exports.specs.Answers.{Answers, answer_of};
-ghost use Rattle.chip_exports.specs.Piles.{CallStatus, call_status_of, written_of};
+ghost use Rattle.chip_exports.specs.Piles.{CallStatus, call_status_of, left_of, written_of};
 
 use crate::answer;
-use chip_handle::{Handle, bytes_of, chips_of, drop_on, drops_on, fired_of, make, put, release};
+use chip_handle::{
+    Handle, bytes_of, chips_of, drop_on, drops_on, fired_of, make, play_on, put, release,
+};
 use chip_library::{CallFault, EdgeLists};
 use std::alloc::Global;
 
@@ -54,6 +56,26 @@ pub extern "C" fn chipfire_pile_put(
         pile.old.raw.value pile.new.raw.value) }
 {
     call_status(put(alloc, pile, limit, chips))
+}
+
+/// Plays a pile on by so many visits (`chip_handle::play_on`).
+#[unsafe(no_mangle)]
+pub extern "C" fn chipfire_pile_play(
+    alloc: Global,
+    pile: &mut Handle,
+    visits: u64,
+    left: &mut u64,
+) -> u64
+    ensures { CallStatus {T = Bool} result (λ told. OnPile (λ old new told. PlaysSome old new visits told)
+        pile.old.raw.value pile.new.raw.value told × (left.new ≡ left_of told left.old)) }
+{
+    match play_on(alloc, pile, visits) {
+        Ok(goes_on) => {
+            *left = u64::from(goes_on);
+            0
+        }
+        Err(fault) => fault.number(),
+    }
 }
 
 /// Drops chips on a pile, and plays to its end (`chip_handle::drop_on`).

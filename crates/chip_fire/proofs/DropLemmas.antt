@@ -37,6 +37,7 @@ use Rattle.chip_fire.specs.declared.pile.BegunDrop.{BegunDrop}
 use Rattle.chip_fire.specs.declared.pile.Pile.{Pile}
 use Rattle.chip_fire.specs.Avalanches.{dropped, IsAvalanche, AreAvalanches, DropsAddUp}
 use Rattle.chip_fire.specs.Pile.{IsPile, IsBegunDrop, sum_between}
+use Rattle.chip_fire.specs.Measured.{IsRow, HasRow}
 use Rattle.chip_sequence.specs.Firing.{IsStable}
 
 -- ---- the work list of a drop, and the avalanche by it
@@ -126,7 +127,7 @@ length_counts G (v ∷ vs) x ok =
     let c = counts_here v v vs refl in omega arith
 
 -- a play at rest was led there
-rest_leads : (g : ChipGame) (chips fired : List ℕ) → IsBegun g chips fired → IsAtRest g chips fired
+pub rest_leads : (g : ChipGame) (chips fired : List ℕ) → IsBegun g chips fired → IsAtRest g chips fired
     → LeadsTo g.graph (slice_index g.start) (slice_index fired) (slice_index chips)
 rest_leads g chips fired begun rests =
     let (vs, whole) = continued g.graph (slice_index g.start) g.limit [] tt (λ v. omega arith) in
@@ -203,6 +204,9 @@ module _ (p : Pile) (pile : IsPile p) (g' : ChipGame) (v c added : ℕ) (more : 
       let b = get_or_read p.chips.items v added (omega arith) was 0 in
       grind (arith, nat_tests, get_or-set_other p.chips.items v u (added + c) 0)
 
+  pub chips_dropped : slice_index now ≡ dropped (slice_index p.chips.items) v c
+  chips_dropped i u = here u i
+
   start_more : (u : ℕ) → slice_index g'.start u ≡ slice_index p.game.start u + cond (eqb v u) c 0
   start_more u =
       let a = more.start_each in let b = pile.game.start_fits in
@@ -253,6 +257,21 @@ drop_told g ds x d is chips' fired' begun stable a size extent left is_left lost
       drop_tells _ is.game.graph_fits _ _ _ _ _ is.led two stable a (rw each at size) (rw each at extent)
           (grind (arith, get_or_read chips' d.pile.game.graph.sink left, is.arrived)),
     )
+
+-- and a row of what fired in it is that of the drop
+pub row_told : (g : ChipGame) (ds : List (ℕ × ℕ)) (x : ℕ → ℕ) (d : BegunDrop) → IsBegunDrop g ds x d
+    → (chips' fired' : List ℕ) → IsBegun d.pile.game chips' fired' → IsStable d.pile.game.graph (slice_index chips')
+    → (vertices times : List ℕ)
+    → IsRow (λ v. slice_index fired' v - slice_index d.pile.room.before.items v) vertices times
+    → HasRow g.graph x vertices times
+row_told g ds x d is chips' fired' begun stable vertices times row =
+    let two = rest_leads d.pile.game chips' fired' begun (λ u can. absurd (stable u can)) in
+    rw (← is.adds.same_graph) (λ vs ok ended.
+    let to = drop_ends _ is.game.graph_fits _ _ _ _ _ is.led two stable vs ok ended in
+    let between : (λ (v : ℕ). slice_index fired' v - slice_index d.pile.room.before.items v) ≡ counts vs = (λ i v.
+    let e = to.0 v in let h : slice_index fired' v - slice_index d.pile.room.before.items v ≡ counts vs v = omega arith in
+    h i) in
+    subst (λ (h : ℕ → ℕ). IsRow h vertices times) between row)
 
 -- the outcome of a game is where its play may begin
 module _ (g : ChipGame) (ok : IsGame g) (o : Outcome) (played : IsPlayed g o) where

@@ -1,11 +1,12 @@
 -- Serves Search.antt.
 -- The looks of rounds.
 use Rattle.std.proofs.Common.{◌≡◌, ℕ, ◌+◌, ◌-◌, ◌*◌, ◌/◌, ◌≤◌, Bool, true, false, List, [], eqb}
-use Rattle.std.proofs.Common.{length, slice_index, sym, ap, subst, arith, eqb-true, lit<, mul_comm, mul-le-mul_left}
-use Rattle.std.proofs.Math.Nat.{mul-add, add-mul, div-le_self}
+use Rattle.std.proofs.Common.{length, slice_index, sym, ap, subst, arith, eqb-true, lit<, mul_comm, mul-le-mul_left, mul-le-mul_right}
+use Rattle.std.proofs.Math.Nat.{mul-add, add-mul, div-le_self, div-mul-le_self, div-le_of_le-mul, mul_right_comm}
 use Rattle.chip_graph.specs.ChipGame.{ChipGame}
 use Rattle.chip_graph.proofs.SumLemmas.{by_test, sum_below_le}
-use Rattle.chip_fire.specs.Rounds.{AreRounds, GoesRound, firings_left}
+use Rattle.chip_fire.specs.Rounds.{AreRounds, GoesRound, OnlyRise, firings_left}
+use Rattle.chip_fire.proofs.PlayLemmas.{rise_more}
 use Rattle.chip_fire.specs.Search.{FewLooks, places}
 
 module _ (g : ChipGame) where
@@ -49,17 +50,24 @@ module _ (g : ChipGame) where
         let d = mul_comm turns (places g) in omega arith);
   }
 
+  -- fewer firings are left where none is taken back
+  pub fewer_left : (fired fired' : List ℕ) → OnlyRise fired fired'
+      → firings_left g.graph g.limit fired' ≤ firings_left g.graph g.limit fired
+  fewer_left fired fired' rises = sum_below_le g.graph.vertices (λ v. g.limit - slice_index fired' v)
+      (λ v. g.limit - slice_index fired v) (λ v l. let a = rises v in omega arith)
+
   -- a round after some turns
   pub goes_after : (fired mid chips' fired' : List ℕ) (any : Bool)
-      → firings_left g.graph g.limit mid ≤ firings_left g.graph g.limit fired → GoesRound g mid chips' fired' any
-      → GoesRound g fired chips' fired' any
-  goes_after fired mid chips' fired' true fewer is = record {
+      → OnlyRise fired mid → GoesRound g mid chips' fired' any → GoesRound g fired chips' fired' any
+  goes_after fired mid chips' fired' true rises is = record {
     begun = is.begun;
-    some_fired = (let a = is.some_fired in omega arith);
+    rises = rise_more fired mid fired' rises is.rises;
+    some_fired = (let a = is.some_fired in let b = fewer_left fired mid rises in omega arith);
     none_fired = is.none_fired;
   }
-  goes_after fired mid chips' fired' false fewer is = record {
+  goes_after fired mid chips' fired' false rises is = record {
     begun = is.begun;
+    rises = rise_more fired mid fired' rises is.rises;
     some_fired = is.some_fired;
     none_fired = is.none_fired;
   }
@@ -91,3 +99,36 @@ module _ (g : ChipGame) where
       let few = mul-le-mul_left g.graph.vertices low in
       let one = mul-add g.graph.vertices n 1 in
       subst (FewLooks g fired fired' before after) (sym t) (record { more = more; few = omega arith }))
+
+  -- rounds make at most so many looks, and one more at each vertex and edge
+  pub looks_of_rounds : (fired fired' : List ℕ) (n most turns v e m p x : ℕ) → AreRounds g fired fired' n 0 turns
+      → v ≡ g.graph.vertices → e ≡ length g.graph.edges → n ≤ m → m ≤ most / (v + e) + 1 → p ≤ m * v → x ≤ turns * e
+      → p + x / v ≤ most + places g
+  looks_of_rounds fired fired' n most turns v e m p x are is_v is_e made few at_vertices at_edges =
+      let fits = are.counted (lit< tt) in
+      let told : turns ≤ are.turns = omega arith in
+      let once : turns ≤ n * v = rw is_v (let a = are.once_each in omega arith) in
+      let each = mul-le-mul_right v made in
+      let in_all : turns ≤ m * v = omega arith in
+      let a = mul-le-mul_right (v + e) few in
+      let b = add-mul (most / (v + e)) 1 (v + e) in
+      let c = mul-add m v e in
+      let d = div-mul-le_self most (v + e) in
+      let f = mul-le-mul_right e in_all in
+      let h : m * v * e ≡ m * e * v = mul_right_comm m v e in
+      let i : x ≤ v * (m * e) = (let k = mul_comm v (m * e) in omega arith) in
+      let j = div-le_of_le-mul v i in
+      omega arith
+
+  -- none from the start on
+  pub none_from_start : (fired : List ℕ) → FewLooks g [] fired 0 0 true
+  none_from_start fired = looks_from_start fired fired 0 true (no_looks fired 0)
+
+  -- looks of a play that goes on beside what it made alone
+  pub looks_beside : (fired fired' : List ℕ) (alone beside after : ℕ) (goes_on : Bool)
+      → FewLooks g [] fired 0 (alone + beside) true → FewLooks g fired fired' beside after goes_on
+      → FewLooks g [] fired' 0 (alone + after) goes_on
+  looks_beside fired fired' alone beside after goes_on first last = record {
+    more = omega arith;
+    few = (let a = first.few in let b = last.few in omega arith);
+  }

@@ -20,7 +20,7 @@ use Rattle.chip_sequence.specs.Certificate.{AreForced, IsCertified, AreBurnt, Is
 use Rattle.chip_sequence.specs.Bound.{firing_bound, greatest_degree}
 use Rattle.chip_sequence.specs.Play.{IsPlayed, IsEnough}
 use Rattle.chip_fire.specs.Rounds.{IsInRange, IsBegun, StaysOnTheWay, firings_left}
-use Rattle.chip_fire.specs.Rounds.{IsSwept, IsRound, AreRounds}
+use Rattle.chip_fire.specs.Rounds.{IsSwept, IsRound, AreRounds, OnlyRise}
 use Rattle.chip_fire.specs.Player.{PlaysOut}
 use Rattle.chip_sequence.proofs.FiringLemmas.{counts-replicate, batch}
 use Rattle.chip_sequence.proofs.EndLemmas.{continued}
@@ -79,6 +79,9 @@ module _ (G : Multigraph) (limit : ℕ) (chips fired : List ℕ) (ok : IsInRange
       (λ ne. (let a = counted_else u ne in let b = counted_more u in let c = ok.low_counts u in omega arith))))
       same counted_more
 
+  pub turn_rises : OnlyRise fired counted
+  turn_rises = λ u. (let a = counted_more u in omega arith)
+
   pub turn_less : get_or fired v 0 + k ≤ limit → 0 < k
       → (firings_left G limit counted < firings_left G limit fired)
       × (firings_left G limit fired ≤ firings_left G limit counted + limit)
@@ -87,6 +90,11 @@ module _ (G : Multigraph) (limit : ℕ) (chips fired : List ℕ) (ok : IsInRange
       (λ u l ne. ap (λ (n : ℕ). limit - n) (counted_else u (λ z. ne (sym z)))) in
       let b = counted_here in
       (omega arith, omega arith)
+
+-- firings that are not taken back, and then others that are not
+pub rise_more : (fired fired' fired'' : List ℕ) → OnlyRise fired fired' → OnlyRise fired' fired''
+    → OnlyRise fired fired''
+rise_more fired fired' fired'' first last = λ v. (let a = first v in let b = last v in omega arith)
 
 -- ---- one sweep
 
@@ -98,6 +106,7 @@ module _ (G : Multigraph) (limit first : ℕ) (chips fired chips' fired' : List 
   sweep_rests rests = record {
     in_range = so_far.in_range;
     stays = so_far.stays;
+    rises = so_far.rises;
     once_each = (let a = so_far.once_each in omega arith);
     each_fires = so_far.each_fires;
     few_each = so_far.few_each;
@@ -118,13 +127,14 @@ module _ (G : Multigraph) (limit first : ℕ) (chips fired chips' fired' : List 
 
   -- a vertex that fires
   pub sweep_fires : (chips'' fired'' : List ℕ) → IsInRange G limit chips'' fired''
-      → StaysOnTheWay G limit chips' fired' chips'' fired''
+      → StaysOnTheWay G limit chips' fired' chips'' fired'' → OnlyRise fired' fired''
       → (firings_left G limit fired'' < firings_left G limit fired')
       × (firings_left G limit fired' ≤ firings_left G limit fired'' + limit)
       → IsSwept G limit first chips fired chips'' fired'' (count + 1) (first + 2 * (i + 1))
-  sweep_fires chips'' fired'' in_range stays fires = record {
+  sweep_fires chips'' fired'' in_range stays rises fires = record {
     in_range = in_range;
     stays = λ x is. stays x (so_far.stays x is);
+    rises = rise_more fired fired' fired'' so_far.rises rises;
     once_each = (let a = so_far.once_each in omega arith);
     each_fires = (let a = so_far.each_fires in let b = fires.0 in omega arith);
     few_each = (let a = so_far.few_each in let b = fires.1 in let c = add-mul count 1 limit in omega arith);
@@ -155,6 +165,7 @@ module _ (g : ChipGame) (chips fired chips' fired' chips'' fired'' : List ℕ) (
       → IsRound g fired chips'' fired'' (count + count')
   two_sweeps count count' even odd = record {
     begun = both even.stays odd.stays odd.in_range;
+    rises = rise_more fired fired' fired'' even.rises odd.rises;
     once_each = (let a = even.once_each in let b = odd.once_each in omega arith);
     each_fires = (let a = even.each_fires in let b = odd.each_fires in omega arith);
     few_each = (let a = even.few_each in let b = odd.few_each in let c = add-mul count count' g.limit in omega arith);
@@ -184,6 +195,7 @@ module _ (g : ChipGame) (fired : List ℕ) (before : ℕ) where
   pub no_rounds : AreRounds g fired fired 0 before before
   no_rounds = record {
     turns = 0;
+    rises = λ v. omega arith;
     counted = λ fits. omega arith;
     some_each = omega arith;
     once_each = omega arith;
@@ -198,6 +210,7 @@ module _ (g : ChipGame) (fired : List ℕ) (before : ℕ) where
       → AreRounds g fired fired'' (n + 1) before (min (after + count) (2 ^ 64 - 1))
   round_more n after count fired' chips'' fired'' so_far round some = record {
     turns = so_far.turns + count;
+    rises = rise_more fired fired' fired'' so_far.rises round.rises;
     counted = λ fits. (let a = so_far.counted fits in omega arith);
     some_each = (let a = so_far.some_each in omega arith);
     once_each = (let a = so_far.once_each in let b = round.once_each in

@@ -10,7 +10,10 @@ pub mod WorkList
 pub mod Player
 pub mod Given
 pub mod Search
+pub mod Course
 pub mod Avalanches
 pub mod Pile
 pub mod Worked
 pub mod BegunPile
+pub mod Measured
+pub mod Timed

@@ -1,5 +1,5 @@
 -- What a pile keeps from drop to drop.
-use Rattle.std.specs.Prelude.{◌≡◌, ℕ, ◌-◌, ◌<◌, ◌≤◌, List, length, take, slice_index, Option, IfSome}
+use Rattle.std.specs.Prelude.{◌≡◌, ℕ, ◌-◌, ◌*◌, ◌≤◌, List, length, take, slice_index, Option, IfSome}
 use Rattle.chip_graph.specs.Sums.{sum_below}
 use Rattle.chip_graph.specs.Multigraph.{Multigraph}
 use Rattle.chip_graph.specs.ChipGame.{ChipGame, IsGame}
@@ -11,6 +11,7 @@ use Rattle.chip_fire.specs.WorkList.{HasSupport}
 use Rattle.chip_fire.specs.declared.pile.BegunDrop.{BegunDrop}
 use Rattle.chip_fire.specs.declared.pile.Pile.{Pile}
 use Rattle.chip_fire.specs.declared.avalanche.Room.{Room}
+use Rattle.chip_fire.specs.Course.{IsCourse}
 
 -- the sum over n vertices of h at how often each fired between these counts
 abbrev pub sum_between : (ℕ → ℕ) → ℕ → List ℕ → List ℕ → ℕ
@@ -20,7 +21,8 @@ sum_between h n fired fired' = sum_below n (λ v. h (slice_index fired' v - slic
 pub record IsRoom (n : ℕ) (fired : List ℕ) (r : Room) : Type 0 where
   pub before : r.before.items ≡ fired
   pub support_each : length r.support.items ≡ n
-  pub list_room : 0 < length r.list.items
+  pub list_room : 2 * n ≤ length r.list.items
+  pub row : r.row ≤ n
 
 -- a work list may have given up; or no vertex is legal, and the first n of the support are all that fired
 abbrev pub IsWorkedOff : Multigraph → (chips fired : List ℕ) → Room → Option ℕ → Type 0
@@ -34,6 +36,7 @@ pub record IsPile (p : Pile) : Type 0 where
   pub begun : IsBegun p.game p.chips.items p.fired.items
   pub at_rest : IsAtRest p.game p.chips.items p.fired.items
   pub room : IsRoom p.game.graph.vertices p.fired.items p.room
+  pub course : IsCourse p.game p.fired.items p.course
 
 -- the play of these drops on the game, which begins at x and the counts of the room, has come to these chips and counts
 pub record IsBegunDrop (g : ChipGame) (ds : List (ℕ × ℕ)) (x : ℕ → ℕ) (d : BegunDrop) : Type 0 where

@@ -1,5 +1,5 @@
 -- How long a search for counts may be.
-use Rattle.std.specs.Prelude.{ℕ, ◌+◌, ◌*◌, ◌≤◌, Bool, false, if◌then◌else◌, List, [], length}
+use Rattle.std.specs.Prelude.{ℕ, ◌+◌, ◌*◌, ◌/◌, ◌≤◌, Bool, false, if◌then◌else◌, List, [], length}
 use Rattle.chip_graph.specs.ChipGame.{ChipGame}
 use Rattle.chip_fire.specs.Rounds.{firings_left}
 
@@ -14,9 +14,12 @@ pub record FewLooks (g : ChipGame) (fired fired' : List ℕ) (before after : ℕ
   pub few : after + places g * firings_left g.graph g.limit fired'
       ≤ before + places g * firings_left g.graph g.limit fired + (if goes_on then 0 else places g)
 
--- a search for counts that made few looks, 16 at each vertex and edge to begin with, and at most 160 at each and two for each
--- that the play made before, which led to the counts fired
-pub record IsShort (g : ChipGame) (fired : List ℕ) (played searched : ℕ) : Type 0 where
-  pub played_few : FewLooks g [] fired 0 played false
+-- a search for counts beside a play that made `alone` looks before it and `beside` looks since, which led to the counts
+-- fired. The search makes 16 at each vertex and edge to begin with. It is ahead by at most 160 at each and two for each
+-- that the play made alone; then both make as many. Neither passes that share by more than a turn: of the play 5 looks at
+-- each vertex and edge and a quarter of those that it has made
+pub record IsShort (g : ChipGame) (fired : List ℕ) (alone beside searched : ℕ) : Type 0 where
+  pub played_few : FewLooks g [] fired 0 (alone + beside) false
   pub begun : 16 * places g ≤ searched
-  pub short : searched ≤ 160 * places g + 2 * played
+  pub search_share : searched ≤ 160 * places g + 2 * alone + beside
+  pub play_share : beside ≤ searched + 5 * places g + (alone + beside) / 4

@@ -1,8 +1,11 @@
-//! The way to an end that is far: some rounds, and a search.
+//! A search for counts beside a play: each has its turns, and both make as many looks.
 
-ghost use Rattle.std.specs.Prelude.{◌≡◌, [], true, length};
-ghost use Rattle.chip_fire.specs.Search.{FewLooks, IsShort};
+ghost use Rattle.std.specs.Prelude.{◌≡◌, ◌+◌, ◌*◌, ◌/◌, ◌≤◌, [], true, IfSome, IsTrue};
+ghost use Rattle.chip_fire.specs.Rounds.{OnlyRise, GoesRound};
+ghost use Rattle.chip_fire.specs.Search.{FewLooks, IsShort, places};
+ghost use Rattle.chip_fire.specs.Course.{IsCourse, IsSearching};
 
+use crate::course::{Course, Searching};
 use crate::play::Play;
 use crate::soon::looks_at_all;
 use crate::tuning::{PART_OF_TURN, STRETCH, TURN};
@@ -11,64 +14,228 @@ use chip_guess::{AHEAD, Hierarchy, Search};
 use std::alloc::Global;
 
 impl Play<'_> {
-    /// Goes on by some rounds. If these have not ended the play, it goes on at counts that are searched and certified,
-    /// if there are some. If there is no memory, no counts are searched.
-    pub(crate) fn advance<W: Watch>(&mut self, alloc: Global, watch: &mut W)
-        ensures { self.new.game ≡ self.old.game }
+    /// Begins to search counts after so many looks of the play alone. If there is no memory, no counts are searched.
+    #[tactic(auto, using(crate::proofs::LooksLemmas::looks_at_end))]
+    pub(crate) fn begin_search<W: Watch>(
+        &mut self,
+        alloc: Global,
+        alone: u64,
+        looks: &mut u64,
+        watch: &mut W,
+    ) -> Course
+        requires { FewLooks self.old.game [] self.old.fired 0 alone true }
+        ensures same { self.new ≡ self.old }
+        ensures course { IsCourse self.old.game self.new.fired result }
     {
-        let mut played = 0u64;
-        if self.ends_soon(alloc, &mut played, watch) {
-            return;
-        }
-        let Ok(before) = Vec::from_slice(alloc, &self.fired) else {
-            return;
-        };
         let mut searched = 0u64;
-        let guess = self.search_counts(alloc, &before, &mut played, &mut searched, watch);
-        watch.searched(self, played, searched);
-        if let Some(guess) = guess {
-            let _ = self.raise_to(alloc, &guess);
+        let made = self.make_search(alloc, alone, &mut searched);
+        *looks = looks.saturating_add(searched);
+        if let Some(searching) = made {
+            return Course::Searches(searching);
+        }
+        watch.searched(self, alone, 0, searched);
+        Course::Rounds
+    }
+
+    /// A search for counts from those so far on, if there is memory.
+    fn make_search(&self, alloc: Global, alone: u64, searched: &mut u64) -> Option<Box<Searching>>
+        requires unsearched { searched.old ≡ 0 }
+        requires few { FewLooks self.now.game [] self.now.fired 0 alone true }
+        ensures begun { 16 * places self.now.game ≤ searched.new }
+        ensures ahead { searched.new ≤ 160 * places self.now.game }
+        ensures made { IfSome result (λ boxed. IsSearching self.now.game self.now.fired boxed.value) }
+    {
+        let graph = self.game.graph();
+        let ahead = looks_at_all(graph).saturating_mul(AHEAD);
+        let hierarchy = Hierarchy::new(alloc, graph, searched, ahead)?;
+        let before = Vec::from_slice(alloc, &self.fired).ok()?;
+        let search = Search::new(alloc, hierarchy, self.game, &before).ok()?;
+        let searching = Searching {
+            search: Box::new(alloc, search).ok()?,
+            before,
+            alone,
+            beside: 0,
+            turn_end: 0,
+            searched: *searched,
+        };
+        Box::new(alloc, searching).ok()
+    }
+
+    /// Goes on by a part of the play's turn, or by one of the search's. The play goes on at the counts that were found, if
+    /// they are certified.
+    pub(crate) fn search_on<W: Watch>(
+        &mut self,
+        alloc: Global,
+        searching: Box<Searching>,
+        looks: &mut u64,
+        watch: &mut W,
+    ) -> Course
+        requires { IsSearching self.old.game self.old.fired searching.value }
+        ensures same { self.new.game ≡ self.old.game }
+        ensures rises { OnlyRise self.old.fired self.new.fired }
+        ensures course { IsCourse self.old.game self.new.fired result }
+    {
+        let mut boxed = searching;
+        let searching: &mut Searching = &mut boxed;
+        let goes_on = if searching.beside < searching.turn_end {
+            self.turn_beside(alloc, searching, looks, watch)
+        } else {
+            self.search_turn(alloc, searching, looks, watch)
+        };
+        if goes_on {
+            Course::Searches(boxed)
+        } else {
+            Course::Rounds
         }
     }
 
-    /// Searches counts for the play from those of `before` on, while the play goes on: each has its turns, and the search
-    /// makes twice as many looks. `None` if the play has ended first, or if memory ran out, which ends the search
-    /// alone.
-    fn search_counts<W: Watch>(
+    /// Goes on by a part of the play's turn beside a search; whether that goes on.
+    #[tactic(auto, using(crate::proofs::LooksLemmas::looks_beside, crate::proofs::LooksLemmas::looks_at_end))]
+    fn turn_beside<W: Watch>(
         &mut self,
         alloc: Global,
-        before: &[u64],
-        played: &mut u64,
-        searched: &mut u64,
+        searching: &mut Searching,
+        looks: &mut u64,
         watch: &mut W,
-    ) -> Option<Vec<u64>>
-        requires before_each { length before.now ≡ self.old.game.graph.vertices }
-        requires unsearched { searched.old ≡ 0 }
-        requires few { FewLooks self.old.game [] self.old.fired 0 played.old true }
+    ) -> bool
+        requires searching { IsSearching self.old.game self.old.fired searching.old }
+        requires turn { searching.old.beside ≤ searching.old.turn_end }
         ensures same { self.new.game ≡ self.old.game }
-        ensures short { IsShort self.old.game self.new.fired played.new searched.new }
+        ensures rises { OnlyRise self.old.fired self.new.fired }
+        ensures searching { IsTrue result → IsSearching self.old.game self.new.fired searching.new }
     {
-        let game = self.game;
-        let graph = game.graph();
-        let all = looks_at_all(graph);
-        let ahead = all.saturating_mul(AHEAD);
-        let hierarchy = Hierarchy::new(alloc, graph, searched, ahead)?;
-        let mut search = Search::new(alloc, &hierarchy, game, before).ok()?;
-        let mut part = *searched;
-        'turns: for _ in 0..u64::MAX {
-            let due = ahead
-                .saturating_add(played.saturating_mul(2))
-                .max(*searched);
-            part = part.saturating_add(STRETCH).min(due);
-            if search.go_on(alloc, searched, part).ok()? {
-                break;
+        let before = searching.beside;
+        let part = (searching.turn_end - before).min(STRETCH);
+        let goes_on = self.stretch(alloc, part, &mut searching.beside, watch);
+        *looks = looks.saturating_add(searching.beside - before);
+        if !goes_on {
+            self.end_search(searching, watch);
+        }
+        goes_on
+    }
+
+    /// Goes on by a part of the search's turn; whether that goes on.
+    #[tactic(auto, using(crate::proofs::LooksLemmas::looks_at_end))]
+    fn search_turn<W: Watch>(
+        &mut self,
+        alloc: Global,
+        searching: &mut Searching,
+        looks: &mut u64,
+        watch: &mut W,
+    ) -> bool
+        requires searching { IsSearching self.old.game self.old.fired searching.old }
+        ensures same { self.new.game ≡ self.old.game }
+        ensures rises { OnlyRise self.old.fired self.new.fired }
+        ensures searching { IsTrue result → IsSearching self.old.game self.new.fired searching.new }
+    {
+        let before = searching.searched;
+        let due = share_of_search(looks_at_all(self.game.graph()), searching);
+        let next = searching.search.looks_of_next().max(STRETCH);
+        let part = before.saturating_add(next).min(due);
+        let is_over = searching.search.go_on(
+            alloc,
+            self.game,
+            &searching.before,
+            &mut searching.searched,
+            part,
+        );
+        *looks = looks.saturating_add(searching.searched - before);
+        match is_over {
+            Ok(false) if part < due && searching.searched > before => {
+                watch.searches(&searching.search);
+                true
             }
-            watch.searches(&search);
-            let turn = all.saturating_mul(TURN).max(*played / PART_OF_TURN);
-            if part == due && self.ends_within(alloc, turn, played, watch) {
-                return None;
+            Ok(false) => {
+                watch.searches(&searching.search);
+                self.grant_turn(searching, watch)
+            }
+            _ => {
+                self.end_search(searching, watch);
+                self.take_found(alloc, searching);
+                false
             }
         }
-        search.found(alloc, before, game.limit())
     }
+
+    /// Gives the play its turn, if the search has made as many looks as the play; whether both go on.
+    #[tactic(auto, using(crate::proofs::LooksLemmas::looks_at_end))]
+    fn grant_turn<W: Watch>(&mut self, searching: &mut Searching, watch: &mut W) -> bool
+        requires searching { IsSearching self.old.game self.old.fired searching.old }
+        ensures same { self.new ≡ self.old }
+        ensures searching { IsTrue result → IsSearching self.old.game self.old.fired searching.new }
+    {
+        if searching.beside > searching.searched {
+            self.end_search(searching, watch);
+            return false;
+        }
+        let turn = turn_of(looks_at_all(self.game.graph()), searching);
+        searching.turn_end = searching.beside.saturating_add(turn);
+        true
+    }
+
+    /// Makes a round beside a search; what the play is at then, and whether the round fired a vertex. A search that is
+    /// behind by more than a turn is given up.
+    #[tactic(auto, using(crate::proofs::LooksLemmas::looks_beside, crate::proofs::LooksLemmas::looks_at_end))]
+    pub(crate) fn round_beside<W: Watch>(
+        &mut self,
+        searching: Box<Searching>,
+        watch: &mut W,
+    ) -> (Course, bool)
+        requires { IsSearching self.old.game self.old.fired searching.value }
+        ensures same { self.new.game ≡ self.old.game }
+        ensures course { IsCourse self.old.game self.new.fired result.0 }
+        ensures round { GoesRound self.old.game self.old.fired self.new.chips self.new.fired result.1 }
+    {
+        let mut boxed = searching;
+        let searching: &mut Searching = &mut boxed;
+        let turn = turn_of(looks_at_all(self.game.graph()), searching);
+        if searching.beside > searching.searched.saturating_add(turn) {
+            self.end_search(searching, watch);
+            return (Course::Rounds, self.rounds(0, &mut 0, watch));
+        }
+        if self.rounds(0, &mut searching.beside, watch) {
+            return (Course::Searches(boxed), true);
+        }
+        self.end_search(searching, watch);
+        (Course::Rounds, false)
+    }
+
+    /// Tells of a search that is over.
+    fn end_search<W: Watch>(&mut self, searching: &Searching, watch: &mut W)
+        requires { IsShort self.old.game self.old.fired searching.now.alone searching.now.beside searching.now.searched }
+        ensures { self.new ≡ self.old }
+    {
+        watch.searched(self, searching.alone, searching.beside, searching.searched);
+    }
+
+    /// Goes on at the counts that a search found, if it did and they are certified.
+    fn take_found(&mut self, alloc: Global, searching: &Searching)
+        ensures same { self.new.game ≡ self.old.game }
+        ensures rises { OnlyRise self.old.fired self.new.fired }
+    {
+        let limit = self.game.limit();
+        if let Some(guess) = searching.search.found(alloc, &searching.before, limit) {
+            let _ = self.raise_to(alloc, &guess);
+        }
+    }
+}
+
+/// How many looks a search may have made in all, on a game with so many vertices and edges.
+fn share_of_search(all: u64, searching: &Searching) -> u64
+    requires { searching.now.searched ≤ 160 * all + 2 * searching.now.alone + searching.now.beside }
+    ensures enough { searching.now.searched ≤ result }
+    ensures share { result ≤ 160 * all + 2 * searching.now.alone + searching.now.beside }
+{
+    all.saturating_mul(AHEAD)
+        .saturating_add(searching.alone.saturating_mul(2))
+        .saturating_add(searching.beside)
+        .max(searching.searched)
+}
+
+/// How many looks the play makes in a turn beside a search, on a game with so many vertices and edges.
+fn turn_of(all: u64, searching: &Searching) -> u64
+    ensures { result ≤ 4 * all + (searching.now.alone + searching.now.beside) / 4 }
+{
+    let played = searching.alone.saturating_add(searching.beside);
+    all.saturating_mul(TURN).max(played / PART_OF_TURN)
 }

@@ -1,13 +1,16 @@
 //! Avalanches: the play of a game that goes on after a drop, by a work list, and if that gives up by rounds and a search.
 
-ghost use Rattle.std.specs.Prelude.{◌≡◌, ◌↔◌, ℕ, ◌<◌, ◌≤◌, true, length, min, take, slice_index, IfOk};
+ghost use Rattle.std.specs.Prelude.{◌≡◌, ◌↔◌, ℕ, ◌-◌, ◌<◌, ◌≤◌, true, length, min, take, slice_index, IfOk};
 ghost use Rattle.chip_graph.specs.Limits.{max_limit, max_vertices};
 ghost use Rattle.chip_sequence.specs.Firing.{IsLegal};
 ghost use Rattle.chip_fire.specs.Rounds.{IsBegun, IsAtRest};
 ghost use Rattle.chip_fire.specs.Pile.{IsRoom, IsWorkedOff, sum_between};
 ghost use Rattle.chip_sequence.specs.Firing.{IsStable};
 ghost use Rattle.chip_fire.specs.WorkList.{HasSupport};
+ghost use Rattle.chip_fire.specs.Measured.{IsRow};
+ghost use Rattle.chip_fire.specs.Timed.{EndsInRounds};
 
+use crate::durations::rounds_from;
 use crate::play::Play;
 use crate::watch::Watch;
 use crate::work_list::{is_legal, work_off};
@@ -25,15 +28,25 @@ pub struct Avalanche {
     pub lost: u64,
 }
 
+/// An avalanche, and for how many rounds it lasts, in each of which each legal vertex fires once.
+#[derive(Clone, Copy, Debug, PartialEq, Eq)]
+pub struct Measured {
+    pub avalanche: Avalanche,
+    /// 0 if it was not timed.
+    pub duration: u64,
+}
+
 /// Room for plays.
 #[derive(Drop)]
 pub(crate) struct Room {
     /// How often each vertex has fired, for comparison while a play goes on.
     pub(crate) before: Vec<u64>,
-    /// The vertices that fire after a drop.
+    /// The vertices that fire after a drop. Once it has ended, those of its row stand in front.
     pub(crate) support: Vec<u64>,
-    /// A work list.
-    list: Vec<u64>,
+    /// A work list. Once a drop has ended, how often each vertex of its row fired.
+    pub(crate) list: Vec<u64>,
+    /// How many vertices the row of the last drop has.
+    pub(crate) row: usize,
 }
 
 impl Room {
@@ -50,13 +63,14 @@ impl Room {
             before,
             support,
             list,
+            row: 0,
         })
     }
 }
 
 /// Plays on by a work list from these chips and counts, of which no vertex but this one is legal. If it comes to the
 /// end, it answers how many at the front of the support are all vertices that fired.
-pub(crate) fn work_from(
+fn work_from(
     game: &Game,
     vertex: u64,
     chips: &mut [u64],
@@ -75,10 +89,38 @@ pub(crate) fn work_from(
         before,
         support,
         list,
+        ..
     } = room;
     list[0] = vertex;
     let listed = usize::from(is_legal(game.graph(), chips, vertex));
     work_off(game, listed, before, support, list, chips, fired)
+}
+
+/// Plays on from these chips and counts, of which no vertex but this one is legal: if the play is timed in rounds, which
+/// are counted, and else by a work list, and no rounds are counted.
+pub(crate) fn play_from(
+    game: &Game,
+    vertex: u64,
+    timed: bool,
+    chips: &mut [u64],
+    fired: &mut [u64],
+    room: &mut Room,
+) -> (Option<usize>, u64)
+    requires begun { IsBegun game.now chips.old fired.old }
+    requires is_vertex { vertex < game.now.graph.vertices }
+    requires legal { (v : ℕ) → IsLegal game.now.graph (slice_index chips.old) v → v ≡ vertex }
+    requires room { IsRoom game.now.graph.vertices fired.old room.old }
+    ensures begun { IsBegun game.now chips.new fired.new }
+    ensures room { IsRoom game.now.graph.vertices fired.old room.new }
+    ensures worked { IsWorkedOff game.now.graph chips.new fired.new room.new result.0 }
+    ensures rounds { timed ≡ true → EndsInRounds game.now.graph game.now.limit (slice_index chips.old) chips.new
+        fired.new result.0 result.1 }
+{
+    if timed {
+        rounds_from(game, vertex, chips, fired, room)
+    } else {
+        (work_from(game, vertex, chips, fired, room), 0)
+    }
 }
 
 /// Plays on to the end within the limit, if a work list did not: how many at the front of the support are all vertices
@@ -135,25 +177,40 @@ pub(crate) fn is_stable(graph: &Graph, chips: &[u64]) -> bool
     true
 }
 
-/// How often all vertices fired between these counts, and how many different ones did, if all that did are listed.
-/// `before` has the later counts then.
+/// How often all vertices fired between these counts, and how many different ones did, if the first `found` of the
+/// support are all that did. These stand in front of the support then, each once, and how often each fired in front of
+/// `times`. `before` has the later counts then.
 #[tactic(auto, using(crate::proofs::DropLemmas::few_between))]
-pub(crate) fn tally(support: &[u64], fired: &[u64], before: &mut [u64]) -> (u64, u64)
+pub(crate) fn tally(
+    found: usize,
+    fired: &[u64],
+    before: &mut [u64],
+    support: &mut [u64],
+    times: &mut [u64],
+) -> (u64, usize)
     requires before_each { length before.old ≡ length fired.now }
-    requires support { HasSupport (length fired.now) before.old fired.now support.now }
+    requires found { found ≤ length support.old }
+    requires support { HasSupport (length fired.now) before.old fired.now (take found support.old) }
+    requires times { found ≤ length times.old }
     requires few_vertices { length fired.now ≤ max_vertices }
     requires low_counts { (v : ℕ) → slice_index fired.now v ≤ max_limit }
     ensures size { result.0 ≡ sum_between (λ k. k) (length fired.now) before.old fired.now }
     ensures extent { result.1 ≡ sum_between (λ k. min k 1) (length fired.now) before.old fired.now }
+    ensures fits { result.1 ≤ length fired.now }
     ensures after { before.new ≡ fired.now }
+    ensures row { IsRow (λ v. slice_index fired.now v - slice_index before.old v)
+        (take result.1 support.new) (take result.1 times.new) }
 {
     let mut size = 0u64;
-    let mut extent = 0u64;
-    for &vertex in support {
+    let mut extent = 0usize;
+    for place in 0..found {
+        let vertex = support[place];
         let more = fired[vertex as usize].saturating_sub(before[vertex as usize]);
-        size += more;
-        extent += u64::from(more != 0);
         before[vertex as usize] = fired[vertex as usize];
+        support[extent] = vertex;
+        times[extent] = more;
+        size += more;
+        extent += usize::from(more != 0);
     }
     (size, extent)
 }

@@ -6,7 +6,7 @@ ghost use Rattle.chip_graph.specs.Multigraph.{degree};
 ghost use Rattle.chip_graph.specs.ChipGame.{IsGame};
 ghost use Rattle.chip_sequence.specs.Counted.{IsAfter};
 ghost use Rattle.chip_sequence.specs.Certificate.{AreForced, IsCertified, AreBurnt, in_degree, late_in_degree};
-ghost use Rattle.chip_fire.specs.Rounds.{IsBegun};
+ghost use Rattle.chip_fire.specs.Rounds.{IsBegun, OnlyRise};
 
 use crate::burning::burning_order;
 use crate::play::Play;
@@ -21,6 +21,7 @@ impl Play<'_> {
     pub(crate) fn raise_to(&mut self, alloc: Global, guess: &[u64]) -> Option<()>
         ensures same { self.new.game ≡ self.old.game }
         ensures kept { IfNone result (self.new ≡ self.old) }
+        ensures rises { OnlyRise self.old.fired self.new.fired }
         ensures raised { (v : ℕ) → slice_index self.new.fired v
             ≤ max (slice_index self.old.fired v) (slice_index guess.now v) }
     {
@@ -57,7 +58,8 @@ impl Play<'_> {
 
 /// Raises numbers that are below others to these.
 fn raise(numbers: &mut [u64], others: &[u64])
-    ensures { (v : ℕ) → slice_index numbers.new v ≤ max (slice_index numbers.old v) (slice_index others.now v) }
+    ensures below { (v : ℕ) → slice_index numbers.new v ≤ max (slice_index numbers.old v) (slice_index others.now v) }
+    ensures rises { OnlyRise numbers.old numbers.new }
 {
     for (index, number) in numbers.iter_mut().enumerate() {
         *number = (*number).max(others.get(index).copied().unwrap_or(0));

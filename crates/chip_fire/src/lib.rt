@@ -2,11 +2,12 @@
 //! another on a game that has ended.
 #![tactic(auto)]
 
-pub use avalanche::Avalanche;
+pub use avalanche::{Avalanche, Measured};
 pub use chip_guess::Search;
 pub use chip_sequence::{
     AfterFault, NotLegal, Outcome, ResumeFault, Resumed, after, after_into, enough, fire,
 };
+pub use course::Course;
 pub use pile::{BegunDrop, Pile};
 pub use play::Play;
 pub use player::{plain, plain_given, plain_watched};
@@ -19,6 +20,8 @@ mod advance;
 mod avalanche;
 mod burning;
 mod certificate;
+pub mod course;
+mod durations;
 mod given;
 pub mod laws;
 pub mod pile;

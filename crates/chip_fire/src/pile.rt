@@ -1,6 +1,6 @@
 //! A pile: a game that has ended, on which chips are dropped.
 
-ghost use Rattle.std.specs.Prelude.{◌≡◌, ◌↔◌, ℕ, ◌+◌, ◌<◌, ◌≤◌, true, List, [], ◌∷◌, sum, slice_index, is_none, IfOk};
+ghost use Rattle.std.specs.Prelude.{◌≡◌, ◌↔◌, ℕ, ◌+◌, ◌<◌, ◌≤◌, true, List, [], ◌∷◌, sum, slice_index, is_none, IfOk, IfSome};
 ghost use Rattle.chip_graph.specs.Limits.{max_total};
 ghost use Rattle.chip_graph.specs.ChipGame.{ChipGame, IsGame};
 ghost use Rattle.chip_graph.specs.More.{HasMore};
@@ -9,9 +9,12 @@ ghost use Rattle.chip_fire.specs.Player.{PlaysOut};
 ghost use Rattle.chip_fire.specs.Avalanches.{dropped, TellsAvalanche};
 ghost use Rattle.chip_fire.specs.Pile.{IsPile, IsBegunDrop};
 ghost use Rattle.chip_sequence.specs.Firing.{IsStable};
-ghost use Rattle.chip_fire.specs.BegunPile.{IsBegunPile, IsAtStart};
+ghost use Rattle.chip_fire.specs.BegunPile.{IsBegunPile, IsAtStart, PlaysOn};
+ghost use Rattle.chip_fire.specs.Measured.{HasRow, TellsMeasured, row_vertices, row_times};
+ghost use Rattle.chip_fire.specs.Timed.{EndsInRounds};
 
-use crate::avalanche::{Avalanche, Room, is_stable, play_out, tally, work_from};
+use crate::avalanche::{Avalanche, Measured, Room, is_stable, play_from, play_out, tally};
+use crate::course::Course;
 use crate::play::Play;
 use crate::watch::{Unwatched, Watch};
 use chip_graph::{Game, Graph};
@@ -27,6 +30,8 @@ pub struct Pile {
     /// How often each vertex has fired in all.
     fired: Vec<u64>,
     room: Room,
+    /// What its play is at.
+    course: Course,
 }
 
 impl Pile {
@@ -48,6 +53,7 @@ impl Pile {
             chips,
             fired,
             room,
+            course: Course::Rounds,
         })
     }
 
@@ -66,6 +72,7 @@ impl Pile {
             chips,
             fired,
             room,
+            course: Course::Begins,
         })
     }
 
@@ -81,6 +88,7 @@ impl Pile {
             mut chips,
             mut fired,
             mut room,
+            ..
         } = self;
         chips.copy_from_slice(&start);
         fired.fill(0);
@@ -90,39 +98,47 @@ impl Pile {
             chips,
             fired,
             room,
+            course: Course::Begins,
         }
     }
 
-    /// Plays to the end within the limit; whether no vertex is legal there.
-    pub fn play(self, alloc: Global) -> (Pile, bool)
+    /// Whether no vertex is legal.
+    pub fn is_stable(&self) -> bool
+        requires { IsBegunPile self.now }
+        ensures { (result ≡ true) ↔ IsStable self.now.game.graph (slice_index self.now.chips.items) }
+    {
+        is_stable(self.game.graph(), &self.chips)
+    }
+
+    /// Plays on by so many visits (`Play::go_on`); whether the play goes on.
+    #[tactic(auto, using(crate::proofs::CourseLemmas::plays_on))]
+    pub fn go_on(self, alloc: Global, visits: u64) -> (Pile, bool)
         requires { IsBegunPile self }
-        ensures pile { IsPile result.0 }
-        ensures game { result.0.game ≡ self.game }
-        ensures stable { (result.1 ≡ true) ↔ IsStable self.game.graph (slice_index result.0.chips.items) }
+        ensures { PlaysOn self result.0 visits result.1 }
     {
         let Pile {
             game,
             chips,
             fired,
             mut room,
+            course,
         } = self;
         let mut play = Play {
             game: &game,
             chips,
             fired,
         };
-        play.play_few(alloc, &mut Unwatched);
-        play.play_on(alloc, &mut Unwatched);
+        let (course, goes_on) = play.go_on(alloc, course, visits, &mut Unwatched);
         let Play { chips, fired, .. } = play;
-        let stable = is_stable(game.graph(), &chips);
         room.before.copy_from_slice(&fired);
         let pile = Pile {
             game,
             chips,
             fired,
             room,
+            course,
         };
-        (pile, stable)
+        (pile, goes_on)
     }
 
     /// Drops `count` chips on a vertex and plays to the end: the avalanche, or `None` if the limit has stopped it.
@@ -139,6 +155,38 @@ impl Pile {
         self.begin_drop(vertex, count).finish(alloc, &mut Unwatched)
     }
 
+    /// `drop_chips`, which tells for how many rounds the avalanche lasts too if it is timed. Then it is played in rounds,
+    /// in each of which each legal vertex fires once: a vertex with many chips fires one time after another.
+    pub fn drop_measured(
+        self,
+        alloc: Global,
+        vertex: u64,
+        count: u64,
+        timed: bool,
+    ) -> (Pile, Option<Measured>)
+        requires pile { IsPile self }
+        requires stable { IsStable self.game.graph (slice_index self.chips.items) }
+        requires is_vertex { vertex < self.game.graph.vertices }
+        requires few_chips { sum self.game.start + count ≤ max_total }
+        ensures pile { IsPile result.0 }
+        ensures game { HasMore self.game ((vertex, count) ∷ []) result.0.game }
+        ensures measured { TellsMeasured self.game.graph (dropped (slice_index self.chips.items) vertex count)
+            result.0 timed result.1 }
+    {
+        let (begun, duration) = self.begin_with(vertex, count, timed);
+        let (pile, avalanche) = begun.finish(alloc, &mut Unwatched);
+        match avalanche {
+            Some(avalanche) => {
+                let measured = Measured {
+                    avalanche,
+                    duration,
+                };
+                (pile, Some(measured))
+            }
+            None => (pile, None),
+        }
+    }
+
     /// Drops `count` chips on a vertex, and plays on by a work list. `drop_chips` is this and `finish`.
     pub fn begin_drop(self, vertex: u64, count: u64) -> BegunDrop
         requires pile { IsPile self }
@@ -148,26 +196,45 @@ impl Pile {
         ensures { IsBegunDrop self.game ((vertex, count) ∷ []) (dropped (slice_index self.chips.items) vertex count)
             result }
     {
+        self.begin_with(vertex, count, false).0
+    }
+
+    /// Drops `count` chips on a vertex, and plays on as `play_from`, which tells the rounds.
+    fn begin_with(self, vertex: u64, count: u64, timed: bool) -> (BegunDrop, u64)
+        requires pile { IsPile self }
+        requires stable { IsStable self.game.graph (slice_index self.chips.items) }
+        requires is_vertex { vertex < self.game.graph.vertices }
+        requires few_chips { sum self.game.start + count ≤ max_total }
+        ensures begun { IsBegunDrop self.game ((vertex, count) ∷ []) (dropped (slice_index self.chips.items) vertex count)
+            result.0 }
+        ensures rounds { timed ≡ true → EndsInRounds self.game.graph self.game.limit
+            (dropped (slice_index self.chips.items) vertex count) result.0.pile.chips.items result.0.pile.fired.items
+            result.0.worked result.1 }
+    {
         let Pile {
             game,
             mut chips,
             mut fired,
             mut room,
+            ..
         } = self;
         let game = with_drop(game, vertex, count);
         chips[vertex as usize] += count;
         let arrived = chips[game.graph().sink() as usize];
-        let worked = work_from(&game, vertex, &mut chips, &mut fired, &mut room);
-        BegunDrop {
-            pile: Pile {
-                game,
-                chips,
-                fired,
-                room,
-            },
+        let (worked, rounds) = play_from(&game, vertex, timed, &mut chips, &mut fired, &mut room);
+        let pile = Pile {
+            game,
+            chips,
+            fired,
+            room,
+            course: Course::Rounds,
+        };
+        let begun = BegunDrop {
+            pile,
             arrived,
             worked,
-        }
+        };
+        (begun, rounds)
     }
 
     /// The game, with all chips at its start that were dropped.
@@ -189,6 +256,23 @@ impl Pile {
         ensures { result.now ≡ self.now.fired.items }
     {
         &self.fired
+    }
+
+    /// The vertices that fired in the last drop, each once: in the order in which they fired first, or ascending if its
+    /// work list gave up.
+    pub fn row_vertices(&self) -> &[u64]
+        requires { IsPile self.now }
+        ensures { result.now ≡ row_vertices self.now }
+    {
+        &self.room.support[..self.room.row]
+    }
+
+    /// How often each vertex of `row_vertices` fired in the last drop.
+    pub fn row_times(&self) -> &[u64]
+        requires { IsPile self.now }
+        ensures { result.now ≡ row_times self.now }
+    {
+        &self.room.list[..self.room.row]
     }
 
     /// The outcome of the game that has all chips at its start.
@@ -236,17 +320,22 @@ impl BegunDrop {
         ensures pile { IsPile result.0 }
         ensures avalanche { (g : ChipGame) (ds : List (ℕ × ℕ)) (x : ℕ → ℕ) → IsBegunDrop g ds x self
             → HasMore g ds result.0.game × TellsAvalanche g.graph x result.0 result.1 }
+        ensures row { (g : ChipGame) (ds : List (ℕ × ℕ)) (x : ℕ → ℕ) → IsBegunDrop g ds x self
+            → IfSome result.1 (λ _. HasRow g.graph x (row_vertices result.0) (row_times result.0)) }
+        ensures same_game { result.0.game ≡ self.pile.game }
     {
         let BegunDrop {
-            pile: Pile {
-                game,
-                chips,
-                fired,
-                mut room,
-            },
+            pile,
             arrived,
             worked,
         } = self;
+        let Pile {
+            game,
+            chips,
+            fired,
+            mut room,
+            ..
+        } = pile;
         let mut play = Play {
             game: &game,
             chips,
@@ -254,16 +343,31 @@ impl BegunDrop {
         };
         let (found, stable) = play_out(alloc, &mut play, worked, &mut room, watch);
         let Play { chips, fired, .. } = play;
-        let (size, extent) = tally(&room.support[..found], &fired, &mut room.before);
+        let (size, extent) = tally(
+            found,
+            &fired,
+            &mut room.before,
+            &mut room.support,
+            &mut room.list,
+        );
+        room.row = extent;
         let lost = chips[game.graph().sink() as usize].saturating_sub(arrived);
         let pile = Pile {
             game,
             chips,
             fired,
             room,
+            course: Course::Rounds,
         };
         if stable {
-            (pile, Some(Avalanche { size, extent, lost }))
+            (
+                pile,
+                Some(Avalanche {
+                    size,
+                    extent: extent as u64,
+                    lost,
+                }),
+            )
         } else {
             (pile, None)
         }

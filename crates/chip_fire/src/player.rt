@@ -2,8 +2,8 @@ ghost use Rattle.std.specs.Prelude.{◌≡◌, IfOk};
 ghost use Rattle.chip_fire.specs.Rounds.{IsAtRest};
 ghost use Rattle.chip_fire.specs.Player.{PlaysOut};
 
+use crate::course::Course;
 use crate::play::Play;
-use crate::tuning::STRETCH;
 use crate::watch::{Unwatched, Watch};
 use chip_graph::Game;
 use chip_sequence::Outcome;
@@ -11,7 +11,7 @@ use std::alloc::{AllocError, Global};
 
 /// Plays a game to its end within the limit, on one thread.
 ///
-/// It begins as `Play::advance` says. Then each vertex in turn fires as often in a row as its chips and the
+/// It takes the course of `Course`, and at last each vertex in turn fires as often in a row as its chips and the
 /// limit allow, round after round until none fires. The way is this function's own: the outcome is
 /// that of every order.
 pub fn plain(alloc: Global, game: &Game) -> Result<Outcome, AllocError>
@@ -43,19 +43,17 @@ pub fn plain_given<W: Watch>(
     ensures { IfOk result (PlaysOut game.now) }
 {
     let mut play = Play::at_given(alloc, game, given, watch)?;
-    play.play_few(alloc, watch);
-    play.play_on(alloc, watch);
+    let _ = play.go_on(alloc, Course::Begins, u64::MAX, watch);
     play.outcome(alloc)
 }
 
 impl Play<'_> {
-    /// Goes on to the end within the limit.
+    /// Goes on to the end within the limit, by rounds and a search.
     pub fn play_on<W: Watch>(&mut self, alloc: Global, watch: &mut W)
         ensures same { self.new.game ≡ self.old.game }
         ensures ended { IsAtRest self.new.game self.new.chips self.new.fired }
     {
-        self.advance(alloc, watch);
-        let mut looks = 0u64;
-        'stretches: while self.stretch(alloc, STRETCH, &mut looks, watch) {}
+        let course = self.soon();
+        let _ = self.go_on(alloc, course, u64::MAX, watch);
     }
 }

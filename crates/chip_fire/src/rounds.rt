@@ -1,42 +1,19 @@
 //! Rounds, in which each vertex has its turn, and which a watcher follows.
 
-ghost use Rattle.std.specs.Prelude.{◌≡◌, ◌+◌, ◌*◌, ◌/◌, ◌<◌, ◌≤◌, not, slice_index};
+ghost use Rattle.std.specs.Prelude.{◌≡◌, ◌+◌, ◌*◌, ◌/◌, ◌<◌, ◌≤◌, slice_index};
 ghost use Rattle.std.specs.Bool.{OnTrue, OnFalse};
 ghost use Rattle.chip_sequence.specs.Firing.{IsLegal};
-ghost use Rattle.chip_fire.specs.Rounds.{IsBegun, IsInRange, IsAtRest, StaysOnTheWay, GoesRound, firings_left};
+ghost use Rattle.chip_fire.specs.Rounds.{IsBegun, IsInRange, IsAtRest, StaysOnTheWay, OnlyRise, GoesRound, firings_left};
 ghost use Rattle.chip_fire.specs.Rounds.{IsSwept, IsRound, AreRounds};
-ghost use Rattle.chip_fire.specs.Search.{FewLooks};
+ghost use Rattle.chip_fire.specs.Search.{FewLooks, places};
 
 use crate::play::Play;
-use crate::tuning::STRETCH;
 use crate::watch::Watch;
 use chip_graph::{Game, Graph};
 use chip_sequence::fire_batch;
 use std::alloc::Global;
 
 impl Play<'_> {
-    /// Goes on until a round fires no vertex or `most` looks are made; whether one fired none. The looks are added to
-    /// `looks`, up to 2^64 - 1.
-    pub(crate) fn ends_within<W: Watch>(
-        &mut self,
-        alloc: Global,
-        most: u64,
-        looks: &mut u64,
-        watch: &mut W,
-    ) -> bool
-        ensures same { self.new.game ≡ self.old.game }
-        ensures few { FewLooks self.old.game self.old.fired self.new.fired looks.old looks.new (not result) }
-    {
-        let end = looks.saturating_add(most);
-        'stretches: while *looks < end {
-            let part = (end - *looks).min(STRETCH);
-            if !self.stretch(alloc, part, looks, watch) {
-                return true;
-            }
-        }
-        false
-    }
-
     /// Goes on by a queue while few vertices are legal, and by rounds for what is left of `most` looks, one round at
     /// least; whether each round fired a vertex. The looks are added to `looks`, up to 2^64 - 1.
     #[tactic(auto, using(crate::proofs::LooksLemmas::looks_more, crate::proofs::LooksLemmas::goes_after))]
@@ -50,6 +27,7 @@ impl Play<'_> {
         ensures same { self.new.game ≡ self.old.game }
         ensures round { GoesRound self.old.game self.old.fired self.new.chips self.new.fired result }
         ensures few { FewLooks self.old.game self.old.fired self.new.fired looks.old looks.new result }
+        ensures at_most { looks.new ≤ looks.old + most + places self.old.game }
     {
         let before = *looks;
         let _ = self.work_off_few(alloc, most, looks);
@@ -65,6 +43,7 @@ impl Play<'_> {
         ensures same { self.new.game ≡ self.old.game }
         ensures round { GoesRound self.old.game self.old.fired self.new.chips self.new.fired result }
         ensures few { FewLooks self.old.game self.old.fired self.new.fired looks.old looks.new result }
+        ensures at_most { looks.new ≤ looks.old + most + places self.old.game }
     {
         let graph = self.game.graph();
         let vertices = graph.vertices().max(1);
@@ -155,6 +134,7 @@ fn turn(graph: &Graph, limit: u64, vertex: u64, chips: &mut [u64], fired: &mut [
     requires in_range { IsInRange graph.now limit chips.old fired.old }
     ensures in_range { IsInRange graph.now limit chips.new fired.new }
     ensures stays { StaysOnTheWay graph.now limit chips.old fired.old chips.new fired.new }
+    ensures rises { OnlyRise fired.old fired.new }
     ensures fires { OnTrue result ((firings_left graph.now limit fired.new < firings_left graph.now limit fired.old)
         × (firings_left graph.now limit fired.old ≤ firings_left graph.now limit fired.new + limit)) }
     ensures rests { OnFalse result ((chips.new ≡ chips.old) × (fired.new ≡ fired.old)

@@ -1,63 +1,146 @@
 //! The way to an end that may be near.
 
-ghost use Rattle.std.specs.Prelude.{◌≡◌, ◌+◌, not, length};
+ghost use Rattle.std.specs.Prelude.{◌≡◌, ◌+◌, [], true, length};
+ghost use Rattle.chip_fire.specs.Rounds.{OnlyRise, GoesRound};
 ghost use Rattle.chip_fire.specs.Search.{FewLooks};
+ghost use Rattle.chip_fire.specs.Course.{IsCourse};
 
+use crate::course::{Course, Doubling};
 use crate::play::Play;
-use crate::tuning::{FEW_LOOKS, FIRST_LOOKS, LOOKS_OF_FEW, LOOKS_OF_LIST, VERTICES_PER_CHIP};
+use crate::tuning::{
+    FEW_LOOKS, FIRST_LOOKS, LIST_STRETCH, LOOKS_OF_FEW, LOOKS_OF_LIST, STRETCH, VERTICES_PER_CHIP,
+};
 use crate::watch::Watch;
 use crate::work_list::is_legal;
 use chip_graph::Graph;
 use std::alloc::Global;
 
 impl Play<'_> {
-    /// Goes on by a work list if few chips wait to move, and by rounds if these have set off many.
-    pub(crate) fn play_few<W: Watch>(&mut self, alloc: Global, watch: &mut W)
-        ensures { self.new.game ≡ self.old.game }
+    /// A play begins by a work list if few chips wait to move.
+    pub(crate) fn begin(&self) -> Course
+        ensures { IsCourse self.now.game self.now.fired result }
     {
-        let few = self.game.graph().vertices() / VERTICES_PER_CHIP;
         let waits = self.waiting_chips();
-        if waits == 0 || waits > few {
-            return;
+        if waits == 0 || waits > self.few_chips() {
+            return self.soon();
         }
         let all = looks_at_all(self.game.graph());
-        let _ = self.work_off_few(alloc, all.saturating_mul(LOOKS_OF_LIST), &mut 0);
-        let most = if self.waiting_chips() > few {
-            all.saturating_mul(LOOKS_OF_FEW)
-        } else {
-            0
-        };
-        self.ends_within(alloc, most, &mut 0, watch);
+        Course::WorkList(all.saturating_mul(LOOKS_OF_LIST))
     }
 
-    /// Plays for as long as this takes it soon to an end: each time with twice the work, while that halves the chips that
-    /// wait to move or the limit leaves little to do. Whether the play has ended. The looks are added to `looks`, which
-    /// are none before.
-    pub(crate) fn ends_soon<W: Watch>(
-        &mut self,
-        alloc: Global,
-        looks: &mut u64,
-        watch: &mut W,
-    ) -> bool
-        ensures same { self.new.game ≡ self.old.game }
-        ensures few { FewLooks self.old.game self.old.fired self.new.fired looks.old looks.new (not result) }
+    /// It goes on by rounds that are judged.
+    #[tactic(auto, using(crate::proofs::LooksLemmas::none_from_start))]
+    pub(crate) fn soon(&self) -> Course
+        ensures { IsCourse self.now.game self.now.fired result }
     {
         let all = looks_at_all(self.game.graph());
-        let few = all.saturating_mul(FEW_LOOKS);
-        let mut work = all.saturating_mul(FIRST_LOOKS);
-        let mut waited = u64::MAX;
-        'doublings: for _ in 0..u64::MAX {
-            let waits = self.waiting_chips();
-            if waits > waited / 2 && !leaves_little(self.game.limit(), &self.fired, *looks, few) {
-                return false;
-            }
-            waited = waits;
-            if self.ends_within(alloc, work, looks, watch) {
-                return true;
-            }
-            work = work.saturating_mul(2);
+        Course::Doubles(Doubling {
+            looks: 0,
+            end: 0,
+            work: all.saturating_mul(FIRST_LOOKS),
+            waited: u64::MAX,
+        })
+    }
+
+    /// How many chips are few.
+    fn few_chips(&self) -> u64 {
+        self.game.graph().vertices() / VERTICES_PER_CHIP
+    }
+
+    /// Goes on by a work list for a part of so many looks, and then by rounds, if many chips wait by then.
+    pub(crate) fn work_off_part(&mut self, alloc: Global, left: u64, looks: &mut u64) -> Course
+        ensures same { self.new.game ≡ self.old.game }
+        ensures rises { OnlyRise self.old.fired self.new.fired }
+        ensures course { IsCourse self.old.game self.new.fired result }
+    {
+        let all = looks_at_all(self.game.graph());
+        let part = left.min(all.saturating_mul(LIST_STRETCH).max(STRETCH));
+        let goes_on = self.work_off_few(alloc, part, looks).unwrap_or(false);
+        if goes_on && part < left {
+            return Course::WorkList(left - part);
         }
-        false
+        if self.waiting_chips() > self.few_chips() {
+            return Course::FewChips(all.saturating_mul(LOOKS_OF_FEW));
+        }
+        self.soon()
+    }
+
+    /// Goes on by rounds for a part of so many looks.
+    pub(crate) fn play_part<W: Watch>(
+        &mut self,
+        alloc: Global,
+        left: u64,
+        looks: &mut u64,
+        watch: &mut W,
+    ) -> Course
+        ensures same { self.new.game ≡ self.old.game }
+        ensures rises { OnlyRise self.old.fired self.new.fired }
+        ensures course { IsCourse self.old.game self.new.fired result }
+    {
+        let before = *looks;
+        if !self.stretch(alloc, left.min(STRETCH), looks, watch) {
+            return Course::Rounds;
+        }
+        let left = left.saturating_sub(*looks - before);
+        if left > 0 {
+            return Course::FewChips(left);
+        }
+        self.soon()
+    }
+
+    /// Goes on by rounds for as long as they take it soon to an end: each time with twice the work, while that halves the
+    /// chips that wait to move or the limit leaves little to do. Then counts are searched.
+    #[tactic(auto, using(crate::proofs::LooksLemmas::looks_more))]
+    pub(crate) fn double<W: Watch>(
+        &mut self,
+        alloc: Global,
+        doubling: Doubling,
+        looks: &mut u64,
+        watch: &mut W,
+    ) -> Course
+        requires { FewLooks self.old.game [] self.old.fired 0 doubling.looks true }
+        ensures same { self.new.game ≡ self.old.game }
+        ensures rises { OnlyRise self.old.fired self.new.fired }
+        ensures course { IsCourse self.old.game self.new.fired result }
+    {
+        let mut next = doubling;
+        if next.looks >= next.end {
+            let few = looks_at_all(self.game.graph()).saturating_mul(FEW_LOOKS);
+            let waits = self.waiting_chips();
+            if waits > next.waited / 2
+                && !leaves_little(self.game.limit(), &self.fired, next.looks, few)
+            {
+                return self.begin_search(alloc, next.looks, looks, watch);
+            }
+            next.waited = waits;
+            next.end = next.looks.saturating_add(next.work);
+            next.work = next.work.saturating_mul(2);
+        }
+        let part = next.end.saturating_sub(next.looks).min(STRETCH);
+        let before = next.looks;
+        let goes_on = self.stretch(alloc, part, &mut next.looks, watch);
+        *looks = looks.saturating_add(next.looks - before);
+        if goes_on {
+            Course::Doubles(next)
+        } else {
+            Course::Rounds
+        }
+    }
+
+    /// Makes a round; what the play is at then, and whether the round fired a vertex.
+    #[tactic(auto, using(crate::proofs::LooksLemmas::looks_more))]
+    pub(crate) fn round_of<W: Watch>(&mut self, doubling: Doubling, watch: &mut W) -> (Course, bool)
+        requires { FewLooks self.old.game [] self.old.fired 0 doubling.looks true }
+        ensures same { self.new.game ≡ self.old.game }
+        ensures course { IsCourse self.old.game self.new.fired result.0 }
+        ensures round { GoesRound self.old.game self.old.fired self.new.chips self.new.fired result.1 }
+    {
+        let mut next = doubling;
+        if self.rounds(0, &mut next.looks, watch) {
+            (Course::Doubles(next), true)
+        } else {
+            (Course::Rounds, false)
+        }
     }
 
     /// The chips that legal vertices have above what they may keep, up to 2^64 - 1.

@@ -24,6 +24,10 @@ pub(crate) const STRETCH: u64 = 1 << 20;
 /// Few chips wait if there is at most one for this number of vertices.
 pub(crate) const VERTICES_PER_CHIP: u64 = 64;
 
+/// How many looks at each vertex and edge are made by a work list before its turn may end: each beginning passes over all
+/// vertices.
+pub(crate) const LIST_STRETCH: u64 = 16;
+
 /// How many looks at each vertex and edge are made by rounds, if few chips set off many: a search is slower than most
 /// such plays (full-1000, and some hundreds of chips on a full grid of 300 by 300).
 pub(crate) const LOOKS_OF_FEW: u64 = 1024;

@@ -32,12 +32,12 @@ pub trait Watch {
     {}
 
     /// Told of a search for counts, in which no vertex fires, while it goes on.
-    fn searches(&mut self, _search: &Search<'_>) {}
+    fn searches(&mut self, _search: &Search) {}
 
     /// Told once a search for counts is over how many looks at a vertex or an edge it made, the making of what it stands
-    /// on too, and how many the rounds until then made.
-    fn searched(&mut self, _play: &Play<'_>, _played: u64, _searched: u64)
-        requires { IsShort _play.now.game _play.now.fired _played _searched }
+    /// on too, and how many the play made before it and beside it.
+    fn searched(&mut self, _play: &Play<'_>, _alone: u64, _beside: u64, _searched: u64)
+        requires { IsShort _play.now.game _play.now.fired _alone _beside _searched }
     {}
 
     /// Told what the play has come to after `more` further rounds, in each of which some vertex fired.

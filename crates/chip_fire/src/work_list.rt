@@ -4,7 +4,7 @@ ghost use Rattle.std.specs.Prelude.{◌≡◌, ◌≢◌, ◌↔◌, ℕ, ◌+�
 ghost use Rattle.std.specs.Prelude.{slice_index, MatchOption};
 ghost use Rattle.chip_fire.specs.Search.{FewLooks};
 ghost use Rattle.chip_sequence.specs.Firing.{IsLegal};
-ghost use Rattle.chip_fire.specs.Rounds.{IsBegun, IsInRange, StaysOnTheWay, firings_left};
+ghost use Rattle.chip_fire.specs.Rounds.{IsBegun, IsInRange, StaysOnTheWay, OnlyRise, firings_left};
 ghost use Rattle.chip_fire.specs.WorkList.{AreListed, HasSupport};
 
 use crate::play::{Play, legal_vertices};
@@ -17,23 +17,23 @@ use std::alloc::{AllocError, Global};
 impl Play<'_> {
     /// Goes on by a queue of legal vertices if these are few, until about `most` looks are made. The looks are added to
     /// `looks`, up to 2^64 - 1: those at a vertex that fires and at its edges, of which it has as many as vertices
-    /// have in the mean, count `LOOKS_OF_LISTED` times, since they lie anywhere.
+    /// have in the mean, count `LOOKS_OF_LISTED` times, since they lie anywhere. Whether it may go on so.
     pub fn work_off_few(
         &mut self,
         alloc: Global,
         most: u64,
         looks: &mut u64,
-    ) -> Result<(), AllocError>
+    ) -> Result<bool, AllocError>
         ensures same { self.new.game ≡ self.old.game }
-        ensures fewer { firings_left self.old.game.graph self.old.game.limit self.new.fired
-            ≤ firings_left self.old.game.graph self.old.game.limit self.old.fired }
+        ensures rises { OnlyRise self.old.fired self.new.fired }
         ensures few { FewLooks self.old.game self.old.fired self.new.fired looks.old looks.new true }
+        ensures at_most { looks.new ≤ looks.old + most }
     {
         let graph = self.game.graph();
         let vertices = graph.vertices();
         let few = vertices as usize / VERTICES_PER_PLACE;
         if !are_few(graph, &self.chips, few) {
-            return Ok(());
+            return Ok(false);
         }
         let mut queue = legal_vertices(alloc, graph, &self.chips)?;
         let listed = queue.len();
@@ -42,16 +42,17 @@ impl Play<'_> {
         let of_turn = at_each
             .saturating_mul(LOOKS_OF_LISTED)
             .min(looks_at_all(graph));
+        let most = most / of_turn.max(1);
         let turns = work_off_in_turn(
             self.game,
             listed,
-            most / of_turn.max(1),
+            most,
             &mut queue,
             &mut self.chips,
             &mut self.fired,
         );
         *looks = looks.saturating_add(turns.saturating_mul(of_turn));
-        Ok(())
+        Ok(turns == most)
     }
 }
 
@@ -86,6 +87,8 @@ pub fn work_off_in_turn(
     requires room { listed ≤ length queue.old }
     requires legal { AreListed game.now.graph chips.old (take listed queue.old) }
     ensures begun { IsBegun game.now chips.new fired.new }
+    ensures at_most { result ≤ most }
+    ensures rises { OnlyRise fired.old fired.new }
     ensures each_fires { firings_left game.now.graph game.now.limit fired.new + result
         ≤ firings_left game.now.graph game.now.limit fired.old }
 {
@@ -201,6 +204,7 @@ fn turn(
     ensures turned { IsInRange graph.now limit chips.new fired.new
         × StaysOnTheWay graph.now limit chips.old fired.old chips.new fired.new }
     ensures others { (v : ℕ) → v ≢ vertex → slice_index fired.new v ≡ slice_index fired.old v }
+    ensures rises { OnlyRise fired.old fired.new }
     ensures fires { MatchOption result (fired.new ≡ fired.old)
         (λ n. firings_left graph.now limit fired.new < firings_left graph.now limit fired.old) }
     ensures listed { MatchOption result (Unit {0})

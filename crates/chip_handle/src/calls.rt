@@ -1,7 +1,7 @@
 //! The calls on a pile that C keeps.
 
 ghost use Rattle.std.specs.Prelude.{◌≡◌, None};
-ghost use Rattle.chip_library.specs.KeptGames.{PutsChips, Drops};
+ghost use Rattle.chip_library.specs.KeptGames.{PutsChips, PlaysSome, Drops};
 ghost use Rattle.chip_handle.specs.Handles.{MakesNew, OnPile, DropsOn, Copies, CopiesOf, chips_on, firings_on, bytes_held};
 
 use crate::handle::Handle;
@@ -49,6 +49,28 @@ fn one_put(kept: KeptPile, given: (Global, u64, &[u64])) -> (KeptPile, Result<()
 {
     let (alloc, limit, chips) = given;
     kept.put(alloc, limit, chips)
+}
+
+/// Plays a pile on by so many visits (`KeptPile::play_some`).
+pub fn play_on(alloc: Global, handle: &mut Handle, visits: u64) -> Result<bool, CallFault>
+    ensures { OnPile (λ old new told. PlaysSome old new visits told)
+        handle.old.raw.value handle.new.raw.value result }
+{
+    let Some(mut boxed) = handle.take(alloc) else {
+        return Err(CallFault::NoPile);
+    };
+    let kept: &mut KeptPile = &mut boxed;
+    let told = replace_with(kept, (alloc, visits), one_portion);
+    *handle = Handle::of(boxed);
+    told
+}
+
+/// A pile whose play has gone on.
+fn one_portion(kept: KeptPile, portion: (Global, u64)) -> (KeptPile, Result<bool, CallFault>)
+    ensures { PlaysSome kept result.0 portion.1 result.1 }
+{
+    let (alloc, visits) = portion;
+    kept.play_some(alloc, visits)
 }
 
 /// Drops chips on a vertex of a pile (`KeptPile::drop_chips`).

@@ -1,8 +1,8 @@
 -- Serves KeptGames.antt.
 -- Where the play of a pile ends, and drops on it.
-use Rattle.std.proofs.Common.{◌≡◌, ℕ, ◌+◌, ◌-◌, ◌<◌, ◌≤◌, ◌^◌, Bool, true, not, ◌&&◌, eqb, leb, cond, List, [], ◌∷◌, ◌++◌}
+use Rattle.std.proofs.Common.{◌≡◌, ℕ, ◌+◌, ◌-◌, ◌<◌, ◌≤◌, ◌^◌, Bool, true, false, not, ◌&&◌, eqb, leb, cond, List, [], ◌∷◌, ◌++◌}
 use Rattle.std.proofs.Common.{length, map, take, drop, set, sum, sum_by, slice_index, Option, Some, None, Result, Ok, Err}
-use Rattle.std.proofs.Common.{inl, inr, refl, sym, ap, ◌∙◌, subst, arith}
+use Rattle.std.proofs.Common.{inl, inr, refl, sym, ap, ◌∙◌, subst, arith, true≢false}
 use Rattle.std.proofs.lemmas.Bool.Decides.{nat_tests}
 use Rattle.std.proofs.lemmas.List.{map-append, append_assoc, append-nil, length-map, length_push}
 use Rattle.std.proofs.lemmas.List.{take_all, drop_all, set_at}
@@ -25,6 +25,7 @@ use Rattle.chip_sequence.specs.Play.{IsPlayed}
 use Rattle.chip_sequence.specs.declared.outcome.Outcome.{Outcome}
 use Rattle.chip_fire.specs.declared.pile.Pile.{Pile}
 use Rattle.chip_fire.specs.Pile.{IsPile}
+use Rattle.chip_fire.specs.BegunPile.{PlaysOn}
 use Rattle.chip_sequence.specs.Firing.{IsStable}
 use Rattle.chip_fire.proofs.PlayLemmas.{game_played}
 use Rattle.chip_fire.specs.declared.avalanche.Avalanche.{Avalanche}
@@ -34,7 +35,7 @@ use Rattle.chip_library.specs.declared.fault.CallFault.TheVariants.{Stopped}
 use Rattle.chip_library.specs.declared.kept.PileState.TheVariants.{ToPlay, Stable, Halted}
 use Rattle.chip_library.specs.Drops.{Told, drops_of, AreOn, AreRows, BeginsPile, CanFall, Leaves}
 use Rattle.chip_library.specs.KeptGames.{KeptGame, IsKept, BeginsGame, IsPlayedOut, Plays, AreDropped, Drops, DropsOnStable}
-use Rattle.chip_library.specs.KeptGames.{Rows, with_first, MakesEach, DropsEach}
+use Rattle.chip_library.specs.KeptGames.{Rows, with_first, MakesEach, DropsEach, GoesOn, PlaysSome}
 use Rattle.chip_library.specs.KeptGames.{PilesAreOutcomes, DropsFollow, MoreDrops}
 use Rattle.chip_library.proofs.DropLemmas.{made_all, leaves_none, leaves_more, all_more}
 
@@ -108,6 +109,44 @@ more_drops p told p' so_far more p'' later =
           so_far.vertices inside);
       avalanches = avalanches_more p.game.graph _ told _ so_far.avalanches more _ are;
     }
+
+-- ---- plays in portions
+
+-- where a play does not go on, it has ended
+pub ended_pile : (p p' : Pile) (visits : ℕ) (any : Bool) → PlaysOn p p' visits any → any ≡ false → IsPile p'
+ended_pile p p' visits true on not = absurd (true≢false not)
+ended_pile p p' visits false on not = on.ended
+
+-- a portion after which the play goes on
+pub goes_on_some : (k : KeptGame) (p' : Pile) (visits : ℕ) (any : Bool) → k.state ≡ ToPlay → 0 < visits
+    → PlaysOn k.pile p' visits any → any ≡ true → GoesOn k (record { pile = p'; state = ToPlay }) visits
+goes_on_some k p' visits false to_play some on is = absurd (true≢false (sym is))
+goes_on_some k p' visits true to_play some on is = record {
+  was_to_play = to_play;
+  to_play = refl;
+  same_game = on.same_game;
+  rises = on.rises;
+  some_fired = λ l. on.some_fired;
+  none = λ zero. absurd (omega arith);
+  not_whole = λ whole. true≢false (on.whole whole);
+}
+
+-- no visits change nothing
+pub stays_to_play : (k : KeptGame) (visits : ℕ) → k.state ≡ ToPlay → visits ≡ 0 → GoesOn k k visits
+stays_to_play k visits to_play none = record {
+  was_to_play = to_play;
+  to_play = to_play;
+  same_game = refl;
+  rises = λ v. omega arith;
+  some_fired = λ some. absurd (omega arith);
+  none = λ zero. refl;
+  not_whole = λ whole. absurd (omega arith);
+}
+
+-- a whole play has ended
+pub whole_play : (old new : KeptGame) (left : Bool) → PlaysSome old new (2 ^ 64 - 1) (Ok left) → Plays old new (Ok tt)
+whole_play old new true goes = absurd (goes.not_whole refl)
+whole_play old new false plays = plays
 
 -- ---- one call after another
 

@@ -5,6 +5,7 @@ use Rattle.chip_recurrent.specs.Stabilizations.{IsFaultOfRow}
 use Rattle.chip_recurrent.specs.Burning.{IsBurning, burning_start}
 use Rattle.chip_recurrent.specs.Recurrents.{AreTested, IsFaultOfTests}
 use Rattle.chip_recurrent.specs.Representatives.{AreRepresented, IsFaultOfForms, IsFoundIdentity, IsFaultOfIdentity}
+use Rattle.chip_recurrent.specs.Drawn.{AreRecurrents, IsFaultOfDraws}
 use Rattle.chip_recurrent.specs.declared.classes.Form.{Form}
 use Rattle.chip_recurrent.specs.declared.fault.RowFault.{RowFault}
 use Rattle.chip_recurrent.specs.declared.fault.RowFault.TheVariants as row_fault
@@ -63,3 +64,10 @@ FindsIdentity lists chips chips' (Ok done) =
     HasRows lists 1 chips × IsGraph (graph_of lists) × IsFoundIdentity (graph_of lists) chips'
 FindsIdentity lists chips chips' (Err fault) = (chips' ≡ chips)
     × IsFirstFault lists (HasRows lists 1 chips) (IsFaultOfIdentity (graph_of lists)) fault
+
+-- recurrent configurations are written; or the first fault is returned, and the chips stay as they were
+abbrev pub DrawsRows : EdgeLists → ℕ → (chips chips' : List ℕ) → Result (Unit {0}) CallFault → Type 0
+DrawsRows lists rows chips chips' (Ok done) =
+    HasRows lists rows chips × IsGraph (graph_of lists) × AreRecurrents (graph_of lists) rows chips'
+DrawsRows lists rows chips chips' (Err fault) = (chips' ≡ chips)
+    × IsFirstFault lists (HasRows lists rows chips) (IsFaultOfDraws (graph_of lists) rows) fault

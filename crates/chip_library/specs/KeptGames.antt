@@ -1,5 +1,5 @@
 -- Piles that are kept between calls, and what calls on them return.
-use Rattle.std.specs.Prelude.{◌≡◌, ◌⊎◌, ℕ, ◌+◌, ◌*◌, ◌<◌, List, [], ◌∷◌, ◌++◌, length, map, take, drop, slice_index}
+use Rattle.std.specs.Prelude.{◌≡◌, ◌⊎◌, ℕ, ◌+◌, ◌-◌, ◌*◌, ◌^◌, ◌<◌, Bool, true, false, List, [], ◌∷◌, ◌++◌, length, map, take, drop, slice_index}
 use Rattle.std.specs.Prelude.{Option, Some, None, Result, Ok, Err}
 use Rattle.chip_graph.specs.Multigraph.{Multigraph, IsGraph}
 use Rattle.chip_graph.specs.ChipGame.{ChipGame, IsGame}
@@ -10,6 +10,7 @@ use Rattle.chip_sequence.specs.declared.outcome.Outcome.{Outcome}
 use Rattle.chip_fire.specs.declared.avalanche.Avalanche.{Avalanche}
 use Rattle.chip_fire.specs.declared.pile.Pile.{Pile}
 use Rattle.chip_fire.specs.Pile.{IsPile}
+use Rattle.chip_fire.specs.Rounds.{OnlyRise, firings_left}
 use Rattle.chip_sequence.specs.Firing.{IsStable}
 use Rattle.chip_fire.specs.BegunPile.{IsBegunPile, IsAtStart}
 use Rattle.chip_library.specs.declared.edges.EdgeLists.{EdgeLists}
@@ -61,6 +62,24 @@ pub record IsPlayedOut (old new : KeptGame) : Type 0 where
 abbrev pub Plays : (old new : KeptGame) → Result (Unit {0}) CallFault → Type 0
 Plays old new (Ok done) = IsPlayedOut old new × (new.state ≡ Stable)
 Plays old new (Err fault) = IsPlayedOut old new × (new.state ≡ Halted) × (fault ≡ Stopped 0)
+
+-- the play of a pile has gone on by so many visits, and has still to end: no firing is taken back, and some vertex has
+-- fired. No visits change nothing, and 2^64 - 1 end it
+pub record GoesOn (old new : KeptGame) (visits : ℕ) : Type 0 where
+  pub was_to_play : old.state ≡ ToPlay
+  pub to_play : new.state ≡ ToPlay
+  pub same_game : new.pile.game ≡ old.pile.game
+  pub rises : OnlyRise old.pile.fired.items new.pile.fired.items
+  pub some_fired : 0 < visits → firings_left old.pile.game.graph old.pile.game.limit new.pile.fired.items
+      < firings_left old.pile.game.graph old.pile.game.limit old.pile.fired.items
+  pub none : visits ≡ 0 → new ≡ old
+  pub not_whole : visits ≡ 2 ^ 64 - 1 → ⊥
+
+-- what a play of so many visits returns: whether it has still to end; or what a whole play returns
+abbrev pub PlaysSome : (old new : KeptGame) → ℕ → Result Bool CallFault → Type 0
+PlaysSome old new visits (Ok true) = GoesOn old new visits
+PlaysSome old new visits (Ok false) = Plays old new (Ok tt)
+PlaysSome old new visits (Err fault) = Plays old new (Err fault)
 
 -- the limit has stopped the play before a drop, and nothing was dropped; or else it has stopped the play of the drop
 abbrev pub StopsDrop : (old new : KeptGame) → (v count : ℕ) → Type 0

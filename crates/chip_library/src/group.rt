@@ -1,7 +1,7 @@
 //! Burning scripts, recurrent and superstable configurations, and the identity of the sandpile group.
 
 ghost use Rattle.std.specs.Prelude.{◌≡◌, ◌↔◌, length, IsTrue};
-ghost use Rattle.chip_library.specs.GroupCalls.{HasRows, FindsBurning, TestsRows, FindsForms, FindsIdentity};
+ghost use Rattle.chip_library.specs.GroupCalls.{HasRows, FindsBurning, TestsRows, FindsForms, FindsIdentity, DrawsRows};
 
 use crate::edges::EdgeLists;
 use crate::fault::CallFault;
@@ -82,6 +82,27 @@ pub fn identity(alloc: Global, edges: EdgeLists<'_>, chips: &mut [u64]) -> Resul
     }
     let graph = edges.graph(alloc)?;
     let found = chip_recurrent::identity(alloc, graph)?;
+    chips.copy_from_slice(&found);
+    Ok(())
+}
+
+/// Writes so many random recurrent configurations, with 0 at the sink (`chip_recurrent::random_recurrents`). They have the
+/// numbers from `first` on, and that of a number follows from the seed alone. On a fault `chips` stays as it was.
+pub fn random_recurrents(
+    alloc: Global,
+    edges: EdgeLists<'_>,
+    seed: u64,
+    first: u64,
+    rows: usize,
+    chips: &mut [u64],
+) -> Result<(), CallFault>
+    ensures { DrawsRows edges.entry rows chips.old chips.new result }
+{
+    if !has_rows(edges, rows, chips) {
+        return Err(CallFault::Lengths);
+    }
+    let graph = edges.graph(alloc)?;
+    let found = chip_recurrent::random_recurrents(alloc, graph, seed, first, rows)?;
     chips.copy_from_slice(&found);
     Ok(())
 }

@@ -6,7 +6,7 @@ ghost use Rattle.chip_graph.specs.ChipGame.{IsGame};
 ghost use Rattle.chip_sequence.specs.Counted.{game_from};
 ghost use Rattle.chip_library.specs.CallFaults.{IsFaultOfGame};
 ghost use Rattle.chip_library.specs.Drops.{AreRows, CanFall, IsFaultOfColumns};
-ghost use Rattle.chip_library.specs.KeptGames.{BeginsGame, MakesPile, PutsChips, Plays, Drops, DropsOnStable};
+ghost use Rattle.chip_library.specs.KeptGames.{BeginsGame, MakesPile, PutsChips, Plays, PlaysSome, Drops, DropsOnStable};
 ghost use Rattle.chip_library.specs.KeptGames.{MakesEach, DropsEach, bytes_on};
 
 use crate::drops::are_rows;
@@ -104,23 +104,43 @@ impl KeptPile {
     pub fn play(self, alloc: Global) -> (KeptPile, Result<(), CallFault>)
         ensures { Plays self result.0 result.1 }
     {
+        let (kept, left) = self.play_some(alloc, u64::MAX);
+        match left {
+            Ok(_) => (kept, Ok(())),
+            Err(fault) => (kept, Err(fault)),
+        }
+    }
+
+    /// Plays on by so many visits, looks at a vertex or an edge, if the play has not ended; whether it still has not. With
+    /// one visit or more a vertex fires, or the play ends: 2^64 - 1 are a whole play.
+    #[tactic(auto, using(crate::proofs::KeptLemmas::stays_to_play))]
+    pub fn play_some(self, alloc: Global, visits: u64) -> (KeptPile, Result<bool, CallFault>)
+        ensures { PlaysSome self result.0 visits result.1 }
+    {
         match self.state {
-            PileState::ToPlay => self.play_out(alloc),
-            PileState::Stable => (self, Ok(())),
+            PileState::ToPlay if visits > 0 => self.go_on(alloc, visits),
+            PileState::ToPlay => (self, Ok(true)),
+            PileState::Stable => (self, Ok(false)),
             PileState::Halted => (self, Err(CallFault::Stopped(0))),
         }
     }
 
-    /// Plays to the end, if that was not done.
-    fn play_out(self, alloc: Global) -> (KeptPile, Result<(), CallFault>)
-        requires { self.state ≡ PileState.ToPlay }
-        ensures { Plays self result.0 result.1 }
+    /// Plays on by so many visits.
+    #[tactic(auto, using(crate::proofs::KeptLemmas::goes_on_some, crate::proofs::KeptLemmas::ended_pile))]
+    fn go_on(self, alloc: Global, visits: u64) -> (KeptPile, Result<bool, CallFault>)
+        requires to_play { self.state ≡ PileState.ToPlay }
+        requires some { 0 < visits }
+        ensures { PlaysSome self result.0 visits result.1 }
     {
         let KeptPile { pile, .. } = self;
-        let (pile, stable) = pile.play(alloc);
-        if stable {
+        let (pile, goes_on) = pile.go_on(alloc, visits);
+        if goes_on {
+            let state = PileState::ToPlay;
+            return (KeptPile { pile, state }, Ok(true));
+        }
+        if pile.is_stable() {
             let state = PileState::Stable;
-            (KeptPile { pile, state }, Ok(()))
+            (KeptPile { pile, state }, Ok(false))
         } else {
             let state = PileState::Halted;
             (KeptPile { pile, state }, Err(CallFault::Stopped(0)))

@@ -8,7 +8,7 @@ pub use claims::{verify, verify_watched};
 pub use drops::avalanches;
 pub use edges::EdgeLists;
 pub use fault::CallFault;
-pub use group::{are_recurrent, burning, identity, representatives};
+pub use group::{are_recurrent, burning, identity, random_recurrents, representatives};
 pub use kept::KeptPile;
 pub use stabilize::{stabilize_all, stabilize_all_watched};
 
@@ -25,4 +25,4 @@ mod stabilize;
 pub mod sums;
 
 /// The version of the library: 1,000,000 for each of the first number, 1,000 for each of the second, and the third.
-pub const VERSION: u64 = 9_000;
+pub const VERSION: u64 = 10_000;

@@ -2,7 +2,7 @@
 
 use crate::graphs::TRIANGLE;
 use chip_fire::Avalanche;
-use chip_library::{CallFault, KeptPile};
+use chip_library::{CallFault, EdgeLists, KeptPile};
 use std::process::Abort;
 
 /// The greatest limit.
@@ -114,6 +114,123 @@ fn the_limit_halts_a_pile(rt: HostRuntime) {
     let kept = drops(&rt, kept, &halted);
     let (kept, put) = kept.put(rt.alloc(), 2, &[4, 0]);
     assert!(&rt; put.is_err() && has(&kept, &[2, 0, 3], &[2, 1, 0]));
+}
+
+/// Plays on by some visits, and compares what is told.
+fn portion(
+    rt: &(impl AllocGlobal + Abort),
+    kept: KeptPile,
+    visits: u64,
+    told: Result<bool, CallFault>,
+) -> KeptPile {
+    let (kept, left) = kept.play_some(rt.alloc(), visits);
+    assert!(rt; left == told, "{:?}, fired {:?}", left, kept.fired());
+    kept
+}
+
+/// No visit does nothing, the last one finds the end, and the limit stops a play that would go on.
+#[test]
+fn a_play_in_portions(rt: HostRuntime) {
+    let lists = TRIANGLE.edges();
+    let kept = KeptPile::new(rt.alloc(), lists, LARGEST, &[4, 0, 0]).expect(&rt, "a pile");
+    let kept = portion(&rt, kept, 0, Ok(true));
+    assert!(&rt; has(&kept, &[4, 0, 0], &[0, 0, 0]));
+    let kept = portion(&rt, kept, u64::MAX, Ok(false));
+    assert!(&rt; has(&kept, &[1, 0, 3], &[2, 1, 0]));
+    let kept = portion(&rt, kept, 1, Ok(false));
+    let (kept, _) = kept.put(rt.alloc(), 1, &[4, 0, 0]);
+    let kept = portion(&rt, kept, u64::MAX, Err(CallFault::Stopped(0)));
+    assert!(&rt; has(&kept, &[2, 1, 1], &[1, 0, 0]));
+    let kept = portion(&rt, kept, 1, Err(CallFault::Stopped(0)));
+    assert!(&rt; has(&kept, &[2, 1, 1], &[1, 0, 0]));
+}
+
+/// How many vertices a path has.
+const LONG: u64 = 200;
+
+/// A pile on a path to the sink, with chips on its first vertex.
+fn heap_on_a_path(rt: &(impl AllocGlobal + Abort), count: u64) -> KeptPile {
+    let alloc = rt.alloc();
+    let (mut tails, mut heads) = (Vec::new(alloc), Vec::new(alloc));
+    let mut mults = Vec::new(alloc);
+    let mut chips = Vec::new(alloc);
+    for vertex in 0..LONG {
+        for (tail, head) in [(vertex, vertex + 1), (vertex + 1, vertex)] {
+            if tail < LONG {
+                tails.push(tail).expect(rt, "memory");
+                heads.push(head).expect(rt, "memory");
+                mults.push(1).expect(rt, "memory");
+            }
+        }
+        chips
+            .push(if vertex == 0 { count } else { 0 })
+            .expect(rt, "memory");
+    }
+    chips.push(0).expect(rt, "memory");
+    let lists = EdgeLists {
+        vertices: LONG + 1,
+        sink: LONG,
+        tails: &tails,
+        heads: &heads,
+        mults: &mults,
+    };
+    KeptPile::new(alloc, lists, LARGEST, &chips).expect(rt, "a pile")
+}
+
+/// Plays in portions of so many visits to the end, and compares that with the end of a whole play. In each portion some
+/// vertex fires, so there are several, and the counts rise from one to the next.
+fn expect_portions(rt: &(impl AllocGlobal + Abort), count: u64, visits: u64, least: u64) {
+    let (whole, played) = heap_on_a_path(rt, count).play(rt.alloc());
+    assert!(rt; played == Ok(()));
+    let mut kept = heap_on_a_path(rt, count);
+    let mut fired = 0u64;
+    let mut portions = 0u64;
+    for _ in 0..u64::MAX {
+        let (next, left) = kept.play_some(rt.alloc(), visits);
+        kept = next;
+        portions = portions.saturating_add(1);
+        let more = all_of(kept.fired());
+        if left == Ok(false) {
+            break;
+        }
+        assert!(rt;
+            left == Ok(true) && more > fired,
+            "{} portions, {} firings",
+            portions,
+            more
+        );
+        fired = more;
+    }
+    assert!(rt;
+        has(&kept, whole.chips(), whole.fired()),
+        "{} portions",
+        portions
+    );
+    assert!(rt;
+        portions >= least,
+        "{} portions of {} visits",
+        portions,
+        visits
+    );
+}
+
+/// The sum of numbers, up to 2^64 - 1.
+fn all_of(numbers: &[u64]) -> u64 {
+    let mut all = 0u64;
+    for number in numbers {
+        all = all.saturating_add(*number);
+    }
+    all
+}
+
+/// A heap that is played by a work list and rounds, and one for which counts are searched.
+#[test]
+fn heaps_in_portions(rt: HostRuntime) {
+    expect_portions(&rt, 30, 1, 3);
+    expect_portions(&rt, 30, 1000, 2);
+    expect_portions(&rt, 2000, 1, 100);
+    expect_portions(&rt, 2000, 1 << 16, 2);
+    expect_portions(&rt, 20_000, 1, 3);
 }
 
 /// Three drops by one call, of which the limit stops the last; and drops of which one is on no vertex.

@@ -441,7 +441,7 @@ impl Watch for Told {
         self.plays = self.plays.saturating_add(1);
     }
 
-    fn searches(&mut self, search: &Search<'_>) {
+    fn searches(&mut self, search: &Search) {
         let chips = search.chips_to_move();
         self.least_to_move = self.least_to_move.min(chips);
         self.most_to_move = self.most_to_move.max(chips);
@@ -453,10 +453,11 @@ impl Watch for Told {
         self.firings = all_firings(&play.fired);
     }
 
-    fn searched(&mut self, play: &Play<'_>, played: u64, searched: u64) {
+    fn searched(&mut self, play: &Play<'_>, alone: u64, beside: u64, searched: u64) {
         let graph = play.game.graph();
         let all = graph.vertices() + graph.edges().len() as u64;
         self.searches = self.searches.saturating_add(1);
+        let played = alone.saturating_add(beside);
         self.looks = played.saturating_add(searched) / all.max(1);
     }
 }

@@ -23,14 +23,14 @@ abbrev pub fired_in_all : Resumed → ℕ → ℕ
 fired_in_all r v = slice_index r.prior.items v + slice_index r.outcome.fired.items v
 
 -- firings with these counts lead from the position x to the position y
-pub record Leads (G : Multigraph) (x f y : ℕ → ℕ) (vs : List ℕ) : Type 0 where
+pub record LeadsBy (G : Multigraph) (x f y : ℕ → ℕ) (vs : List ℕ) : Type 0 where
   pub sequence : IsFiringSequence G x vs
   pub counted : (v : ℕ) → f v ≡ counts vs v
   pub position : (v : ℕ) → y v ≡ position_after G x vs v
 
 -- some firings do
 abbrev pub LeadsTo : Multigraph → (x f y : ℕ → ℕ) → Type 0
-LeadsTo G x f y = (vs : List ℕ) × Leads G x f y vs
+LeadsTo G x f y = (vs : List ℕ) × LeadsBy G x f y vs
 
 -- what was fired in all sittings leads from x to the chips that lie there
 abbrev pub IsPlayFrom : Multigraph → (ℕ → ℕ) → Resumed → Type 0

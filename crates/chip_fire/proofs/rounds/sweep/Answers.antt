@@ -12,7 +12,7 @@ loop-step-preserved c =
           let fires = rw w.if-turn.true at w.turn.ensures.fires in
           rw (w.chips-is, w.fired-is, w.count-is)
           (sweep_fires _ _ _ _ _ _ _ _ _ c.loop-step.invariant _ _ w.turn.ensures.in_range w.turn.ensures.stays
-          fires)
+          w.turn.ensures.rises fires)
       | else-vertex-sink w ↦ elim w.else-vertex-sink.branch [
         | else-vertex-sink-via-then-vertex-sink+else-turn w' ↦
             let rests = rw w'.if-turn.false at w'.turn.ensures.rests in

@@ -1,7 +1,7 @@
 use Rattle.std.proofs.Common.{◌≡◌, ℕ, ◌/◌, get_or, ap, ◌∙◌, arith}
 use Rattle.chip_graph.specs.Multigraph.{degree}
 use Rattle.chip_sequence.proofs.BoundLemmas.{some_degree}
-use Rattle.chip_fire.proofs.PlayLemmas.{within_quotient, quotient_some, turn_stays, turn_less}
+use Rattle.chip_fire.proofs.PlayLemmas.{within_quotient, quotient_some, turn_stays, turn_less, turn_rises}
 use Rattle.chip_fire.proofs.rounds.turn.Goals as goal
 
 pub times_in-requires-clause-some : goal.times_in-requires-clause-some
@@ -37,3 +37,7 @@ returns-clause-fires c =
     let left = c.if-left-eq0.false in
     turn_less c.args.graph.now c.args.limit c.args.chips.now c.args.fired.now c.requires.in_range c.args.vertex
     c.min-k.result c.requires.is_vertex (omega arith) (omega arith)
+
+pub returns-clause-rises : goal.returns-clause-rises
+returns-clause-rises c = turn_rises c.args.graph.now c.args.limit c.args.chips.now c.args.fired.now c.requires.in_range
+    c.args.vertex c.min-k.result c.requires.is_vertex

@@ -1,7 +1,7 @@
 use Rattle.std.proofs.Common.{◌<◌, get_or, length, arith}
 use Rattle.std.proofs.lemmas.List.{take-set, take_more_set}
 use Rattle.chip_sequence.proofs.BoundLemmas.{some_degree}
-use Rattle.chip_fire.proofs.PlayLemmas.{quotient_some, turn_less}
+use Rattle.chip_fire.proofs.PlayLemmas.{quotient_some, turn_less, turn_rises}
 use Rattle.chip_fire.proofs.WorkLemmas.{sent_none, sent_room, sent_step, listed_push, listed_same, turned}
 use Rattle.chip_fire.proofs.work_list.turn.Goals as goal
 use Rattle.chip_fire.proofs.work_list.turn.Goals.{then-had-degree+then-degree-has, else-had-degree}
@@ -65,3 +65,7 @@ returns-clause-fires c =
     let room = c.if-k-limit.false in
     (turn_less c.args.graph.now c.args.limit c.args.chips.now c.args.fired.now c.requires.in_range c.args.vertex
     c.times_in-k.result can.is_vertex (omega arith) (omega arith)).0
+
+pub returns-clause-rises : goal.returns-clause-rises
+returns-clause-rises c = turn_rises c.args.graph.now c.args.limit c.args.chips.now c.args.fired.now c.requires.in_range
+    c.args.vertex c.times_in-k.result c.requires.legal.is_vertex

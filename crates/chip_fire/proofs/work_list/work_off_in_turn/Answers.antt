@@ -1,6 +1,7 @@
 use Rattle.std.proofs.Common.{◌+◌, ◌-◌, length, subst, sym, arith}
 use Rattle.std.proofs.lemmas.List.{take_rest}
 use Rattle.chip_fire.specs.WorkList.{AreListed}
+use Rattle.chip_fire.proofs.PlayLemmas.{rise_more}
 use Rattle.chip_fire.proofs.WorkLemmas.{queue_first, queue_put}
 use Rattle.chip_fire.proofs.work_list.work_off_in_turn.Goals as goal
 
@@ -34,5 +35,6 @@ loop-made-preserved c =
       on_the_way = c.turn.ensures.turned.1 _ so_far.on_the_way;
       room = put.1;
       listed = subst (AreListed c.graph-graph.result.now c.turn.new.chips) (sym put.0) listed.1;
+      rises = rise_more _ _ _ so_far.rises c.turn.ensures.rises;
       each_fires = (let a = so_far.each_fires in let b = c.in-Some.ensures.fires in omega arith);
     }

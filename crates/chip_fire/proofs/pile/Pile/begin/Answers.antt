@@ -12,6 +12,7 @@ returns-clause-begun c =
       game = c.requires;
       begun = begun_none c.args.game c.requires _ _ chips fired;
       room = rw (vertices, c.graph.ensures.value, c.deref.ensures.value) at c.in_ok-room.ensures;
+      course = tt;
     }
 
 pub returns-clause-start : goal.returns-clause-start

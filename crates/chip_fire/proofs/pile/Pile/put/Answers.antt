@@ -26,5 +26,7 @@ returns-clause-begun c =
         before = before ∙ sym fired;
         support_each = old.room.support_each;
         list_room = old.room.list_room;
+        row = old.room.row;
       };
+      course = tt;
     })

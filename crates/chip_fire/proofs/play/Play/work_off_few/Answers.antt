@@ -1,4 +1,5 @@
-use Rattle.std.proofs.Common.{◌≡◌, ℕ, ◌++◌, ◌≤◌, List, take, drop, length, slice_index, ap, ◌∙◌, arith}
+use Rattle.std.proofs.Common.{◌≡◌, ℕ, ◌/◌, ◌++◌, ◌≤◌, mul-le-mul_left, mul-le-mul_right, List, take, drop, length, slice_index, ap, ◌∙◌, arith}
+use Rattle.std.proofs.Math.Nat.{div-mul-le_self}
 use Rattle.std.proofs.lemmas.Grind.{common_steps}
 use Rattle.chip_fire.specs.Search.{places}
 use Rattle.chip_fire.proofs.LooksLemmas.{few_turns}
@@ -29,3 +30,12 @@ returns-clause-few c =
     let same : take c.self.inside.fired.len (fired ++ drop (length fired) c.self.inside.fired.items) ≡ fired =
     grind (arith, common_steps) in
     rw (← c.self.view_is, same) few
+
+pub returns-clause-at_most : goal.returns-clause-at_most
+returns-clause-at_most c =
+    let most = c.work_off_in_turn-turns.ensures.at_most in
+    let all = mul-le-mul_right c.min-of_turn.result most in
+    let least : c.min-of_turn.result ≤ c.max-2.result = omega arith in
+    let each = mul-le-mul_left (c.args.most / c.max-2.result) least in
+    let part = div-mul-le_self c.args.most c.max-2.result in
+    omega arith

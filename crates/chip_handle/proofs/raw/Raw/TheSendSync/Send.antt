@@ -28,7 +28,7 @@ lies R s (block_ptr b o) x = part_keyless R s full_share x b o
 lies R s null_ptr x = tt
 
 kept_send : IsSend kept.the_row
-kept_send = search (sendable, crosses) depth 40
+kept_send = search (sendable, crosses) depth 80 fits 200000
 
 keyless : (a : Global) (p : Ptr) (v : Option KeptGame) → Keyless (maybe_owns a p v)
 keyless a p None = tt

@@ -1,12 +1,11 @@
 use Rattle.std.proofs.Common.{◌≡◌, true}
-use Rattle.chip_fire.specs.Rounds.{firings_left}
-use Rattle.chip_fire.specs.Search.{FewLooks}
-use Rattle.chip_fire.proofs.play.Play.ends_within.Given as goal
+use Rattle.chip_fire.specs.Rounds.{GoesRound, firings_left}
+use Rattle.chip_fire.proofs.play.Play.last_rounds.Given as goal
 
 abbrev pub invariant-stretches : goal.invariant-stretches
 invariant-stretches g l = record {
   same : l.self.game ≡ l.fn.self.game;
-  few : FewLooks l.fn.self.game l.fn.self.fired l.self.fired l.fn.looks l.looks true;
+  round : GoesRound l.fn.self.game l.fn.self.fired l.self.chips l.self.fired true;
 }
 
 abbrev pub decreases-stretches : goal.decreases-stretches

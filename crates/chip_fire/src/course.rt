@@ -1,0 +1,146 @@
+//! A play that goes on in portions, and what it is at between two of them.
+
+ghost use Rattle.std.specs.Prelude.{◌≡◌, ◌-◌, ◌^◌, false};
+ghost use Rattle.chip_fire.specs.Rounds.{OnlyRise, GoesRound};
+ghost use Rattle.chip_fire.specs.Course.{IsCourse};
+
+use crate::play::Play;
+use crate::tuning::STRETCH;
+use crate::watch::Watch;
+use chip_guess::Search;
+use std::alloc::Global;
+
+/// What a play is at.
+#[derive(Drop)]
+pub enum Course {
+    /// Nothing was done yet.
+    Begins,
+    /// Few chips wait to move: it goes on by a work list, for so many looks at most.
+    WorkList(u64),
+    /// Few chips have set off many: it goes on by rounds, for so many looks at most.
+    FewChips(u64),
+    /// It goes on by rounds, as long as these take it soon to an end.
+    Doubles(Doubling),
+    /// Counts are searched while it goes on.
+    Searches(Box<Searching>),
+    /// It goes on by rounds to its end.
+    Rounds,
+}
+
+/// Rounds that are judged each time that they have made twice the work.
+#[derive(Clone, Copy)]
+pub struct Doubling {
+    /// How many looks they have made.
+    pub(crate) looks: u64,
+    /// At how many they are judged next.
+    pub(crate) end: u64,
+    /// How many they make after that.
+    pub(crate) work: u64,
+    /// How many chips waited to move when they were judged last.
+    pub(crate) waited: u64,
+}
+
+/// A search for counts beside a play.
+#[derive(Drop)]
+pub struct Searching {
+    pub(crate) search: Box<Search>,
+    /// How often each vertex had fired when the search began.
+    pub(crate) before: Vec<u64>,
+    /// How many looks the play had made then.
+    pub(crate) alone: u64,
+    /// How many it has made since.
+    pub(crate) beside: u64,
+    /// At how many of these its turn ends.
+    pub(crate) turn_end: u64,
+    /// How many looks the search has made.
+    pub(crate) searched: u64,
+}
+
+impl Play<'_> {
+    /// Goes on by so many visits, looks at a vertex or an edge: what it is at then, and whether it goes on. One round is
+    /// made at least, so it has ended, or some vertex has fired. 2^64 - 1 visits take it to the end within the limit.
+    #[tactic(auto, using(crate::proofs::LooksLemmas::goes_after))]
+    pub fn go_on<W: Watch>(
+        &mut self,
+        alloc: Global,
+        course: Course,
+        visits: u64,
+        watch: &mut W,
+    ) -> (Course, bool)
+        requires { IsCourse self.old.game self.old.fired course }
+        ensures same { self.new.game ≡ self.old.game }
+        ensures course { IsCourse self.old.game self.new.fired result.0 }
+        ensures round { GoesRound self.old.game self.old.fired self.new.chips self.new.fired result.1 }
+        ensures whole { visits ≡ 2 ^ 64 - 1 → result.1 ≡ false }
+    {
+        let mut looks = 0u64;
+        let course = self.steps(alloc, course, visits, &mut looks, watch);
+        match course {
+            Course::Doubles(doubling) if visits != u64::MAX => self.round_of(doubling, watch),
+            Course::Searches(searching) if visits != u64::MAX => {
+                self.round_beside(searching, watch)
+            }
+            _ => (
+                Course::Rounds,
+                self.last_rounds(alloc, visits, &mut looks, watch),
+            ),
+        }
+    }
+
+    /// Takes the steps of a course until it is rounds, or so many visits are made.
+    #[tactic(auto, using(crate::proofs::PlayLemmas::rise_more))]
+    fn steps<W: Watch>(
+        &mut self,
+        alloc: Global,
+        course: Course,
+        visits: u64,
+        looks: &mut u64,
+        watch: &mut W,
+    ) -> Course
+        requires { IsCourse self.old.game self.old.fired course }
+        ensures same { self.new.game ≡ self.old.game }
+        ensures rises { OnlyRise self.old.fired self.new.fired }
+        ensures course { IsCourse self.old.game self.new.fired result }
+    {
+        let mut course = course;
+        'steps: for _ in 0..u64::MAX {
+            if *looks >= visits {
+                return course;
+            }
+            course = match course {
+                Course::Begins => self.begin(),
+                Course::WorkList(left) => self.work_off_part(alloc, left, looks),
+                Course::FewChips(left) => self.play_part(alloc, left, looks, watch),
+                Course::Doubles(doubling) => self.double(alloc, doubling, looks, watch),
+                Course::Searches(searching) => self.search_on(alloc, searching, looks, watch),
+                Course::Rounds => return Course::Rounds,
+            };
+        }
+        course
+    }
+
+    /// Makes rounds until one fires no vertex or so many visits are made, one round at least; whether each fired one.
+    #[tactic(auto, using(crate::proofs::LooksLemmas::goes_after))]
+    fn last_rounds<W: Watch>(
+        &mut self,
+        alloc: Global,
+        visits: u64,
+        looks: &mut u64,
+        watch: &mut W,
+    ) -> bool
+        ensures same { self.new.game ≡ self.old.game }
+        ensures round { GoesRound self.old.game self.old.fired self.new.chips self.new.fired result }
+        ensures whole { visits ≡ 2 ^ 64 - 1 → result ≡ false }
+    {
+        let part = visits.saturating_sub(*looks).min(STRETCH);
+        if !self.stretch(alloc, part, looks, watch) {
+            return false;
+        }
+        'stretches: while *looks < visits || visits == u64::MAX {
+            if !self.stretch(alloc, STRETCH, looks, watch) {
+                return false;
+            }
+        }
+        true
+    }
+}

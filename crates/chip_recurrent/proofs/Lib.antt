@@ -4,3 +4,4 @@ pub mod BurningLemmas
 pub mod RowLemmas
 pub mod EquivalentLemmas
 pub mod RecurrentLemmas
+pub mod DrawnLemmas

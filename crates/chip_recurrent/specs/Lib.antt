@@ -7,3 +7,4 @@ pub mod Burning
 pub mod Rows
 pub mod Recurrents
 pub mod Representatives
+pub mod Drawn

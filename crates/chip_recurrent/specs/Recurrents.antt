@@ -5,7 +5,7 @@ use Rattle.chip_sequence.specs.Firing.{IsStable}
 use Rattle.chip_group.specs.Recurrent.{IsRecurrent}
 use Rattle.chip_recurrent.specs.Stabilizations.{StabilizesWithin, IsFaultOfRow}
 use Rattle.chip_recurrent.specs.Burning.{IsLeastScript, burning_start}
-use Rattle.chip_recurrent.specs.Rows.{row, IsFirstFault}
+use Rattle.chip_recurrent.specs.Rows.{row, IsFirstRowFault}
 use Rattle.chip_recurrent.specs.declared.fault.RowFault.{RowFault}
 use Rattle.chip_recurrent.specs.declared.fault.RowFault.TheVariants.{NoMemory}
 
@@ -37,7 +37,7 @@ pub record AreTestedBy (G : Multigraph) (b : ℕ → ℕ) (chips : List ℕ) (co
 abbrev pub IsFirstFaultOfTests : Multigraph → (b : ℕ → ℕ) → List ℕ → ℕ → RowFault → Type 0
 IsFirstFaultOfTests G b chips count fault =
     (fault ≡ NoMemory)
-    ⊎ IsFirstFault count (λ i. (flag : ℕ) × IsTested G b (configuration G chips i) flag)
+    ⊎ IsFirstRowFault count (λ i. (flag : ℕ) × IsTested G b (configuration G chips i) flag)
     (λ i. IsFaultOfTest G b (configuration G chips i) i fault)
 
 -- the flags of `count` rows, by the chips of the least burning script, which is found within the limits

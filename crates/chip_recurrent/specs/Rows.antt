@@ -6,5 +6,5 @@ abbrev pub row : ℕ → List ℕ → ℕ → List ℕ
 row n numbers i = take n (drop (i * n) numbers)
 
 -- of `count` rows one is the first that is not done, and it has the fault
-abbrev pub IsFirstFault : ℕ → (ℕ → Type 0) → (ℕ → Type 0) → Type 0
-IsFirstFault count IsDone HasFault = (i : ℕ) × (i < count) × ((j : ℕ) → j < i → IsDone j) × HasFault i
+abbrev pub IsFirstRowFault : ℕ → (ℕ → Type 0) → (ℕ → Type 0) → Type 0
+IsFirstRowFault count IsDone HasFault = (i : ℕ) × (i < count) × ((j : ℕ) → j < i → IsDone j) × HasFault i

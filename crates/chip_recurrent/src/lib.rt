@@ -6,6 +6,7 @@
 
 pub use burning::{Burning, burning_script};
 pub use classes::{Form, Represented, identity, representative_of, representatives};
+pub use drawn::random_recurrents;
 pub use fault::RowFault;
 pub use recurrent::are_recurrent;
 pub use rows::agree_off_sink;
@@ -13,7 +14,9 @@ pub use stabilization::{Stabilized, stabilized_sum};
 
 mod burning;
 mod classes;
+mod drawn;
 mod fault;
 mod recurrent;
 mod rows;
 mod stabilization;
+mod tree;

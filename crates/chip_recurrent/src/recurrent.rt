@@ -58,14 +58,14 @@ fn each_test(
 
 /// A graph, and whether a configuration on it is recurrent.
 #[derive(Drop)]
-struct Tested {
-    graph: Graph,
+pub(crate) struct Tested {
+    pub graph: Graph,
     /// 1 if it is, else 0.
-    flag: u64,
+    pub flag: u64,
 }
 
 /// Whether this row is recurrent: stable, and with the chips of a burning script its own stabilization.
-fn burning_test(
+pub(crate) fn burning_test(
     alloc: Global,
     graph: Graph,
     burning: &[u64],

@@ -2,7 +2,7 @@
 -- A new actor stands for the opening of its vertex.
 use Rattle.chip_actor.proofs.Names.{◌≡◌, ℕ, zero, suc, get_or, ◌+◌, ◌<◌, eqb, List, [], ◌∷◌, length, map, None, refl}
 use Rattle.chip_actor.proofs.Names.{sym, ◌∙◌, arith, Contains, get_or_default, edges_out, degree, Setting, IsSetting}
-use Rattle.chip_actor.proofs.Names.{tested_none, new_head, Books, IsSound, IsFresh, stand_in_order, all_edges}
+use Rattle.chip_actor.proofs.Names.{tested_none, new_head, Books, IsSound, AreFreshBooks, stand_in_order, all_edges}
 use Rattle.chip_actor.proofs.Names.{tail_of, opening_part, first_put, OutEnds, InEnds, on_edge, no_out, fresh_out}
 use Rattle.chip_actor.proofs.Names.{IsFreshOuts, IsFreshIns, Actor, StandsFor, opening_keeps, first_few, outs_rise}
 use Rattle.chip_actor.proofs.Names.{ins_rise, among_new_outs, among_new_ins, nat_tests}
@@ -20,7 +20,7 @@ made_end {T} none f xs e (k, l, at) = by_place xs k l (rw (get_or_default xs k 0
 module _ (g : Setting) (v : ℕ) (setting : IsSetting g) (vertex : v < g.game.graph.vertices) (os : OutEnds) (is : InEnds)
     (b : Books)
     (outs : IsFreshOuts g.game.graph g.ring v os) (ins : IsFreshIns g.game.graph g.ring v is)
-    (fresh : IsFresh b is.edges (edges_out g.game.graph v)) (sound : IsSound b) where
+    (fresh : AreFreshBooks b is.edges (edges_out g.game.graph v)) (sound : IsSound b) where
   pub opens : (a : Actor) → a
       ≡ (let n : Actor = record {
         vertex = v;

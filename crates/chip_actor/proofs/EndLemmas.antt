@@ -6,7 +6,7 @@ use Rattle.chip_actor.proofs.Names.{◌≤◌, cond, eqb, List, [], ◌∷◌, �
 use Rattle.chip_actor.proofs.Names.{Some, None, refl, sym, arith, dite, dec_lt, Slot, IsSlotOf, ascends}
 use Rattle.chip_actor.proofs.Names.{Message, HeadState, TailState, message_claimed, tail_after_claim, tail_after_clear}
 use Rattle.chip_actor.proofs.Names.{head_after_take, new_head, on_edge, OutEnd, OutEnds, InEnds, no_out, out_on, in_on}
-use Rattle.chip_actor.proofs.Names.{AreApart, ChangesOut, ChangesIn, outs_of, ins_of, out_after_claim}
+use Rattle.chip_actor.proofs.Names.{AreApart, ChangesOut, ChangesIn, out_ends_of, in_ends_of, out_after_claim}
 use Rattle.chip_actor.proofs.Names.{IsStrictlyIncreasing}
 use Rattle.chip_actor.proofs.LookupsLemmas.{on_edge_at, on_edge_changed}
 
@@ -64,34 +64,34 @@ same_numbers number ts i old new within was same =
     let kept : number new ≡ get_or (map number ts) i 0 = cc in rw (map-set, kept) (set-get_or (map number ts) i 0)
 
 -- an end that is written at a slot
-module _ {ends : List OutEnd} {now : OutEnds} (same : outs_of ends ≡ now) (apart : AreApart (outs_of ends).edges ends)
+module _ {ends : List OutEnd} {now : OutEnds} (same : out_ends_of ends ≡ now) (apart : AreApart (out_ends_of ends).edges ends)
     {slot : Slot} (at : IsSlotOf now.edges slot) {old : OutEnd} (was : old ≡ get_or ends slot.index old) (new : OutEnd)
     (keeps : new.link.edge ≡ old.link.edge) where
-  numbers_out : (outs_of (set ends slot.index new)).edges ≡ (outs_of ends).edges
+  numbers_out : (out_ends_of (set ends slot.index new)).edges ≡ (out_ends_of ends).edges
   numbers_out = same_numbers (λ (o : OutEnd). o.link.edge) ends slot.index old new
-      (let l = (at_out {os = outs_of ends} same apart at was).within in let one = apart.one_each in omega arith) was keeps
+      (let l = (at_out {os = out_ends_of ends} same apart at was).within in let one = apart.one_each in omega arith) was keeps
 
   pub written_out : (f : OutEnd → OutEnd) → new ≡ f old
-      → ChangesOut now (outs_of (set ends slot.index new)) slot.edge f
-  written_out f is = rw numbers_out (changes_out {os = outs_of ends} same apart at was f is)
+      → ChangesOut now (out_ends_of (set ends slot.index new)) slot.edge f
+  written_out f is = rw numbers_out (changes_out {os = out_ends_of ends} same apart at was f is)
 
-  pub apart_out : AreApart (outs_of (set ends slot.index new)).edges (set ends slot.index new)
-  apart_out = named_apart (λ (o : OutEnd). o.link.edge) (set ends slot.index new) (outs_of ends).edges numbers_out
+  pub apart_out : AreApart (out_ends_of (set ends slot.index new)).edges (set ends slot.index new)
+  apart_out = named_apart (λ (o : OutEnd). o.link.edge) (set ends slot.index new) (out_ends_of ends).edges numbers_out
       apart.ascending
 
-module _ {ends : List HeadState} {now : InEnds} (same : ins_of ends ≡ now) (apart : AreApart (ins_of ends).edges ends)
+module _ {ends : List HeadState} {now : InEnds} (same : in_ends_of ends ≡ now) (apart : AreApart (in_ends_of ends).edges ends)
     {slot : Slot} (at : IsSlotOf now.edges slot) {old : HeadState} (was : old ≡ get_or ends slot.index old)
     (new : HeadState) (keeps : new.edge ≡ old.edge) where
-  numbers_in : (ins_of (set ends slot.index new)).edges ≡ (ins_of ends).edges
+  numbers_in : (in_ends_of (set ends slot.index new)).edges ≡ (in_ends_of ends).edges
   numbers_in = same_numbers (λ (h : HeadState). h.edge) ends slot.index old new
-      (let l = (at_in {is = ins_of ends} same apart at was).within in let one = apart.one_each in omega arith) was keeps
+      (let l = (at_in {is = in_ends_of ends} same apart at was).within in let one = apart.one_each in omega arith) was keeps
 
   pub written_in : (f : HeadState → HeadState) → new ≡ f old
-      → ChangesIn now (ins_of (set ends slot.index new)) slot.edge f
-  written_in f is = rw numbers_in (changes_in {is = ins_of ends} same apart at was f is)
+      → ChangesIn now (in_ends_of (set ends slot.index new)) slot.edge f
+  written_in f is = rw numbers_in (changes_in {is = in_ends_of ends} same apart at was f is)
 
-  pub apart_in : AreApart (ins_of (set ends slot.index new)).edges (set ends slot.index new)
-  apart_in = named_apart (λ (h : HeadState). h.edge) (set ends slot.index new) (ins_of ends).edges numbers_in
+  pub apart_in : AreApart (in_ends_of (set ends slot.index new)).edges (set ends slot.index new)
+  apart_in = named_apart (λ (h : HeadState). h.edge) (set ends slot.index new) (in_ends_of ends).edges numbers_in
       apart.ascending
 
 -- no step of a tail changes which edge it is an end of

@@ -11,3 +11,5 @@ pub mod MediumLemmas
 pub mod TurnOverLemmas
 pub mod LoopLemmas
 pub mod SendLemmas
+pub mod RootLemmas
+pub mod FeedLemmas

@@ -11,7 +11,7 @@ use Rattle.chip_actor.proofs.Names.{Cause, cause, Take, Ack, Fire, Clear, Claim,
 use Rattle.chip_actor.proofs.Names.{Done, Got, Sent, Empty, Full, Sealed, OutEnd, OutEnds, InEnds, out_on}
 use Rattle.chip_actor.proofs.Names.{in_on, ChangesOut, ChangesOuts, ChangesIn, out_after_clear, out_after_claim}
 use Rattle.chip_actor.proofs.Names.{out_after_put, out_after_fire, Actor, SomePart, WhateverPart}
-use Rattle.chip_actor.proofs.Names.{is_passive_now, Makes, CanDo, rules_met, at_most_one}
+use Rattle.chip_actor.proofs.Names.{is_passive_now, ActorMakes, CanDo, rules_met, at_most_one}
 use Rattle.chip_actor.proofs.StandingLemmas.{out_inside, may_ack_is, few_fired}
 use Rattle.chip_actor.proofs.SteppingLemmas.{takes, takes_none, settles, acknowledges, halts, clears, may_look, claims}
 use Rattle.chip_actor.proofs.SteppingLemmas.{is_refused, puts, fires}
@@ -27,7 +27,7 @@ message_seen seen h m is none = grind (arith, nat_tests)
 pub take_made : (a : Actor) (e seen : ℕ) (is : InEnds) (b : Books) (m : Message)
     → ChangesIn a.ins is e (head_after_take seen) → Some m ≡ message_taken seen (in_on a.ins e) → Gets a.detect b e
     → IsSound b
-    → Makes a (record a { chips = a.chips + seen; ins = is; detect = b }) (Take e) seen (Got m)
+    → ActorMakes a (record a { chips = a.chips + seen; ins = is; detect = b }) (Take e) seen (Got m)
 take_made a e seen is b m change message gets sound = λ g s stands can.
     let some = message_seen seen (in_on a.ins e) m message in
     let fits = can.2 some in
@@ -39,7 +39,7 @@ take_made a e seen is b m change message gets sound = λ g s stands can.
     )
 
 pub take_empty : (a : Actor) (e seen : ℕ) (is : InEnds) → ChangesIn a.ins is e (head_after_take seen)
-    → None ≡ message_taken seen (in_on a.ins e) → Makes a (record a { ins = is }) (Take e) seen Empty
+    → None ≡ message_taken seen (in_on a.ins e) → ActorMakes a (record a { ins = is }) (Take e) seen Empty
 take_empty a e seen is change message = λ g s stands can.
     let none : seen ≡ 0 = grind (arith, nat_tests) in
     (takes_none g s a stands e seen none is change, grind (arith, nat_tests), refl)
@@ -47,7 +47,7 @@ take_empty a e seen is change message = λ g s stands can.
 -- ---- a settle
 
 pub settle_made : (a : Actor) (e seen more : ℕ) (b : Books) → more ≡ seen - settled_of a.detect e
-    → Settles a.detect b e more → IsSound b → Makes a (record a { detect = b }) (Settle e) seen (Done more)
+    → Settles a.detect b e more → IsSound b → ActorMakes a (record a { detect = b }) (Settle e) seen (Done more)
 settle_made a e seen more b is change sound = λ g s stands can. (
   settles g s a stands e seen can.0 can.1 b (rw (← is) change) sound,
   rw (is, stands.books.settled e can.0) refl,
@@ -57,7 +57,7 @@ settle_made a e seen more b is change sound = λ g s stands can. (
 -- ---- an acknowledgement
 
 pub ack_made : (a : Actor) (e seen count : ℕ) (b : Books) → count ≡ detector.may_ack a.detect e (is_passive_now a)
-    → Acknowledges a.detect b e count → IsSound b → Makes a (record a { detect = b }) (Ack e) seen (Done count)
+    → Acknowledges a.detect b e count → IsSound b → ActorMakes a (record a { detect = b }) (Ack e) seen (Done count)
 ack_made a e seen count b is change sound = λ g s stands can.
     let all = is ∙ may_ack_is g s a stands e can.0 in
     let within : count ≤ books.owed a.detect e =
@@ -72,7 +72,7 @@ ack_made a e seen count b is change sound = λ g s stands can.
 -- ---- a halt
 
 pub halt_made : (a : Actor) (seen : ℕ) (halt : Option Cause) (n : ℕ) → WhateverPart a (λ g s. halt ≡ cause g a.vertex s)
-    → n ≡ (if eqb a.refused 0 then 1 else 0) → Makes a (record a { halt = halt }) (Halt a.vertex) seen (Done n)
+    → n ≡ (if eqb a.refused 0 then 1 else 0) → ActorMakes a (record a { halt = halt }) (Halt a.vertex) seen (Done n)
 halt_made a seen halt n is reply = λ g s stands can. (
   halts g s a stands a.vertex seen refl can.1 halt (is g s stands),
   rw (reply, stands.refused) refl,
@@ -87,7 +87,7 @@ clear_reply (Some words) = Done words.0
 
 pub clear_made : (a : Actor) (e seen : ℕ) (os : OutEnds) (words : Option (ℕ × ℕ))
     → words ≡ claim_words (tail_after_clear seen (out_on a.outs e).link) → ChangesOut a.outs os e (out_after_clear seen)
-    → Makes a (record a { outs = os }) (Clear e) seen (clear_reply words)
+    → ActorMakes a (record a { outs = os }) (Clear e) seen (clear_reply words)
 clear_made a e seen os words is change = λ g s stands can.
     let link : Tail = (s.out e).link in
     let looked = Rattle.chip_link.proofs.StatesLemmas.tail_clears e g.ring link seen
@@ -151,7 +151,7 @@ may_claim a e seen (g, s, stands, can) =
 pub claim_made : (a : Actor) (e seen : ℕ) (os : OutEnds) (b : Books) (m : Message)
     → ChangesOut a.outs os e (out_after_claim seen)
     → Some m ≡ message_claimed seen (out_on a.outs e).pending (out_on a.outs e).link → Sends a.detect b e → IsSound b
-    → Makes a (record a { outs = os; detect = b; pending = a.pending - m.count; unput = a.unput + 1 }) (Claim e) seen
+    → ActorMakes a (record a { outs = os; detect = b; pending = a.pending - m.count; unput = a.unput + 1 }) (Claim e) seen
     (Sent m)
 claim_made a e seen os b m change message sends sound = λ g s stands can.
     let n : ℕ = claims_of (s.out e).link in
@@ -164,7 +164,7 @@ claim_made a e seen os b m change message sends sound = λ g s stands can.
 
 pub claim_sealed : (a : Actor) (e seen : ℕ) (os : OutEnds) → ChangesOut a.outs os e (out_after_claim seen)
     → None ≡ message_claimed seen (out_on a.outs e).pending (out_on a.outs e).link
-    → Makes a (record a { outs = os; refused = a.refused + 1 }) (Claim e) seen Sealed
+    → ActorMakes a (record a { outs = os; refused = a.refused + 1 }) (Claim e) seen Sealed
 claim_sealed a e seen os change message = λ g s stands can.
     let n : ℕ = claims_of (s.out e).link in
     let here = stands.outs e can.0 in let miss : seen ≢ n = (λ z. grind (arith, nat_tests)) in
@@ -184,7 +184,7 @@ some_unput a e seen (g, s, stands, can) =
 
 pub put_made : (a : Actor) (e seen : ℕ) (os : OutEnds) (held : ℕ × ℕ) → put_of (out_on a.outs e).link ≡ Some held
     → ChangesOut a.outs os e out_after_put
-    → Makes a (record a { outs = os; unput = a.unput - 1 }) (Put e) seen (Done held.1)
+    → ActorMakes a (record a { outs = os; unput = a.unput - 1 }) (Put e) seen (Done held.1)
 put_made a e seen os held is change = λ g s stands can.
     let met = rules_met g (Put e) s can.1 in
     let count : ℕ = met.1.0 in
@@ -212,7 +212,7 @@ fire_fits a k seen (g, s, stands, can) e among =
     omega arith
 
 pub fire_made : (a : Actor) (k seen : ℕ) (os : OutEnds) → ChangesOuts a.outs os (out_after_fire k)
-    → Makes a (record a { chips = a.chips - k * a.degree; fired = a.fired + k; outs = os; pending = k * a.degree })
+    → ActorMakes a (record a { chips = a.chips - k * a.degree; fired = a.fired + k; outs = os; pending = k * a.degree })
     (Fire a.vertex k) seen (Done (a.fired + k))
 fire_made a k seen os change = λ g s stands can. (
   fires g s a stands a.vertex k seen refl can.1 os change,

@@ -3,9 +3,9 @@
 use Rattle.chip_actor.proofs.Names.{nat_tests, ◌≡◌, ◌≢◌, ℕ, ◌+◌, ◌*◌, ◌^◌, ◌<◌, ◌≤◌, Bool, cond, List, [], ◌∷◌, ◌++◌}
 use Rattle.chip_actor.proofs.Names.{reverse, length, Some, None, refl, sym, ◌∙◌, subst, arith, append_assoc}
 use Rattle.chip_actor.proofs.Names.{reverse-append, Setting, Act, Part, Event, unmet_rule, Reply, Step, part_of, does}
-use Rattle.chip_actor.proofs.Names.{saw, act_of, event_of, CanDo, IsDue, Makes, Actor, StandsFor, SomePart}
+use Rattle.chip_actor.proofs.Names.{saw, act_of, event_of, CanDo, IsOperationDue, ActorMakes, Actor, StandsFor, SomePart}
 use Rattle.chip_actor.proofs.Names.{WhateverPart, Cursor, IsAt, GoesBy, most_left, DueAt, MayBeAt, is_work, Holding}
-use Rattle.chip_actor.proofs.Names.{IsDueBy, MayServe, Serves, Meets, GoesOn, Moves, MakesTurnOver, AreOf, Passes}
+use Rattle.chip_actor.proofs.Names.{IsDueBy, MayServe, Serves, Meets, TurnGoesOn, Moves, MakesTurnOver, AreOf, Passes}
 use Rattle.chip_actor.proofs.Names.{event_of_act, act_is_some, in_edges, out_edges, append-nil}
 use Rattle.chip_part.specs.declared.cursor.Cursor.TheVariants as At
 use Rattle.chip_part.specs.declared.act.Act.TheVariants as Do
@@ -31,7 +31,7 @@ moves_on {H} {K} {L} {a} {b} {c} {x} {y} {z} {n} {m} first second = record {
       let go = one.2 in
       let v : ℕ = a.vertex in
       let then = subst (λ (w : ℕ). (xs : List Step) (t : Part) → K g w xs t → StandsFor g t b → IsAt g w y t
-      → (more : List Step) × (u : Part) × GoesOn L g w xs t y c z m more u) go.vertex (second.goes g) in
+      → (more : List Step) × (u : Part) × TurnGoesOn L g w xs t y c z m more u) go.vertex (second.goes g) in
       let two = then (reverse one.0 ++ ds) one.1 go.held go.stands go.fits in (
         one.0 ++ two.0,
         two.1,
@@ -110,7 +110,7 @@ may_serve {H} {a} (g, ds, s, held, stands, at) due = (g, a.vertex, ds, s, held, 
 
 -- what it answers fits
 pub can_apply : {H K : Holding} {a : Actor} {x y : Cursor} {act : Act} {seen : ℕ} → Meets H a x → DueBy a x act y
-    → Serves H K act seen → SomePart a (λ g s. IsDue g s a.vertex (record { act = act; seen = seen }))
+    → Serves H K act seen → SomePart a (λ g s. IsOperationDue g s a.vertex (record { act = act; seen = seen }))
 can_apply {H} {K} {a} (g, ds, s, held, stands, at) due serves =
     let by = due_by due g s stands at in
     (g, s, stands, ((by.mine, by.met, (serves g a.vertex ds s held by).fits), by.needed))
@@ -123,7 +123,7 @@ can_do {H} {K} {a} {x} {y} {act} {seen} meets due serves =
 
 -- one step
 pub moves_one : {H K : Holding} {a b : Actor} {x y : Cursor} {act : Act} {seen : ℕ} {r : Reply} {n : ℕ}
-    → DueBy a x act y → Serves H K act seen → Makes a b (event_of a.vertex act) seen r → n ≡ one_if (is_work act r)
+    → DueBy a x act y → Serves H K act seen → ActorMakes a b (event_of a.vertex act) seen r → n ≡ one_if (is_work act r)
     → Moves H a x K b y n
 moves_one {H} {K} {a} {b} {x} {y} {act} {seen} {r} {n} due serves makes is = record {
   goes = λ g ds s held stands at.

@@ -37,7 +37,7 @@ pub use Rattle.chip_detect.proofs.ListLemmas.{not_some}
 pub use Rattle.chip_detect.proofs.LookupsLemmas.{ascends, Ascends, ascends_tail, not_in_front}
 pub use Rattle.chip_detect.proofs.SoundnessLemmas.{parent_goes_with_all}
 pub use Rattle.chip_detect.specs.Acknowledging.{acknowledgeable_count, is_parent}
-pub use Rattle.chip_detect.specs.Books.{Books, IsSound, IsFresh, in_edges, out_edges, got_of, sent_of, settled_of}
+pub use Rattle.chip_detect.specs.Books.{Books, IsSound, AreFreshBooks, in_edges, out_edges, got_of, sent_of, settled_of}
 pub use Rattle.chip_detect.specs.Slot.{IsSlotOf}
 pub use Rattle.chip_detect.specs.Steps.{Gets, Acknowledges, Settles, Sends}
 pub use Rattle.chip_detect.specs.Tally.{message_limit, edges_of}
@@ -56,13 +56,13 @@ pub use Rattle.chip_part.proofs.TurnStepsLemmas.{send_due, sends_to, sends_over,
 pub use Rattle.chip_part.proofs.TurnStepsLemmas.{stop_due, no_limit_due, ack_due, acks_to, acks_over, no_parent}
 pub use Rattle.chip_part.proofs.TurnStepsLemmas.{parent_due, no_parent_due, may_fire_pays, limit_due, put_due}
 pub use Rattle.chip_part.proofs.TurnStepsLemmas.{refusal_due, refusal_over}
-pub use Rattle.chip_part.specs.Acting.{act_of, event_of, CanDo, IsDue}
+pub use Rattle.chip_part.specs.Acting.{act_of, event_of, CanDo, IsOperationDue}
 pub use Rattle.chip_part.specs.Counting.{is_work}
 pub use Rattle.chip_part.specs.Cursor.{IsAt, GoesBy, most_left, out_at}
 pub use Rattle.chip_part.specs.Edges.{all_edges, tail_of, mult_of, graph_edges, root_edge, head_of, over_outs}
 pub use Rattle.chip_part.specs.Kept.{KeepsPart}
-pub use Rattle.chip_part.specs.Part.{opening_part, first_put, Part, cause, is_by_limit, owed, outstanding, deficit}
-pub use Rattle.chip_part.specs.Part.{all_owed, is_legal, is_passive, may_ack, Out, refusals}
+pub use Rattle.chip_part.specs.Part.{opening_part, first_put, Part, cause, is_by_limit, owed_on, outstanding_on, deficit_of}
+pub use Rattle.chip_part.specs.Part.{owed_by, is_legal, is_passive, may_ack_on, Out, refusals}
 pub use Rattle.chip_part.specs.Rules.{Event, unmet_rule, Take, Ack, Fire, Clear, Claim, Put, Halt, Settle}
 pub use Rattle.chip_part.specs.Setting.{Setting, IsSetting, setting_with}
 pub use Rattle.chip_part.specs.Steps.{part_of, message_of, does, saw, Step, link_after, pending_after, got_after}
@@ -72,12 +72,12 @@ pub use Rattle.chip_part.specs.declared.cause.Cause.{Cause}
 pub use Rattle.chip_part.specs.declared.cursor.Cursor.{Cursor}
 pub use Rattle.chip_part.specs.declared.reply.Reply.{Reply}
 pub use Rattle.chip_part.specs.declared.reply.Reply.TheVariants.{Done, Got, Sent, Empty, Full, Sealed}
-pub use Rattle.chip_actor.specs.Actor.{Actor, StandsFor, is_passive_now, SomePart, WhateverPart, Makes, with_sent}
+pub use Rattle.chip_actor.specs.Actor.{Actor, StandsFor, is_passive_now, SomePart, WhateverPart, ActorMakes, with_sent}
 pub use Rattle.chip_actor.specs.Actor.{is_legal_now, KnowsGame, KeepsBooks, out_end, with_taken}
 pub use Rattle.chip_actor.specs.Ends.{OutEnd, OutEnds, InEnds, on_edge, no_out, fresh_out, IsFreshOuts, IsFreshIns}
-pub use Rattle.chip_actor.specs.Ends.{out_on, in_on, AreApart, ChangesOut, ChangesIn, outs_of, ins_of, out_after_claim}
+pub use Rattle.chip_actor.specs.Ends.{out_on, in_on, AreApart, ChangesOut, ChangesIn, out_ends_of, in_ends_of, out_after_claim}
 pub use Rattle.chip_actor.specs.Ends.{ChangesOuts, out_after_clear, out_after_put, out_after_fire, with_end}
 pub use Rattle.chip_actor.specs.Ends.{IsFirstFrom}
-pub use Rattle.chip_actor.specs.Medium.{IsDueBy, Holding, MayServe, Serves, Meets, Moves, GoesOn, MakesTurnOver, AreOf}
+pub use Rattle.chip_actor.specs.Medium.{IsDueBy, Holding, MayServe, Serves, Meets, Moves, TurnGoesOn, MakesTurnOver, AreOf}
 pub use Rattle.chip_actor.specs.Turning.{DueAt, MayBeAt}
 pub use Rattle.chip_actor.specs.contracts.actor.ActorState.{the_view}

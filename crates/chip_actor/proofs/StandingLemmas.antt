@@ -4,8 +4,8 @@ use Rattle.chip_actor.proofs.Names.{refl, nat_tests, ◌≡◌, ℕ, ◌<◌, �
 use Rattle.chip_actor.proofs.Names.{length, Option, is_some, is_none, ap, ◌∙◌, arith, dite, dec_lt, Contains, sum_by}
 use Rattle.chip_actor.proofs.Names.{sum_by-append, edge_at, edges_out, edges_in, Setting, tested_ext, picked_sum}
 use Rattle.chip_actor.proofs.Names.{in_edges, out_edges, acknowledgeable_count, message_limit, graph_edges, all_edges}
-use Rattle.chip_actor.proofs.Names.{root_edge, tail_of, head_of, Cause, Part, owed, outstanding, deficit, all_owed}
-use Rattle.chip_actor.proofs.Names.{is_legal, is_passive, may_ack, Actor, StandsFor, is_legal_now, is_passive_now}
+use Rattle.chip_actor.proofs.Names.{root_edge, tail_of, head_of, Cause, Part, owed_on, outstanding_on, deficit_of, owed_by}
+use Rattle.chip_actor.proofs.Names.{is_legal, is_passive, may_ack_on, Actor, StandsFor, is_legal_now, is_passive_now}
 use Rattle.chip_actor.proofs.Names.{tail_graph, head_graph, head_root, over_outs_graph, over_ins_graph, tail_inside}
 use Rattle.chip_actor.proofs.Names.{picked_passes, among_new_outs, among_new_ins, All-contains, All-picked}
 use Rattle.chip_detect.specs.Books as books
@@ -46,34 +46,34 @@ module _ (g : Setting) (s : Part) (a : Actor) (stands : StandsFor g s a) where
 
   -- ---- its sums
 
-  pub owed_is : (e : ℕ) → head_of g e ≡ a.vertex → books.owed a.detect e ≡ owed (s.into e)
+  pub owed_is : (e : ℕ) → head_of g e ≡ a.vertex → books.owed a.detect e ≡ owed_on (s.into e)
   owed_is e at = let x = stands.books.got e at in let y = stands.books.acked e at in omega arith
 
-  pub outstanding_is : (e : ℕ) → tail_of g e ≡ a.vertex → books.outstanding a.detect e ≡ outstanding (s.out e)
+  pub outstanding_is : (e : ℕ) → tail_of g e ≡ a.vertex → books.outstanding a.detect e ≡ outstanding_on (s.out e)
   outstanding_is e at = let x = stands.books.sent e at in let y = stands.books.settled e at in omega arith
 
-  pub deficit_is : books.deficit a.detect ≡ deficit g a.vertex s
+  pub deficit_is : books.deficit a.detect ≡ deficit_of g a.vertex s
   deficit_is =
       let test : ℕ → Bool = λ e. eqb (edge_at g.game.graph e).tail a.vertex in
       let all = ap (sum_by (books.outstanding a.detect)) stands.knows.detect_outs in
       let own = picked_sum (books.outstanding a.detect) test (graph_edges g) in
-      let each = tested_ext (graph_edges g) test (books.outstanding a.detect) (λ e. outstanding (s.out e))
+      let each = tested_ext (graph_edges g) test (books.outstanding a.detect) (λ e. outstanding_on (s.out e))
       (λ e l on. outstanding_is e (rw (tail_graph g e l) (Rattle.std.proofs.Common.eqb-true _ _ on))) in
-      let sum = over_outs_graph g a.vertex stands.knows.vertex (λ e. outstanding (s.out e)) in
+      let sum = over_outs_graph g a.vertex stands.knows.vertex (λ e. outstanding_on (s.out e)) in
       omega arith
 
-  pub all_owed_is : books.all_owed a.detect ≡ all_owed g a.vertex s
+  pub all_owed_is : books.all_owed a.detect ≡ owed_by g a.vertex s
   all_owed_is =
       let v = stands.knows.vertex in
       let split = sum_by-append (books.owed a.detect) (edges_in g.game.graph a.vertex) (root_edge g a.vertex ∷ []) in
       let all = ap (sum_by (books.owed a.detect)) stands.knows.detect_ins in
       let test : ℕ → Bool = λ e. eqb (edge_at g.game.graph e).head a.vertex in
       let own = picked_sum (books.owed a.detect) test (graph_edges g) in
-      let each = tested_ext (graph_edges g) test (books.owed a.detect) (λ e. owed (s.into e))
+      let each = tested_ext (graph_edges g) test (books.owed a.detect) (λ e. owed_on (s.into e))
       (λ e l on. owed_is e (rw (head_graph g e l) (Rattle.std.proofs.Common.eqb-true _ _ on))) in
       let last = owed_is (root_edge g a.vertex) (let h = head_root g (root_edge g a.vertex) (omega arith) in
       omega arith) in
-      let sum = over_ins_graph g a.vertex v (λ e. owed (s.into e)) in
+      let sum = over_ins_graph g a.vertex v (λ e. owed_on (s.into e)) in
       omega arith
 
   pub legal_is : is_legal_now a ≡ is_legal g a.vertex s
@@ -83,7 +83,7 @@ module _ (g : Setting) (s : Part) (a : Actor) (stands : StandsFor g s a) where
   passive_is = rw (stands.unput, stands.halt, stands.pending, legal_is, ← not_running s.halt) refl
 
   pub may_ack_is : (e : ℕ) → head_of g e ≡ a.vertex
-      → detector.may_ack a.detect e (is_passive_now a) ≡ may_ack g (head_of g e) s e
+      → detector.may_ack a.detect e (is_passive_now a) ≡ may_ack_on g (head_of g e) s e
   may_ack_is e at = rw (at) (λ j. acknowledgeable_count e (stands.books.parent j) (owed_is e at j) (all_owed_is j)
       (deficit_is j) (passive_is j))
 

@@ -8,7 +8,7 @@ use Rattle.chip_actor.proofs.Names.{tested_scale, tested_move, tested_term, may_
 use Rattle.chip_actor.proofs.Names.{after_put, tail_state, head_state, tail_clears, tail_claims, tail_puts}
 use Rattle.chip_actor.proofs.Names.{head_takes, edges_of, Books, IsSound, settled_of, is_parent, Gets, Acknowledges}
 use Rattle.chip_actor.proofs.Names.{Sends, Settles, all_edges, tail_of, head_of, mult_of, over_outs, Cause, Part, Out}
-use Rattle.chip_actor.proofs.Names.{may_ack, cause, Event, Take, Ack, Fire, Clear, Claim, Put, Halt, Settle}
+use Rattle.chip_actor.proofs.Names.{may_ack_on, cause, Event, Take, Ack, Fire, Clear, Claim, Put, Halt, Settle}
 use Rattle.chip_actor.proofs.Names.{unmet_rule, part_of, does, link_after, pending_after, got_after, saw, KeepsPart}
 use Rattle.chip_actor.proofs.Names.{OutEnd, OutEnds, InEnds, in_on, ChangesOut, ChangesOuts, ChangesIn}
 use Rattle.chip_actor.proofs.Names.{out_after_clear, out_after_claim, out_after_put, out_after_fire, Actor, KnowsGame}
@@ -116,7 +116,7 @@ module _ (g : Setting) (s : Part) (a : Actor) (stands : StandsFor g s a) where
   -- ---- an acknowledgement
 
   pub acknowledges : (e count : ℕ) → head_of g e ≡ a.vertex → unmet_rule g (Ack e) s ≡ None
-      → count ≡ may_ack g (head_of g e) s e → (b : Books) → Acknowledges a.detect b e count → IsSound b
+      → count ≡ may_ack_on g (head_of g e) s e → (b : Books) → Acknowledges a.detect b e count → IsSound b
       → b.parent ≡ (if is_parent e a.detect.parent && eqb count (Rattle.chip_detect.specs.Books.owed a.detect e)
       then None else a.detect.parent) → (seen : ℕ)
       → StandsFor g (does g (saw (Ack e) seen) s) (record a { detect = b })

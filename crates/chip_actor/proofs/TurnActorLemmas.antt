@@ -2,7 +2,7 @@
 -- What an actor finds in its own lists is what its part says.
 use Rattle.chip_actor.proofs.Names.{refl, nat_tests, ◌≡◌, ℕ, ◌<◌, Bool, false, not, cond, eqb, List, length}
 use Rattle.chip_actor.proofs.Names.{slice_index, Option, Some, None, is_some, option_to_list, option_map, arith}
-use Rattle.chip_actor.proofs.Names.{Setting, claim_words, put_of, tail_of, head_of, Part, may_ack, out_on}
+use Rattle.chip_actor.proofs.Names.{Setting, claim_words, put_of, tail_of, head_of, Part, may_ack_on, out_on}
 use Rattle.chip_actor.proofs.Names.{IsFirstFrom, Actor, StandsFor, is_passive_now, out_end, out_at, in_enters}
 use Rattle.chip_actor.proofs.Names.{out_leaves}
 use Rattle.chip_part.specs.Turn.{ins_of, outs_of}
@@ -69,10 +69,10 @@ module _ (g : Setting) (s : Part) (a : Actor) (stands : StandsFor g s a) where
 
   pub first_owed : (from : ℕ) (r : Option ℕ)
       → IsFirstFrom (λ e. not (eqb (detector.may_ack a.detect e (is_passive_now a)) 0)) a.ins.edges from r
-      → IsFirstFrom (λ e. not (eqb (may_ack g (head_of g e) s e) 0)) (ins_of g a.vertex) from r
+      → IsFirstFrom (λ e. not (eqb (may_ack_on g (head_of g e) s e) 0)) (ins_of g a.vertex) from r
   first_owed from r first =
       first_same (λ e. not (eqb (detector.may_ack a.detect e (is_passive_now a)) 0))
-      (λ e. not (eqb (may_ack g (head_of g e) s e) 0)) (ins_of g a.vertex)
+      (λ e. not (eqb (may_ack_on g (head_of g e) s e) 0)) (ins_of g a.vertex)
       (λ k l. rw (may_ack_is g s a stands (slice_index (ins_of g a.vertex) k) (in_enters g a.vertex k l)) refl) from r
       (rw stands.knows.ins at first)
 

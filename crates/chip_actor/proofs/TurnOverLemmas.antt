@@ -4,7 +4,7 @@ use Rattle.chip_actor.proofs.Names.{nat_tests, ◌≡◌, ◌≢◌, ℕ, ◌+�
 use Rattle.chip_actor.proofs.Names.{eqb, [], length, sum, slice_index, Option, Some, None, is_some, is_none}
 use Rattle.chip_actor.proofs.Names.{option_map, option_to_list, refl, sym, ap, ◌∙◌, arith, sum_by-cons, Contains}
 use Rattle.chip_actor.proofs.Names.{Setting, claims_of, head_cell, tail_cell, claim_words, put_of, Slot, IsSlotOf}
-use Rattle.chip_actor.proofs.Names.{tail_of, head_of, out_on, in_on, Part, cause, is_by_limit, may_ack, refusals}
+use Rattle.chip_actor.proofs.Names.{tail_of, head_of, out_on, in_on, Part, cause, is_by_limit, may_ack_on, refusals}
 use Rattle.chip_actor.proofs.Names.{may_fire, batch_of, is_at_limit, out_at, Actor, StandsFor, WhateverPart}
 use Rattle.chip_actor.proofs.Names.{is_passive_now, Holding, Moves, may_le, take_due, takes_over, settle_due}
 use Rattle.chip_actor.proofs.Names.{settles_over, in_enters, out_leaves, fire_due, no_fire_due, puts_over, puts_fit}
@@ -206,11 +206,11 @@ no_limit {H} {a} off = moves_past
 module _ {a : Actor} {slot : Slot} {count : ℕ} (is : IsSlotOf a.ins.edges slot)
     (count-is : count ≡ detector.may_ack a.detect slot.edge (is_passive_now a)) where
   -- the count is the part's
-  part_count : (g : Setting) (s : Part) (stands : StandsFor g s a) → count ≡ may_ack g (head_of g slot.edge) s slot.edge
+  part_count : (g : Setting) (s : Part) (stands : StandsFor g s a) → count ≡ may_ack_on g (head_of g slot.edge) s slot.edge
   part_count g s stands = count-is ∙ may_ack_is g s a stands slot.edge (in_mine stands is)
 
   here_count : (g : Setting) (s : Part) (stands : StandsFor g s a)
-      → (let e : ℕ = slice_index (ins_of g a.vertex) slot.index in count ≡ may_ack g (head_of g e) s e)
+      → (let e : ℕ = slice_index (ins_of g a.vertex) slot.index in count ≡ may_ack_on g (head_of g e) s e)
   here_count g s stands = rw (in_there stands is) (part_count g s stands)
 
   pub ack_by : count ≢ 0 → DueBy a (At.Ack slot.index) (Do.Ack slot.edge count) (At.Ack (slot.index + 1))
@@ -255,7 +255,7 @@ module _ {a : Actor} {edge : ℕ} (parent : a.detect.parent ≡ Some edge) where
       rw (stands.knows.ins, ← stands.knows.detect_ins) (books_in g s a stands edge (parent_mine stands))
 
   module _ {count : ℕ} (count-is : count ≡ detector.may_ack a.detect edge (is_passive_now a)) where
-    parent_count : (g : Setting) (s : Part) (stands : StandsFor g s a) → count ≡ may_ack g (head_of g edge) s edge
+    parent_count : (g : Setting) (s : Part) (stands : StandsFor g s a) → count ≡ may_ack_on g (head_of g edge) s edge
     parent_count g s stands = count-is ∙ may_ack_is g s a stands edge (parent_mine stands)
 
     pub parent_by : count ≢ 0 → DueBy a At.Parent (Do.Ack edge count) At.Over
@@ -284,11 +284,11 @@ nothing_owed {H} {a} off = then_over {y = At.Parent}
     (no_parent_left (not_some a.detect.parent off))
   where
     owes_none : (g : Setting) (s : Part) (a : Actor) (stands : StandsFor g s a) → s.parent ≡ None → (e : ℕ)
-        → head_of g e ≡ a.vertex → may_ack g (head_of g e) s e ≡ 0
+        → head_of g e ≡ a.vertex → may_ack_on g (head_of g e) s e ≡ 0
     owes_none g s a stands none e mine =
         let idle = (stands.kept.neutral stands.knows.vertex none).nothing_owed in
         let one = Rattle.chip_part.proofs.PartLemmas.in_zero g a.vertex
-        (λ i. Rattle.chip_part.specs.Part.owed (s.into i)) idle e
+        (λ i. Rattle.chip_part.specs.Part.owed_on (s.into i)) idle e
         (Rattle.chip_actor.proofs.StandingLemmas.in_inside g s a stands e mine) mine in
         let most = may_le g (head_of g e) e s in
         omega arith

@@ -102,8 +102,8 @@ is_passive_now a = a.unput == 0 && (is_some a.halt || (a.pending == 0 && not (is
 
 -- the actor made this event and answered this: whatever part it stood for, it stands for that part after the event, at
 -- the same vertex
-abbrev pub Makes : Actor → Actor → Event → ℕ → Reply → Type 0
-Makes old new x seen reply =
+abbrev pub ActorMakes : Actor → Actor → Event → ℕ → Reply → Type 0
+ActorMakes old new x seen reply =
     WhateverPart old (λ g s. CanDo g s old.vertex x seen
     → StandsFor g (does g (saw x seen) s) new × (reply ≡ reply_of g x seen s)
     × (new.vertex ≡ old.vertex))

@@ -25,12 +25,12 @@ pub record InEnds : Type 0 where
   pub ends : List HeadState
 
 -- the edges of these ends out of a vertex
-abbrev pub outs_of : List OutEnd → OutEnds
-outs_of ends = record { edges = map (λ (o : OutEnd). o.link.edge) ends; ends = ends }
+abbrev pub out_ends_of : List OutEnd → OutEnds
+out_ends_of ends = record { edges = map (λ (o : OutEnd). o.link.edge) ends; ends = ends }
 
 -- the edges of these ends into a vertex
-abbrev pub ins_of : List HeadState → InEnds
-ins_of ends = record { edges = map (λ (h : HeadState). h.edge) ends; ends = ends }
+abbrev pub in_ends_of : List HeadState → InEnds
+in_ends_of ends = record { edges = map (λ (h : HeadState). h.edge) ends; ends = ends }
 
 -- the edges with this end at an index
 abbrev pub with_end : OutEnds → ℕ → OutEnd → OutEnds

@@ -43,7 +43,7 @@ MeetsEvent held a x = (g : Setting) × (ds : List Step) × (s : Part) × held g 
     × (part_of g x ≡ a.vertex)
 
 -- these steps of the vertex v are held, and the actor b stands for the part that they leave
-pub record Keeps (now : Holding) (g : Setting) (v : ℕ) (ds : List Step) (s : Part) (b : Actor) : Type 0 where
+pub record KeepsSteps (now : Holding) (g : Setting) (v : ℕ) (ds : List Step) (s : Part) (b : Actor) : Type 0 where
   pub held : now g v ds s
   pub stands : StandsFor g s b
   pub vertex : b.vertex ≡ v
@@ -51,8 +51,8 @@ pub record Keeps (now : Holding) (g : Setting) (v : ℕ) (ds : List Step) (s : P
 -- what an event of the vertex v comes to, of whose rules this is the first that isn't met: nothing is made, or the
 -- record is longer by the event
 abbrev pub IsAnswered : Holding → Setting → ℕ → List Step → Part → Event → Actor → Reply → Option Rule → Type 0
-IsAnswered now g v ds s x b reply (Some rule) = Keeps now g v ds s b × (reply ≡ NotNow rule)
-IsAnswered now g v ds s x b reply None = (seen : ℕ) × Keeps now g v (saw x seen ∷ ds) (does g (saw x seen) s) b
+IsAnswered now g v ds s x b reply (Some rule) = KeepsSteps now g v ds s b × (reply ≡ NotNow rule)
+IsAnswered now g v ds s x b reply None = (seen : ℕ) × KeepsSteps now g v (saw x seen ∷ ds) (does g (saw x seen) s) b
     × (reply ≡ reply_of g x seen s)
 
 abbrev pub MakesEvent : Holding → Actor → Event → Holding → Actor → Reply → Type 0

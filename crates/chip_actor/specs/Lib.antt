@@ -3,6 +3,7 @@ pub mod Actor
 pub mod Turning
 pub mod Medium
 pub mod Found
+pub mod Root
 pub use Rattle.chip_part.specs.Acting
 pub use Rattle.chip_part.specs.Counting
 pub use Rattle.chip_part.specs.Cursor

@@ -55,7 +55,7 @@ AreOf g v (x ∷ xs) = (part_of g x.event ≡ v) × AreOf g v xs
 
 -- by these steps a turn of v goes on from one cursor to another, `count` of them count, and the actor b stands for the
 -- part after them
-pub record GoesOn (now : Holding) (g : Setting) (v : ℕ) (ds : List Step) (s : Part) (from : Cursor) (b : Actor)
+pub record TurnGoesOn (now : Holding) (g : Setting) (v : ℕ) (ds : List Step) (s : Part) (from : Cursor) (b : Actor)
     (to : Cursor) (count : ℕ) (more : List Step) (t : Part) : Type 0 where
   pub held : now g v (reverse more ++ ds) t
   pub mine : AreOf g v more
@@ -71,7 +71,7 @@ pub record GoesOn (now : Holding) (g : Setting) (v : ℕ) (ds : List Step) (s : 
 pub record Moves (old : Holding) (a : Actor) (from : Cursor) (new : Holding) (b : Actor) (to : Cursor)
     (count : ℕ) : Type 0 where
   pub goes : (g : Setting) (ds : List Step) (s : Part) → old g a.vertex ds s → StandsFor g s a → IsAt g a.vertex from s
-      → (more : List Step) × (t : Part) × GoesOn new g a.vertex ds s from b to count more t
+      → (more : List Step) × (t : Part) × TurnGoesOn new g a.vertex ds s from b to count more t
 
 -- the record is longer by one whole turn of the vertex, of which `count` steps count, and the actor stands for the part
 -- after it

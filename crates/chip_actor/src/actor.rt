@@ -70,8 +70,8 @@ impl ActorState {
     ghost use Rattle.chip_part.specs.Edges.{tail_of, head_of};
     ghost use Rattle.chip_part.specs.Rules.{unmet_rule};
     ghost use Rattle.chip_part.specs.Steps.{part_of};
-    ghost use Rattle.chip_part.specs.Acting.{act_of, event_of, verdict, CanDo, IsDue};
-    ghost use Rattle.chip_actor.specs.Actor.{Actor, StandsFor, WhateverPart, SomePart, Makes, is_legal_now};
+    ghost use Rattle.chip_part.specs.Acting.{act_of, event_of, verdict, CanDo, IsOperationDue};
+    ghost use Rattle.chip_actor.specs.Actor.{Actor, StandsFor, WhateverPart, SomePart, ActorMakes, is_legal_now};
     ghost use Rattle.chip_actor.specs.Actor.{is_passive_now};
     ghost use Rattle.chip_actor.specs.Ends.{out_on};
     ghost use Rattle.chip_actor.specs.Found.{event_found, IsPlaced};
@@ -362,7 +362,7 @@ impl ActorState {
     fn take(&mut self, slot: Slot, seen: u64) -> Reply
         requires slot { IsSlotOf self.old.ins.edges slot }
         requires can { SomePart self.old (λ g s. CanDo g s self.old.vertex (Take slot.edge) seen) }
-        ensures { Makes self.old self.new (Take slot.edge) seen result }
+        ensures { ActorMakes self.old self.new (Take slot.edge) seen result }
     {
         let Some(message) = self.ins.take(slot, seen) else {
             return Reply::Empty;
@@ -376,14 +376,14 @@ impl ActorState {
     fn settle(&mut self, slot: Slot, seen: u64) -> Reply
         requires slot { IsSlotOf self.old.outs.edges slot }
         requires can { SomePart self.old (λ g s. CanDo g s self.old.vertex (Settle slot.edge) seen) }
-        ensures { Makes self.old self.new (Settle slot.edge) seen result }
+        ensures { ActorMakes self.old self.new (Settle slot.edge) seen result }
     {
         Reply::Done(self.detect.settled_at(slot, seen))
     }
 
     fn fire(&mut self, k: u64, seen: u64) -> Reply
         requires { SomePart self.old (λ g s. CanDo g s self.old.vertex (Fire self.old.vertex k) seen) }
-        ensures { Makes self.old self.new (Fire self.old.vertex k) seen result }
+        ensures { ActorMakes self.old self.new (Fire self.old.vertex k) seen result }
     {
         let cost = k * self.degree;
         self.chips -= cost;
@@ -397,7 +397,7 @@ impl ActorState {
     fn clear(&mut self, slot: Slot, seen: u64) -> Reply
         requires slot { IsSlotOf self.old.outs.edges slot }
         requires can { SomePart self.old (λ g s. CanDo g s self.old.vertex (Clear slot.edge) seen) }
-        ensures { Makes self.old self.new (Clear slot.edge) seen result }
+        ensures { ActorMakes self.old self.new (Clear slot.edge) seen result }
     {
         let Some((place, _)) = self.outs.clear(slot, seen) else {
             return Reply::Full;
@@ -409,7 +409,7 @@ impl ActorState {
     fn claim(&mut self, slot: Slot, seen: u64) -> Reply
         requires slot { IsSlotOf self.old.outs.edges slot }
         requires can { SomePart self.old (λ g s. CanDo g s self.old.vertex (Claim slot.edge) seen) }
-        ensures { Makes self.old self.new (Claim slot.edge) seen result }
+        ensures { ActorMakes self.old self.new (Claim slot.edge) seen result }
     {
         let Some(message) = self.outs.claim(slot, seen) else {
             self.refused += 1;
@@ -425,7 +425,7 @@ impl ActorState {
     fn put(&mut self, slot: Slot, seen: u64) -> Reply
         requires slot { IsSlotOf self.old.outs.edges slot }
         requires can { SomePart self.old (λ g s. CanDo g s self.old.vertex (Put slot.edge) seen) }
-        ensures { Makes self.old self.new (Put slot.edge) seen result }
+        ensures { ActorMakes self.old self.new (Put slot.edge) seen result }
     {
         let (_, count) = self.outs.put(slot).unwrap();
         self.unput -= 1;
@@ -434,7 +434,7 @@ impl ActorState {
 
     fn stop(&mut self, seen: u64) -> Reply
         requires { SomePart self.old (λ g s. CanDo g s self.old.vertex (Halt self.old.vertex) seen) }
-        ensures { Makes self.old self.new (Halt self.old.vertex) seen result }
+        ensures { ActorMakes self.old self.new (Halt self.old.vertex) seen result }
     {
         self.halt = self.cause();
         if self.refused == 0 {
@@ -448,7 +448,7 @@ impl ActorState {
         requires slot { IsSlotOf self.old.ins.edges slot }
         requires count { count ≡ may_ack self.old.detect slot.edge (is_passive_now self.old) }
         requires can { SomePart self.old (λ g s. CanDo g s self.old.vertex (Ack slot.edge) seen) }
-        ensures makes { Makes self.old self.new (Ack slot.edge) seen result }
+        ensures makes { ActorMakes self.old self.new (Ack slot.edge) seen result }
         ensures passive { is_passive_now self.new ≡ is_passive_now self.old }
     {
         self.detect.acked_at(slot, count);
@@ -458,8 +458,8 @@ impl ActorState {
     /// The reply to an operation that was made, and the state after it. The operation is one that `may` gave for this
     /// state, and the word that it saw fits: see `FitsSeen`.
     pub fn apply(&mut self, observed: Observed) -> Reply
-        requires { SomePart self.old (λ g s. IsDue g s self.old.vertex observed) }
-        ensures { Makes self.old self.new (event_of self.old.vertex observed.act) observed.seen result }
+        requires { SomePart self.old (λ g s. IsOperationDue g s self.old.vertex observed) }
+        ensures { ActorMakes self.old self.new (event_of self.old.vertex observed.act) observed.seen result }
     {
         let event = event_of(self.vertex, observed.act);
         let found = self.find(&event);
@@ -471,7 +471,7 @@ impl ActorState {
     fn note(&mut self, found: Found, seen: u64) -> Reply
         requires placed { IsPlaced self.old found }
         requires can { SomePart self.old (λ g s. CanDo g s self.old.vertex (event_found self.old.vertex found) seen) }
-        ensures { Makes self.old self.new (event_found self.old.vertex found) seen result }
+        ensures { ActorMakes self.old self.new (event_found self.old.vertex found) seen result }
     {
         match found {
             Found::Take(slot) => self.take(slot, seen),
@@ -524,7 +524,7 @@ impl ActorState {
 }
 
 ghost use Rattle.chip_graph.specs.Multigraph.{edges_out};
-ghost use Rattle.chip_detect.specs.Books.{IsFresh, IsSound};
+ghost use Rattle.chip_detect.specs.Books.{AreFreshBooks, IsSound};
 ghost use Rattle.chip_actor.specs.Ends.{IsFreshIns};
 
 /// The edges into a vertex, its root edge last, on which nothing was taken, and the books of the neutral vertex.
@@ -536,7 +536,7 @@ fn ins_and_books(
 ) -> Result<(Ins, Detect), AllocError>
     requires { vertex < graph.now.vertices }
     ensures { IfOk result (λ r. IsFreshIns graph.now ring vertex r.0
-        × IsFresh r.1 r.0.edges (edges_out graph.now vertex)
+        × AreFreshBooks r.1 r.0.edges (edges_out graph.now vertex)
         × IsSound r.1) }
 {
     let mut numbers = Vec::from_slice(alloc, graph.ins(vertex))?;

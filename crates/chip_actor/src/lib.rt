@@ -1,14 +1,18 @@
-//! One vertex of a running machine: its state, which events it may make, and a whole turn of it over any medium.
+//! The parts of a running machine. Of a vertex: its state, which events it may make, and a whole turn of it over any
+//! medium. Of the root: what it knows of its messages, and what it feeds if chips may be fed.
 //!
 //! The definitions stand in `specs/`: what an actor keeps, and when it stands for a part of the core (`Actor`), where a
-//! turn of it stands (`Turning`), and whoever makes its operations (`Medium`). The part itself, its events and the
-//! order of a turn are those of `chip_part`.
+//! turn of it stands (`Turning`), whoever makes its operations (`Medium`), and the root (`Root`). The part itself, its events
+//! and the order of a turn are those of `chip_part`.
 #![tactic(auto)]
 
 mod actor;
 mod ends;
+mod feeder;
 mod medium;
+mod root;
 
 pub use actor::ActorState;
 pub use chip_part::{Act, Cause, Cursor, Observed, Reply, Rule};
 pub use medium::Medium;
+pub use root::RootBooks;

@@ -16,7 +16,7 @@ use Rattle.chip_file.specs.GraphText.{MeansGraph, IsGraphTextFault}
 use Rattle.chip_file.specs.declared.fault.FileFault.{FileFault}
 use Rattle.chip_file.specs.declared.fault.FileFault.TheVariants as file
 use Rattle.chip_command.specs.CommandAnswers.{AnswersBy}
-use Rattle.chip_command.specs.FaultNumbers.{number_of}
+use Rattle.chip_command.specs.FaultNumbers.{command_fault_number}
 use Rattle.chip_command.specs.Faults.{fault_of_file}
 use Rattle.chip_command.specs.Inputs.{NamesGame, RefusesInputs, RefusesText}
 use Rattle.chip_command.specs.PlainCommand.{plain_spec}
@@ -96,7 +96,7 @@ one_named limits graph_text chips_text limit a b x y =
 module _ (limits : SizeLimits) (graph_text chips_text : List ℕ) (limit : ℕ) (g : ChipGame)
     (named : NamesGame limits graph_text chips_text limit g) (f : GameFault) (faulty : fault_of_game g ≡ Some f) where
   abbrev IsEnd : Fault → Type 0
-  IsEnd fault = (number_of fault ≡ number_of (Game f)) ⊎ (fault ≡ File file.Read) ⊎ (fault ≡ NoMemory)
+  IsEnd fault = (command_fault_number fault ≡ command_fault_number (Game f)) ⊎ (fault ≡ File file.Read) ⊎ (fault ≡ NoMemory)
 
   no_game : (h : ChipGame) → NamesGame limits graph_text chips_text limit h → IsGame h → ⊥
   no_game h names is =
@@ -116,11 +116,11 @@ module _ (limits : SizeLimits) (graph_text chips_text : List ℕ) (limit : ℕ) 
   inputs_refused fault (inr (inr (h, names, k, is, told))) =
       let same = one_named limits graph_text chips_text limit h g names named in
       let faults : k ≡ f = cc (rw same at is, faulty) in
-      inl (ap number_of (told ∙ ap Game faults))
+      inl (ap command_fault_number (told ∙ ap Game faults))
 
   pub plain_refuses : (before after : Option (List ℕ)) (result : Result Ended Fault)
       → AnswersBy (plain_spec limits (Some graph_text) (Some chips_text) limit) before after result
-      → EndsByNumber (number_of (Game f)) result
+      → EndsByNumber (command_fault_number (Game f)) result
   plain_refuses before after (Ok ended) (text, (h, gave, reports), out, cut) =
       let means = gave.means graph_text refl chips_text refl in no_game h means.named means.game
   plain_refuses before after (Err fault) (inl (inl refuses, keeps)) =

@@ -20,7 +20,7 @@ use Rattle.chip_library.specs.declared.kept.PileState.TheVariants.{ToPlay, Stabl
 use Rattle.chip_library.specs.KeptGames.{IsKept}
 use Rattle.chip_library.proofs.DropLemmas.{none_stopped, some_stopped}
 use Rattle.chip_library.proofs.KeptLemmas.{piles_are_outcomes}
-use Rattle.chip_agree.specs.Reported.{IsReported, IsOf, status_of_stopped, RowsAgree, ClaimsAgree, DifferencesAgree, PilesAgree}
+use Rattle.chip_agree.specs.Reported.{IsReported, IsReportOfOutcome, status_of_stopped, RowsAgree, ClaimsAgree, DifferencesAgree, PilesAgree}
 
 -- ---- the report of a game is of its outcome
 
@@ -38,7 +38,7 @@ pub status_is : (g : ChipGame) (o : Outcome) → IsPlayed g o → plain_status o
 status_is g o played = rw played.sealed (status_by o.over.items)
 
 is_of : (g : ChipGame) (report : List ℕ) (status : ℕ) → IsReported g report status → (o : Outcome) → IsPlayed g o
-    → IsOf o report status
+    → IsReportOfOutcome o report status
 is_of g report status told o played =
     let wrote = plain_reports told.limits told.graph_text told.chips_text g.limit report status g told.means told.wrote in
     let same = one_report g report (report_text o) status (plain_status o) wrote (o, played, refl, refl) in

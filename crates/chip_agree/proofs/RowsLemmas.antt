@@ -23,7 +23,7 @@ use Rattle.chip_command.specs.Reports.{plain_status}
 use Rattle.chip_command.specs.declared.ended.Ended.{Ended}
 use Rattle.chip_command.proofs.OneReportLemmas.{one_game, same_numbers}
 use Rattle.chip_engine.specs.DropRows.{rows_text}
-use Rattle.chip_engine.specs.AvalanchesCommand.{AvalanchesAnswers, Closes, TellsDrops, ComesTo, ReportAnswer, ended_of}
+use Rattle.chip_engine.specs.AvalanchesCommand.{AvalanchesAnswers, Closes, TellsDrops, DropsComeTo, ReportAnswer, ended_of}
 use Rattle.chip_library.specs.declared.fault.CallFault.TheVariants.{Stopped}
 use Rattle.chip_library.specs.declared.kept.PileState.TheVariants.{Halted}
 use Rattle.chip_library.specs.KeptGames.{KeptGame, IsKept, BeginsGame, Rows, StopsDrops, with_rows}
@@ -143,7 +143,7 @@ pub record ArePlayed (g : ChipGame) (ds : List (ℕ × ℕ)) (rows : List ℕ) (
   pub few : sum g.start + all_brought ds ≤ max_total
   pub outcome : Outcome
   pub last : ChipGame
-  pub comes : ComesTo g ds rows last outcome
+  pub comes : DropsComeTo g ds rows last outcome
   pub played : IsPlayed last outcome
   pub answer : ReportAnswer asked report outcome (Ok ended)
 
@@ -237,7 +237,7 @@ module _ (g : ChipGame) (ds : List (ℕ × ℕ)) (rows : List ℕ) (asked report
     pub made_agree : (rows ≡ rows_text told) × EndsWith chips asked report ended
     made_agree = by is.comes
       where
-        by : ComesTo g ds rows is.last is.outcome → (rows ≡ rows_text told) × EndsWith chips asked report ended
+        by : DropsComeTo g ds rows is.last is.outcome → (rows ≡ rows_text told) × EndsWith chips asked report ended
         by (inl (tells, last)) =
             let here = at_rest (length ds) is.last (rw (take_all (length ds) ds (omega arith)) last) is.outcome is.played in (
               rows_are tells,
@@ -363,7 +363,7 @@ module _ (g : ChipGame) (ds : List (ℕ × ℕ)) (rows : List ℕ) (asked report
   pub stops_agree : (i : ℕ) (stops : Stops g ds i) → TellsFirst (told_before g ds i stops) ds rows ended i
   stops_agree i stops = by is.comes
     where
-      by : ComesTo g ds rows is.last is.outcome → TellsFirst (told_before g ds i stops) ds rows ended i
+      by : DropsComeTo g ds rows is.last is.outcome → TellsFirst (told_before g ds i stops) ds rows ended i
       by (inl (tells, last)) = absurd (at_end i tells stops)
       by (inr (inl (j, inside, tells, last, going))) = at_drop j i inside tells last going stops
       by (inr (inr (text, same, going))) = at_game i text same going stops

@@ -3,7 +3,7 @@ use Rattle.std.specs.Prelude.{◌≡◌, ◌⊎◌, ℕ, List, Option, Some, Res
 use Rattle.chip_graph.specs.Limits.{SizeLimits}
 use Rattle.chip_graph.specs.declared.fault.GameFault.{GameFault}
 use Rattle.chip_file.specs.declared.fault.FileFault.TheVariants.{Read}
-use Rattle.chip_command.specs.FaultNumbers.{number_of}
+use Rattle.chip_command.specs.FaultNumbers.{command_fault_number}
 use Rattle.chip_command.specs.Inputs.{NamesGame}
 use Rattle.chip_command.specs.PlainCommand.{PlainAnswers}
 use Rattle.chip_command.specs.declared.ended.Ended.{Ended}
@@ -18,7 +18,7 @@ use Rattle.chip_library.specs.EdgeLists.{graph_of}
 -- a command ends with a fault of this number, or the machine failed: a read, or there was no memory
 abbrev pub EndsByNumber : ℕ → Result Ended Fault → Type 0
 EndsByNumber number (Ok ended) = ⊥
-EndsByNumber number (Err fault) = (number_of fault ≡ number) ⊎ (fault ≡ File Read) ⊎ (fault ≡ NoMemory)
+EndsByNumber number (Err fault) = (command_fault_number fault ≡ number) ⊎ (fault ≡ File Read) ⊎ (fault ≡ NoMemory)
 
 -- numbers that make a graph and no game, of which a call names the first fault, `plain` refuses by the same number
 abbrev pub GamesAreRefused : Type 0

@@ -29,7 +29,7 @@ status_of_stopped zero = 0
 status_of_stopped (suc n) = 2
 
 -- a report and its status are of an outcome, whose vertices the limit may have stopped, and no seal
-pub record IsOf (o : Outcome) (report : List ℕ) (status : ℕ) : Type 0 where
+pub record IsReportOfOutcome (o : Outcome) (report : List ℕ) (status : ℕ) : Type 0 where
   pub text : report ≡ report_text o
   pub status_is : status ≡ status_of_stopped (length o.over.items)
   pub none_sealed : o.sealed.items ≡ []
@@ -37,7 +37,7 @@ pub record IsOf (o : Outcome) (report : List ℕ) (status : ℕ) : Type 0 where
 -- a report has these chips and counts, and its limit stopped so many vertices
 pub record Has (report : List ℕ) (status : ℕ) (chips fired : List ℕ) (stopped : ℕ) : Type 0 where
   pub outcome : Outcome
-  pub is_of : IsOf outcome report status
+  pub is_of : IsReportOfOutcome outcome report status
   pub chips_are : chips ≡ outcome.chips.items
   pub fired_are : fired ≡ outcome.fired.items
   pub stopped_are : stopped ≡ length outcome.over.items
@@ -61,7 +61,7 @@ abbrev pub DifferencesAgree : Type 0
 DifferencesAgree = (lists : EdgeLists) (limit : ℕ) (chips fired ends : List ℕ) (v : ℕ)
     → Verifies lists limit chips fired ends (Err (Differs v))
     → (report : List ℕ) (status : ℕ) → IsReported (game_from (graph_of lists) chips limit) report status
-    → (o : Outcome) × IsOf o report status × IsDifference o fired ends v
+    → (o : Outcome) × IsReportOfOutcome o report status × IsDifference o fired ends v
 
 -- a pile whose play has ended has the chips and counts in the report of its game, the game with all chips that were
 -- dropped; it is stable exactly if the limit stopped no vertex

@@ -16,10 +16,10 @@ places_of only_operands argument =
     else if has_value argument then 2 else 1
 
 -- how many places each argument takes
-abbrev pub places : Bool → List (List ℕ) → List ℕ
-places only_operands [] = []
-places only_operands (argument ∷ more) =
-    places_of only_operands argument ∷ places (only_operands || bytes_eq argument (codes "--")) more
+abbrev pub argument_places : Bool → List (List ℕ) → List ℕ
+argument_places only_operands [] = []
+argument_places only_operands (argument ∷ more) =
+    places_of only_operands argument ∷ argument_places (only_operands || bytes_eq argument (codes "--")) more
 
 -- the argument with this number, from 1, has the place; 0 if none has it
 abbrev pub HasPlace : List ℕ → ℕ → ℕ → Type 0

@@ -1,7 +1,7 @@
 //! The arguments of the program, and what they ask for.
 
 ghost use Rattle.std.specs.Prelude.{◌≡◌, false, map, string_bytes};
-ghost use Rattle.chip_arguments.specs.Places.{HasPlace, places, places_of};
+ghost use Rattle.chip_arguments.specs.Places.{HasPlace, argument_places, places_of};
 ghost use Rattle.chip_arguments.specs.Progress.{asks_progress};
 
 use crate::commands::{
@@ -360,7 +360,7 @@ impl<'m, 'a> Found<'m, 'a> {
 /// The command-line library counts places from 1. An argument takes one, but an option with its value after `=` takes
 /// two, and the first `--` takes none: only operands follow it.
 fn number_at(arguments: &[String], place: usize) -> u64
-    ensures { HasPlace (places false (map string_bytes arguments.now)) place result }
+    ensures { HasPlace (argument_places false (map string_bytes arguments.now)) place result }
 {
     if place == 0 {
         return 0;

@@ -9,7 +9,7 @@ use Rattle.chip_graph.specs.Limits.{SizeLimits}
 use Rattle.chip_graph.specs.Multigraph.{IsGraph}
 use Rattle.chip_graph.specs.ChipGame.{ChipGame, IsGame}
 use Rattle.chip_graph.specs.Faults.{first_of_faults, fault_unless, fault_of_game}
-use Rattle.chip_file.specs.Answer.{Answers, ReadsText}
+use Rattle.chip_file.specs.Answer.{AnswersInput, ReadsText}
 use Rattle.chip_file.specs.declared.fault.FileFault.{FileFault}
 use Rattle.chip_command.specs.Faults.{fault_of_file}
 use Rattle.chip_command.specs.Inputs.{reading}
@@ -22,7 +22,7 @@ at_some P (Some y) x is known = let same : y ≡ x = cc in rw same at known
 -- what reading answers where the text is known
 pub known : {T : Type 0} {limits : SizeLimits} {M : List ℕ → T → Type 0} {F : List ℕ → FileFault → Type 0}
     {old new : Option (List ℕ)} {result : Result T FileFault} → ReadsText limits M F old new result
-    → (text : List ℕ) → old ≡ Some text → Answers limits text (M text) (F text) result
+    → (text : List ℕ) → old ≡ Some text → AnswersInput limits text (M text) (F text) result
 known reads text is = at_some _ _ text is reads.means
 
 -- why it gives nothing

@@ -20,12 +20,12 @@ use Rattle.csv.specs.declared.parser.State.TheVariants as state
 use Rattle.csv.proofs.RoundTrip.{rows_text}
 use Rattle.chip_graph.specs.Limits.{standard}
 use Rattle.chip_graph.specs.Multigraph.{Multigraph, IsGraph}
-use Rattle.chip_graph.specs.Edges.{all_edges}
+use Rattle.chip_graph.specs.Edges.{edges_and_roots}
 use Rattle.chip_graph.proofs.SumLemmas.{by_test}
 use Rattle.chip_graph.specs.Faults.{fault_unless}
 use Rattle.chip_link.specs.declared.trace.TraceRow.{TraceRow}
 use Rattle.chip_link.specs.declared.trace.TraceRow.TheVariants.{Take, Fire}
-use Rattle.chip_file.specs.Answer.{Answers}
+use Rattle.chip_file.specs.Answer.{AnswersInput}
 use Rattle.chip_file.specs.Kinds.{kind_at}
 use Rattle.chip_file.specs.Numbers.{number_of, number_at, number_in}
 use Rattle.chip_file.specs.Rows.{Row, records_of, by_index, first_row_fault, rows_under_header, has_header}
@@ -65,16 +65,16 @@ fire_line v k plain_v plain_k = rw (plain_v, plain_k) (simp (append_assoc, appen
 
 -- a row of v whose line is the text of its record, and whose record is read as it
 record IsRead (G : Multigraph) (v : ℕ) (row : TraceRow) : Type 0 where
-  line : writer.row_text default_writer (record_of v row) ≡ written.row_text v row
+  line : writer.row_text default_writer (record_of v row) ≡ written.trace_row_text v row
   vertex : number_in 0 (record_of v row) ≡ v
   means : trace_row_in (record_of v row) ≡ row
   no_fault : (index : ℕ) → trace_row_fault G index (record_of v row) ≡ None
 
 -- numbers of a graph have 64 bits
-pub few_numbers : (G : Multigraph) → IsGraph G → all_edges G ≤ 2 ^ 64
+pub few_numbers : (G : Multigraph) → IsGraph G → edges_and_roots G ≤ 2 ^ 64
 few_numbers G graph = let vertices = graph.few_vertices in let edges = graph.few_edges in omega arith
 
-is_read : (G : Multigraph) (v : ℕ) (row : TraceRow) → all_edges G ≤ 2 ^ 64 → v < G.vertices → IsRowIn G row
+is_read : (G : Multigraph) (v : ℕ) (row : TraceRow) → edges_and_roots G ≤ 2 ^ 64 → v < G.vertices → IsRowIn G row
     → IsRead G v row
 unfolding field_at
 is_read G v (Take edge count) few vertex fits =
@@ -89,7 +89,7 @@ is_read G v (Take edge count) few vertex fits =
       vertex = rw v_read refl;
       means = rw (edge_read, count_read) refl;
       no_fault = λ index.
-          rw (v_read, edge_read, count_read, lt-ltb v G.vertices vertex, lt-ltb edge (all_edges G) fits.0) refl;
+          rw (v_read, edge_read, count_read, lt-ltb v G.vertices vertex, lt-ltb edge (edges_and_roots G) fits.0) refl;
     }
 is_read G v (Fire k) few vertex fits =
     let v_fits : v < 2 ^ 64 = omega arith in
@@ -119,7 +119,7 @@ record_at x = record_of x.vertex x.row
 abbrev AreRead : Multigraph → List Placed → Type 0
 AreRead G xs = AllByRecursion (λ x. IsRead G x.vertex x.row) xs
 
-traces_read : (G : Multigraph) (v : ℕ) (traces : List (List TraceRow)) → all_edges G ≤ 2 ^ 64
+traces_read : (G : Multigraph) (v : ℕ) (traces : List (List TraceRow)) → edges_and_roots G ≤ 2 ^ 64
     → v + length traces ≤ G.vertices → All (λ trace. All (IsRowIn G) trace) traces
     → All (λ x. IsRead G x.vertex x.row) (placed_from v traces)
 traces_read G v [] few within fit = All-nil (λ x. IsRead G x.vertex x.row)
@@ -132,16 +132,16 @@ traces_read G v (trace ∷ traces) few within fit =
 -- ---- their text
 
 abbrev text_of : List Placed → List ℕ
-text_of xs = flat_map (λ x. written.row_text x.vertex x.row) xs
+text_of xs = flat_map (λ x. written.trace_row_text x.vertex x.row) xs
 
-text_of-trace : (v : ℕ) (trace : List TraceRow) → text_of (map (placed v) trace) ≡ written.rows_text v trace
+text_of-trace : (v : ℕ) (trace : List TraceRow) → text_of (map (placed v) trace) ≡ written.trace_rows_text v trace
 text_of-trace v [] = refl
 text_of-trace v (row ∷ rows) = rw (text_of-trace v rows)
 
 text_of-traces : (v : ℕ) (traces : List (List TraceRow)) → text_of (placed_from v traces) ≡ lines_from v traces
 text_of-traces v [] = refl
 text_of-traces v (trace ∷ traces) =
-    flat_map-append (λ x. written.row_text x.vertex x.row) (map (placed v) trace) (placed_from (suc v) traces)
+    flat_map-append (λ x. written.trace_row_text x.vertex x.row) (map (placed v) trace) (placed_from (suc v) traces)
     ∙ (λ i. text_of-trace v trace i ++ text_of-traces (suc v) traces i)
 
 -- it is what the default writer of csv would write of their records
@@ -289,8 +289,8 @@ read_is_in_graph G text traces meant =
 
 answered : (G : Multigraph) (traces : List (List TraceRow)) (file : List ℕ)
     (answer : Result (List (List TraceRow)) FileFault) → traces_of_text G file ≡ Some traces
-    → Answers standard file (λ read. traces_of_text G file ≡ Some read) (λ f. trace_text_fault G file ≡ Some f) answer
-    → Answers standard file (λ read. read ≡ traces) (λ f. ⊥) answer
+    → AnswersInput standard file (λ read. traces_of_text G file ≡ Some read) (λ f. trace_text_fault G file ≡ Some f) answer
+    → AnswersInput standard file (λ read. read ≡ traces) (λ f. ⊥) answer
 answered G traces file (Ok got) meant is = (is.0, cc (is.1, meant))
 answered G traces file (Err f) meant (inl machine) = inl machine
 answered G traces file (Err f) meant (inr (inl long)) = inr (inl long)

@@ -22,16 +22,16 @@ bind {A} first next = record {
 }
 
 -- a result that a computation may have
-abbrev pub Meets : {A : Type 0} → Spec A → Result A Fault → Type 0
-Meets spec result = MatchResult result spec.gives spec.refuses
+abbrev pub MeetsSpec : {A : Type 0} → Spec A → Result A Fault → Type 0
+MeetsSpec spec result = MatchResult result spec.gives spec.refuses
 
 -- a command refuses for this reason, or there is no memory
 abbrev pub OrMemory : (Fault → Type 0) → Fault → Type 0
 OrMemory Refuses fault = Refuses fault ⊎ (fault ≡ NoMemory)
 
 -- a command has a text to write, with its status; or it refuses
-abbrev pub Gives : Spec (List ℕ × ℕ) → Result Answer Fault → Type 0
-Gives spec result =
+abbrev pub GivesAnswer : Spec (List ℕ × ℕ) → Result Answer Fault → Type 0
+GivesAnswer spec result =
     MatchResult result (λ answer. spec.gives (answer.text.items, number_of_status answer.status)) spec.refuses
 
 -- a text that it may write went out, with its status; or it refuses, and nothing is written; or the output failed

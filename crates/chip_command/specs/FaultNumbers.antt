@@ -45,8 +45,8 @@ print_fault (fault.Write f) = (write_fault_number, At f.written)
 print_fault fault.WriteFile = (trace_fault_number trace.Write, Nowhere)
 
 -- the number of a fault of a command
-abbrev pub number_of : Fault → ℕ
-number_of f = (print_fault f).0
+abbrev pub command_fault_number : Fault → ℕ
+command_fault_number f = (print_fault f).0
 
 -- where a fault of a command is
 abbrev pub location_of : Fault → Location

@@ -17,13 +17,13 @@ use Rattle.chip_command.specs.declared.fault.Fault.{Fault}
 use Rattle.chip_command.specs.declared.fault.Fault.TheVariants.{Game}
 
 -- a text has no more bytes than the limits allow, and this meaning
-abbrev pub Reads : SizeLimits → List ℕ → Type 0 → Type 0
-Reads limits text meaning = (length text ≤ limits.bytes) × meaning
+abbrev pub ReadsWithin : SizeLimits → List ℕ → Type 0 → Type 0
+ReadsWithin limits text meaning = (length text ≤ limits.bytes) × meaning
 
 -- two texts and a limit name these numbers of a game, be it within the limits of a game or not
 pub record NamesGame (limits : SizeLimits) (graph_text chips_text : List ℕ) (limit : ℕ) (g : ChipGame) : Type 0 where
-  pub graph : Reads limits graph_text (MeansGraph limits graph_text g.graph)
-  pub start : Reads limits chips_text (chips_of_text g.graph.vertices chips_text ≡ Some g.start)
+  pub graph : ReadsWithin limits graph_text (MeansGraph limits graph_text g.graph)
+  pub start : ReadsWithin limits chips_text (chips_of_text g.graph.vertices chips_text ≡ Some g.start)
   pub limited : g.limit ≡ limit
 
 -- two texts and a limit mean this game
@@ -32,20 +32,20 @@ pub record MeansGame (limits : SizeLimits) (graph_text chips_text : List ℕ) (l
   pub game : IsGame g
 
 -- the machine failed on a text, or the text is too long, or it has this fault
-abbrev pub IsRefused : SizeLimits → List ℕ → (FileFault → Type 0) → FileFault → Type 0
-IsRefused limits text IsFault f =
+abbrev pub IsInputRefused : SizeLimits → List ℕ → (FileFault → Type 0) → FileFault → Type 0
+IsInputRefused limits text IsFault f =
     IsOfMachine f ⊎ ((limits.bytes < length text) × (f ≡ file_fault.TooLong))
     ⊎ ((length text ≤ limits.bytes) × IsFault f)
 
 -- reading a text failed by this fault
 abbrev pub RefusesText : SizeLimits → List ℕ → (FileFault → Type 0) → Fault → Type 0
-RefusesText limits text IsFault fault = (f : FileFault) × (fault ≡ fault_of_file f) × IsRefused limits text IsFault f
+RefusesText limits text IsFault fault = (f : FileFault) × (fault ≡ fault_of_file f) × IsInputRefused limits text IsFault f
 
 -- what reading a text by its meanings and its faults may give, of a reader that may know it
 abbrev pub reading : {A : Type 0} → SizeLimits → (List ℕ → A → Type 0) → (List ℕ → FileFault → Type 0) → Option (List ℕ)
     → Spec A
 reading limits IsMeant IsFault known = record {
-  gives = λ value. ForSome known (λ text. Reads limits text (IsMeant text value));
+  gives = λ value. ForSome known (λ text. ReadsWithin limits text (IsMeant text value));
   refuses = λ fault. ForSome known (λ text. RefusesText limits text (IsFault text) fault);
 }
 
@@ -57,7 +57,7 @@ reading_graph limits graph = reading limits (MeansGraph limits) (IsGraphTextFaul
 abbrev pub RefusesInputs : SizeLimits → List ℕ → List ℕ → ℕ → Fault → Type 0
 RefusesInputs limits graph_text chips_text limit fault =
     RefusesText limits graph_text (IsGraphTextFault limits graph_text) fault
-    ⊎ ((G : Multigraph) × Reads limits graph_text (MeansGraph limits graph_text G)
+    ⊎ ((G : Multigraph) × ReadsWithin limits graph_text (MeansGraph limits graph_text G)
     × RefusesText limits chips_text (λ f. chips_text_fault G.vertices chips_text ≡ Some f) fault)
     ⊎ ((g : ChipGame) × NamesGame limits graph_text chips_text limit g
     × (f : GameFault) × (fault_of_game g ≡ Some f) × (fault ≡ Game f))

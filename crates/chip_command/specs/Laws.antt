@@ -2,17 +2,17 @@
 use Rattle.std.specs.Prelude.{◌≡◌, ℕ, ◌^◌, ◌<◌, List, [], length, Some, Result, Ok, All}
 use Rattle.chip_graph.specs.Limits.{standard}
 use Rattle.chip_graph.specs.Multigraph.{Multigraph, IsGraph}
-use Rattle.chip_graph.specs.Edges.{all_edges}
+use Rattle.chip_graph.specs.Edges.{edges_and_roots}
 use Rattle.chip_link.specs.declared.trace.TraceRow.{TraceRow}
 use Rattle.chip_link.specs.declared.trace.TraceRow.TheVariants.{Take, Fire}
-use Rattle.chip_file.specs.Answer.{Answers}
+use Rattle.chip_file.specs.Answer.{AnswersInput}
 use Rattle.chip_file.specs.TraceText.{traces_of_text, trace_text_fault}
 use Rattle.chip_file.specs.declared.fault.FileFault.{FileFault}
 use Rattle.chip_trace.specs.TraceText.{trace_text, WritesText}
 
 -- a row of a trace in a graph: a take is of an edge that is there, a root edge among them, and counts have 64 bits
 abbrev pub IsRowIn : Multigraph → TraceRow → Type 0
-IsRowIn G (Take edge count) = (edge < all_edges G) × (count < 2 ^ 64)
+IsRowIn G (Take edge count) = (edge < edges_and_roots G) × (count < 2 ^ 64)
 IsRowIn G (Fire k) = k < 2 ^ 64
 
 -- traces in a graph: one for each vertex, of such rows
@@ -36,5 +36,5 @@ abbrev pub FileIsReadBack : Type 0
 FileIsReadBack = (G : Multigraph) (traces : List (List TraceRow)) → IsGraph G → AreTracesIn G traces
     → (file : List ℕ) → WritesText (Some []) (Some file) (trace_text traces) (Ok tt)
     → (answer : Result (List (List TraceRow)) FileFault)
-    → Answers standard file (λ read. traces_of_text G file ≡ Some read) (λ f. trace_text_fault G file ≡ Some f) answer
-    → Answers standard file (λ read. read ≡ traces) (λ f. ⊥) answer
+    → AnswersInput standard file (λ read. traces_of_text G file ≡ Some read) (λ f. trace_text_fault G file ≡ Some f) answer
+    → AnswersInput standard file (λ read. read ≡ traces) (λ f. ⊥) answer

@@ -248,7 +248,7 @@ impl Error for Fault {}
 
 impl Fault {
     ghost use Rattle.std.specs.Prelude.{◌≡◌};
-    ghost use Rattle.chip_command.specs.FaultNumbers.{print_fault, number_of, location_of, status_of_fault};
+    ghost use Rattle.chip_command.specs.FaultNumbers.{print_fault, command_fault_number, location_of, status_of_fault};
 
     /// The exit status of a command that failed so: turns that were too few are no failure of the inputs.
     pub fn status(&self) -> Status
@@ -262,7 +262,7 @@ impl Fault {
 
     /// This fault as it is printed.
     pub fn line(&self) -> FaultLine
-        ensures number { result.number ≡ number_of self.now }
+        ensures number { result.number ≡ command_fault_number self.now }
         ensures location { result.location ≡ location_of self.now }
     {
         let (number, location) = self.print();

@@ -1,6 +1,6 @@
 //! The game that the files of a command mean.
 
-ghost use Rattle.chip_command.specs.CommandAnswers.{Meets};
+ghost use Rattle.chip_command.specs.CommandAnswers.{MeetsSpec};
 ghost use Rattle.chip_command.specs.Inputs.{reading_game};
 
 use crate::fault::Fault;
@@ -17,7 +17,7 @@ pub fn read_game<G: Read, C: Read>(
     chips: &mut C,
     limit: u64,
 ) -> Result<Game, Fault>
-    ensures { Meets (reading_game limits (G.remaining graph.old) (C.remaining chips.old) limit) result }
+    ensures { MeetsSpec (reading_game limits (G.remaining graph.old) (C.remaining chips.old) limit) result }
 {
     let graph = read_graph_within(alloc, limits, graph)?;
     let start = read_chips_within(alloc, limits, chips, graph.vertices())?;

@@ -23,7 +23,7 @@ use Rattle.chip_engine.specs.ReplayCommand.{ReplayAnswers}
 use Rattle.chip_engine.specs.ResumeCommand.{ResumeAnswers}
 use Rattle.chip_engine.specs.SimulateCommand.{SimulateAnswers}
 use Rattle.chip_engine.specs.VerifyCommand.{VerifyAnswers}
-use Rattle.chip_judge.specs.JudgeCommand.{JudgeAnswers}
+use Rattle.chip_engine.specs.JudgeCommand.{JudgeAnswers}
 use Rattle.chip_console.specs.Options.{limits_of, judge_options, replay_options, simulate_options}
 
 -- the bytes that a file of an argument gives, where they are known
@@ -34,8 +34,8 @@ Known = FileArgument → Option (List ℕ)
 abbrev pub IsUnopened : List ℕ → Option (List ℕ) → Option (List ℕ) → Result Ended Fault → Type 0
 IsUnopened numbers old new result = (n : ℕ) × Contains numbers n × (result ≡ Err (Open n)) × (new ≡ old)
 
-abbrev pub Checks : Known → GraphArguments → Option (List ℕ) → Option (List ℕ) → Result Ended Fault → Type 0
-Checks known asked old new result = IsUnopened (asked.graph.number ∷ []) old new result
+abbrev pub ChecksFiles : Known → GraphArguments → Option (List ℕ) → Option (List ℕ) → Result Ended Fault → Type 0
+ChecksFiles known asked old new result = IsUnopened (asked.graph.number ∷ []) old new result
     ⊎ CheckAnswers (limits_of asked.large) (known asked.graph) old new result
 
 -- without a guess, or with this one
@@ -47,8 +47,8 @@ PlaysWith (Some guess) known asked old new result =
     IsUnopened (asked.graph.number ∷ asked.start.number ∷ guess.number ∷ []) old new result
     ⊎ GuessAnswers (limits_of asked.large) (known asked.graph) (known asked.start) (known guess) asked.limit old new result
 
-abbrev pub Plays : Known → PlainArguments → Option (List ℕ) → Option (List ℕ) → Result Ended Fault → Type 0
-Plays known asked old new result = PlaysWith asked.guess known asked.game old new result
+abbrev pub PlaysFiles : Known → PlainArguments → Option (List ℕ) → Option (List ℕ) → Result Ended Fault → Type 0
+PlaysFiles known asked old new result = PlaysWith asked.guess known asked.game old new result
 
 -- a file could not be opened, that of the report too, or there is no memory to try its place; and nothing is written
 abbrev pub DropsNothing : AvalancheArguments → Option (List ℕ) → Option (List ℕ) → Result Ended Fault → Type 0
@@ -69,39 +69,39 @@ DropsAll known asked old new result =
     (known asked.drops) asked.game.limit (record { rows = old; report = before }) (record { rows = new; report = after })
     ended × IsPut ended result
 
-abbrev pub Drops : Known → AvalancheArguments → Option (List ℕ) → Option (List ℕ) → Result Ended Fault → Type 0
-Drops known asked old new result = DropsNothing asked old new result ⊎ DropsAll known asked old new result
+abbrev pub DropsFiles : Known → AvalancheArguments → Option (List ℕ) → Option (List ℕ) → Result Ended Fault → Type 0
+DropsFiles known asked old new result = DropsNothing asked old new result ⊎ DropsAll known asked old new result
 
-abbrev pub Represents : Known → GameArguments → Option (List ℕ) → Option (List ℕ) → Result Ended Fault → Type 0
-Represents known asked old new result = IsUnopened (asked.graph.number ∷ asked.start.number ∷ []) old new result
+abbrev pub RepresentsFiles : Known → GameArguments → Option (List ℕ) → Option (List ℕ) → Result Ended Fault → Type 0
+RepresentsFiles known asked old new result = IsUnopened (asked.graph.number ∷ asked.start.number ∷ []) old new result
     ⊎ RecurrentAnswers (limits_of asked.large) (known asked.graph) (known asked.start) old new result
 
-abbrev pub Identifies : Known → GraphArguments → Option (List ℕ) → Option (List ℕ) → Result Ended Fault → Type 0
-Identifies known asked old new result = IsUnopened (asked.graph.number ∷ []) old new result
+abbrev pub IdentifiesFiles : Known → GraphArguments → Option (List ℕ) → Option (List ℕ) → Result Ended Fault → Type 0
+IdentifiesFiles known asked old new result = IsUnopened (asked.graph.number ∷ []) old new result
     ⊎ IdentityAnswers (limits_of asked.large) (known asked.graph) old new result
 
-abbrev pub Simulates : Known → SimulationArguments → Option (List ℕ) → Option (List ℕ) → Result Ended Fault → Type 0
-Simulates known asked old new result = MatchOption (simulate_options asked) ((result ≡ Err Usage) × (new ≡ old))
+abbrev pub SimulatesFiles : Known → SimulationArguments → Option (List ℕ) → Option (List ℕ) → Result Ended Fault → Type 0
+SimulatesFiles known asked old new result = MatchOption (simulate_options asked) ((result ≡ Err Usage) × (new ≡ old))
     (λ options.
     IsUnopened (asked.game.graph.number ∷ asked.game.start.number ∷ asked.schedule.number ∷ []) old new result
     ⊎ SimulateAnswers (known asked.game.graph) (known asked.game.start) (known asked.schedule) options old new result)
 
-abbrev pub Replays : Known → ReplayArguments → Option (List ℕ) → Option (List ℕ) → Result Ended Fault → Type 0
-Replays known asked old new result =
+abbrev pub ReplaysFiles : Known → ReplayArguments → Option (List ℕ) → Option (List ℕ) → Result Ended Fault → Type 0
+ReplaysFiles known asked old new result =
     IsUnopened (asked.game.graph.number ∷ asked.game.start.number ∷ asked.trace.number ∷ []) old new result
     ⊎ ReplayAnswers (known asked.game.graph) (known asked.game.start) (known asked.trace) (replay_options asked)
     old new result
 
-abbrev pub Resumes : Known → GameArguments → Option (List ℕ) → Option (List ℕ) → Result Ended Fault → Type 0
-Resumes known asked old new result = IsUnopened (asked.graph.number ∷ asked.start.number ∷ []) old new result
+abbrev pub ResumesFiles : Known → GameArguments → Option (List ℕ) → Option (List ℕ) → Result Ended Fault → Type 0
+ResumesFiles known asked old new result = IsUnopened (asked.graph.number ∷ asked.start.number ∷ []) old new result
     ⊎ ResumeAnswers (limits_of asked.large) (known asked.graph) (known asked.start) asked.limit old new result
 
-abbrev pub Verifies : Known → VerifyArguments → Option (List ℕ) → Option (List ℕ) → Result Ended Fault → Type 0
-Verifies known asked old new result =
+abbrev pub VerifiesFiles : Known → VerifyArguments → Option (List ℕ) → Option (List ℕ) → Result Ended Fault → Type 0
+VerifiesFiles known asked old new result =
     IsUnopened (asked.game.graph.number ∷ asked.game.start.number ∷ asked.report.number ∷ []) old new result
     ⊎ VerifyAnswers (limits_of asked.game.large) (known asked.game.graph) (known asked.game.start) (known asked.report)
     asked.game.limit old new result
 
-abbrev pub Judges : Known → JudgeArguments → Option (List ℕ) → Option (List ℕ) → Result Ended Fault → Type 0
-Judges known asked old new result = IsUnopened (asked.log.number ∷ []) old new result
+abbrev pub JudgesFiles : Known → JudgeArguments → Option (List ℕ) → Option (List ℕ) → Result Ended Fault → Type 0
+JudgesFiles known asked old new result = IsUnopened (asked.log.number ∷ []) old new result
     ⊎ JudgeAnswers (known asked.log) (judge_options asked) old new result

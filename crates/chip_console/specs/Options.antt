@@ -6,7 +6,7 @@ use Rattle.chip_arguments.specs.declared.arguments.GameArguments.{GameArguments}
 use Rattle.chip_arguments.specs.declared.arguments.SimulationArguments.{SimulationArguments}
 use Rattle.chip_arguments.specs.declared.arguments.ReplayArguments.{ReplayArguments}
 use Rattle.chip_arguments.specs.declared.arguments.JudgeArguments.{JudgeArguments}
-use Rattle.chip_judge.specs.declared.judge.JudgeOptions.{JudgeOptions}
+use Rattle.chip_engine.specs.declared.judge.JudgeOptions.{JudgeOptions}
 use Rattle.chip_command.specs.declared.options.PlayOptions.{PlayOptions}
 use Rattle.chip_engine.specs.declared.replay.ReplayOptions.{ReplayOptions}
 use Rattle.chip_engine.specs.declared.simulate.SimulateOptions.{SimulateOptions}

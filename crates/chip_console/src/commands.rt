@@ -4,8 +4,8 @@
 //! the bytes are known.
 
 ghost use Rattle.std.specs.Prelude.{◌≡◌, ◌⊎◌, IfErr, IfOk};
-ghost use Rattle.chip_console.specs.Commands.{Checks, Drops, Identifies, Judges, Plays, Replays, Represents, Resumes};
-ghost use Rattle.chip_console.specs.Commands.{Simulates, Verifies};
+ghost use Rattle.chip_console.specs.Commands.{ChecksFiles, DropsFiles, IdentifiesFiles, JudgesFiles, PlaysFiles, ReplaysFiles, RepresentsFiles, ResumesFiles};
+ghost use Rattle.chip_console.specs.Commands.{SimulatesFiles, VerifiesFiles};
 ghost use Rattle.chip_console.specs.Options.{limits_of, judge_options, play_options, replay_options, simulate_options};
 
 use crate::console::{Console, Opener};
@@ -16,12 +16,12 @@ use chip_arguments::{
 };
 use chip_command::{Ended, Fault};
 use chip_engine::{
-    PlayOptions, ReplayOptions, SimulateOptions, avalanches_engine_with, check_engine_with,
-    identity_engine, plain_engine_with, plain_guess_engine_with, recurrent_engine,
-    replay_engine_with, resume_engine_with, simulate_engine_with, verify_engine_with,
+    JudgeOptions, PlayOptions, ReplayOptions, SimulateOptions, avalanches_engine_with,
+    check_engine_with, identity_engine, judge_engine_with, plain_engine_with,
+    plain_guess_engine_with, recurrent_engine, replay_engine_with, resume_engine_with,
+    simulate_engine_with, verify_engine_with,
 };
 use chip_graph::Limits;
-use chip_judge::{JudgeOptions, judge_engine_with};
 use chip_link::Ring;
 use std::fs::File;
 use std::io::{Input, Write};
@@ -35,7 +35,7 @@ impl<R: Files<File = File> + Input + Clock + Eprint + AllocGlobal> Console<'_, R
         asked: &GraphArguments<'_>,
         output: &mut W,
     ) -> Result<Ended, Fault>
-        ensures { Checks O.known asked.now (W.contents output.old) (W.contents output.new) result }
+        ensures { ChecksFiles O.known asked.now (W.contents output.old) (W.contents output.new) result }
     {
         let mut graph = files.open(&asked.graph)?;
         check_engine_with(self.rt.alloc(), &mut graph, limits_of(asked.large), output)
@@ -48,7 +48,7 @@ impl<R: Files<File = File> + Input + Clock + Eprint + AllocGlobal> Console<'_, R
         asked: &PlainArguments<'_>,
         output: &mut W,
     ) -> Result<Ended, Fault>
-        ensures { Plays O.known asked.now (W.contents output.old) (W.contents output.new) result }
+        ensures { PlaysFiles O.known asked.now (W.contents output.old) (W.contents output.new) result }
     {
         let (mut graph, mut chips) = open_game(files, &asked.game)?;
         let (alloc, options) = (self.rt.alloc(), play_options(&asked.game));
@@ -81,7 +81,7 @@ impl<R: Files<File = File> + Input + Clock + Eprint + AllocGlobal> Console<'_, R
         asked: &AvalancheArguments<'_>,
         output: &mut W,
     ) -> Result<Ended, Fault>
-        ensures { Drops O.known asked.now (W.contents output.old) (W.contents output.new) result }
+        ensures { DropsFiles O.known asked.now (W.contents output.old) (W.contents output.new) result }
     {
         let (mut graph, mut chips) = open_game(files, &asked.game)?;
         let mut drops = files.open(&asked.drops)?;
@@ -109,7 +109,7 @@ impl<R: Files<File = File> + Input + Clock + Eprint + AllocGlobal> Console<'_, R
         asked: &GameArguments<'_>,
         output: &mut W,
     ) -> Result<Ended, Fault>
-        ensures { Represents O.known asked.now (W.contents output.old) (W.contents output.new) result }
+        ensures { RepresentsFiles O.known asked.now (W.contents output.old) (W.contents output.new) result }
     {
         let (mut graph, mut chips) = open_game(files, asked)?;
         recurrent_engine(
@@ -128,7 +128,7 @@ impl<R: Files<File = File> + Input + Clock + Eprint + AllocGlobal> Console<'_, R
         asked: &GraphArguments<'_>,
         output: &mut W,
     ) -> Result<Ended, Fault>
-        ensures { Identifies O.known asked.now (W.contents output.old) (W.contents output.new) result }
+        ensures { IdentifiesFiles O.known asked.now (W.contents output.old) (W.contents output.new) result }
     {
         let mut graph = files.open(&asked.graph)?;
         identity_engine(self.rt.alloc(), &mut graph, limits_of(asked.large), output)
@@ -141,7 +141,7 @@ impl<R: Files<File = File> + Input + Clock + Eprint + AllocGlobal> Console<'_, R
         asked: &SimulationArguments<'_>,
         output: &mut W,
     ) -> Result<Ended, Fault>
-        ensures { Simulates O.known asked.now (W.contents output.old) (W.contents output.new) result }
+        ensures { SimulatesFiles O.known asked.now (W.contents output.old) (W.contents output.new) result }
     {
         let Some(options) = simulate_options(asked) else {
             return Err(Fault::Usage);
@@ -165,7 +165,7 @@ impl<R: Files<File = File> + Input + Clock + Eprint + AllocGlobal> Console<'_, R
         asked: &ReplayArguments<'_>,
         output: &mut W,
     ) -> Result<Ended, Fault>
-        ensures { Replays O.known asked.now (W.contents output.old) (W.contents output.new) result }
+        ensures { ReplaysFiles O.known asked.now (W.contents output.old) (W.contents output.new) result }
     {
         let (mut graph, mut chips) = open_game(files, &asked.game)?;
         let mut trace = files.open(&asked.trace)?;
@@ -186,7 +186,7 @@ impl<R: Files<File = File> + Input + Clock + Eprint + AllocGlobal> Console<'_, R
         asked: &GameArguments<'_>,
         output: &mut W,
     ) -> Result<Ended, Fault>
-        ensures { Resumes O.known asked.now (W.contents output.old) (W.contents output.new) result }
+        ensures { ResumesFiles O.known asked.now (W.contents output.old) (W.contents output.new) result }
     {
         let (mut graph, mut report) = open_game(files, asked)?;
         resume_engine_with(
@@ -206,7 +206,7 @@ impl<R: Files<File = File> + Input + Clock + Eprint + AllocGlobal> Console<'_, R
         asked: &VerifyArguments<'_>,
         output: &mut W,
     ) -> Result<Ended, Fault>
-        ensures { Verifies O.known asked.now (W.contents output.old) (W.contents output.new) result }
+        ensures { VerifiesFiles O.known asked.now (W.contents output.old) (W.contents output.new) result }
     {
         let (mut graph, mut chips) = open_game(files, &asked.game)?;
         let mut report = files.open(&asked.report)?;
@@ -229,7 +229,7 @@ impl<R: Files<File = File> + Input + Clock + Eprint + AllocGlobal> Console<'_, R
         waits: &mut String,
         output: &mut W,
     ) -> Result<Ended, Fault>
-        ensures { Judges O.known asked.now (W.contents output.old) (W.contents output.new) result }
+        ensures { JudgesFiles O.known asked.now (W.contents output.old) (W.contents output.new) result }
     {
         let mut log = files.open(&asked.log)?;
         let mut progress = ClaimProgress::start(self);

@@ -5,9 +5,9 @@
 
 use crate::console::Console;
 use crate::terminal::say_waits;
+use chip_engine::{ClaimWatch, Waits};
 use chip_fire::{GivenUse, Play, Search, Watch};
 use chip_graph::Game;
-use chip_judge::{ClaimWatch, Waits};
 use std::rt::Clock;
 
 /// Writes how far a play on one thread is: what it does, its rounds and its firings.
@@ -55,7 +55,7 @@ impl<R: Clock + Eprint> Watch for RoundProgress<'_, R> {
         }
     }
 
-    fn searches(&mut self, search: &Search<'_>) {
+    fn searches(&mut self, search: &Search) {
         self.steps = search.steps();
         if self.console.is_due() {
             let steps = self.searched.saturating_add(self.steps);
@@ -66,7 +66,7 @@ impl<R: Clock + Eprint> Watch for RoundProgress<'_, R> {
         }
     }
 
-    fn searched(&mut self, _play: &Play<'_>, _played: u64, _searched: u64) {
+    fn searched(&mut self, _play: &Play<'_>, _alone: u64, _beside: u64, _searched: u64) {
         self.searched = self.searched.saturating_add(self.steps);
         self.steps = 0;
     }

@@ -1,7 +1,7 @@
 //! What a person at a terminal reads of a fault, after its line.
 
 use chip_command::{Fault, Location, explanations};
-use chip_judge::Waits;
+use chip_engine::Waits;
 use std::alloc::AllocError;
 use std::env::{Env, FillError};
 use std::io;

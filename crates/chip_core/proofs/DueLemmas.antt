@@ -6,7 +6,7 @@ use Rattle.chip_core.proofs.Names.{◌∙◌, arith, inl, inr, ⊎_elim, eqb-tru
 use Rattle.chip_core.proofs.Names.{is_some, ltb-true, lt-ltb, ◌++◌, append-nil, append_assoc, ltb-false, eqb-false}
 use Rattle.chip_core.proofs.Names.{not-true, and_parts, IsGame, tested_none, cond_yes, cond_no, by_test, tested_term}
 use Rattle.chip_core.proofs.Names.{claims_of, Tail, after_clear, none_held, Setting, Cause, Part, is_running}
-use Rattle.chip_core.proofs.Names.{may_ack, pending_of, unput_count, is_passive, is_legal, refusals, cause}
+use Rattle.chip_core.proofs.Names.{may_ack_on, pending_of, unput_count, is_passive, is_legal, refusals, cause}
 use Rattle.chip_core.proofs.Names.{tail_inside as own_edge, may_le, Log, Out, part_in}
 use Rattle.chip_core.proofs.Names.{out_in, into_in, IsLegalLog, IsClosed, tail_of, head_of}
 use Rattle.chip_core.proofs.Names.{all_edges, graph_edges, Event, Part, Take, Ack, Fire, Clear, Claim, Put, Halt}
@@ -36,7 +36,7 @@ module _ (g : Setting) where
     pub taken : (e : ℕ) → e < all_edges g → length (into_in g log e).got ≡ length (out_in g log e).link.put
     pub put : (e : ℕ) → e < all_edges g → (out_in g log e).link.held ≡ None
     pub settled : (e : ℕ) → e < all_edges g → (into_in g log e).acked ≤ (out_in g log e).settled
-    pub acked : (e : ℕ) → e < all_edges g → may_ack g (head_of g e) (part_in g log (head_of g e)) e ≡ 0
+    pub acked : (e : ℕ) → e < all_edges g → may_ack_on g (head_of g e) (part_in g log (head_of g e)) e ≡ 0
     pub fired : (v : ℕ) → v < g.game.graph.vertices → (part_in g log v).halt ≡ None
         → pending_of g v (part_in g log v) ≡ 0 → is_legal g v (part_in g log v) ≡ false
     pub sent : (e : ℕ) → e < graph_edges g → (part_in g log (tail_of g e)).halt ≡ None
@@ -128,7 +128,7 @@ module _ (g : Setting) where
         → Works log (Settle e)
     settle_works e l more = (met_rules g (Settle e) (part_in g log (tail_of g e)) l, lt-ltb 0 _ (omega arith))
 
-    pub ack_works : (e : ℕ) → e < all_edges g → 0 < may_ack g (head_of g e) (part_in g log (head_of g e)) e
+    pub ack_works : (e : ℕ) → e < all_edges g → 0 < may_ack_on g (head_of g e) (part_in g log (head_of g e)) e
         → Works log (Ack e)
     ack_works e l some =
         let a = may_le g (head_of g e) e (part_in g log (head_of g e)) in
@@ -250,7 +250,7 @@ module _ (g : Setting) where
         && ltb 0 (out_in g log e).pending)))
         (find g.game.graph.vertices (λ v. (is_running (part_in g log v).halt && eqb (pending_of g v (part_in g log v)) 0)
         && is_legal g v (part_in g log v))))
-        (find (all_edges g) (λ e. ltb 0 (may_ack g (head_of g e) (part_in g log (head_of g e)) e))))
+        (find (all_edges g) (λ e. ltb 0 (may_ack_on g (head_of g e) (part_in g log (head_of g e)) e))))
         (find (all_edges g) (λ e. ltb (out_in g log e).settled (into_in g log e).acked)))
         (find (all_edges g) (λ e. is_some (out_in g log e).link.held)))
         (find (all_edges g) (λ e. ltb (length (into_in g log e).got) (length (out_in g log e).link.put)))
@@ -506,9 +506,9 @@ module _ (g : Setting) where
             let b = ap (λ (s : Part). (s.out e).settled) (still.parts (tail_of g e)) in
             settle_works g game some_ring m ok e l (omega arith))))
             (λ none. omega arith);
-        acked = λ e l. dite (ℕ_discrete (may_ack g (head_of g e) (part_in g after (head_of g e)) e) 0) (λ z. z)
+        acked = λ e l. dite (ℕ_discrete (may_ack_on g (head_of g e) (part_in g after (head_of g e)) e) 0) (λ z. z)
             (λ some. absurd (asked (Ack e) (asks.acks e l) (λ m ok still.
-            let a = ap (λ (s : Part). may_ack g (head_of g e) s e) (still.parts (head_of g e)) in
+            let a = ap (λ (s : Part). may_ack_on g (head_of g e) s e) (still.parts (head_of g e)) in
             ack_works g game some_ring m ok e l (omega arith))));
         fired = λ v vertex runs none. by_test (is_legal g v (part_in g after v))
             (λ on. absurd (dite (dec_lt (fired_by g after v) g.game.limit)

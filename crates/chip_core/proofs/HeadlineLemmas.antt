@@ -1,7 +1,7 @@
 -- Serves Core.antt, Messages.antt, Headline.antt.
 -- The core theorem.
 use Rattle.chip_core.proofs.Names.{◌≡◌, ℕ, ◌<◌, List, append-nil, IsGame, Setting, Log, Event}
-use Rattle.chip_core.proofs.Names.{IsLegalLog, log_after, IsClosed, all_edges, sent_on, delivered_on, Headline}
+use Rattle.chip_core.proofs.Names.{IsLegalLog, log_after, IsClosed, all_edges, to_deliver, delivered_on, Headline}
 use Rattle.chip_core.proofs.OrderLemmas.{detection_order}
 use Rattle.chip_core.proofs.PositionLemmas.{leads_to, none_below, by_counts, held_is}
 use Rattle.chip_core.proofs.ReachingLemmas.{run_legal}
@@ -16,7 +16,7 @@ module _ (g : Setting) (game : IsGame g.game) (some_ring : 0 < g.ring) (log : Lo
   after_legal : IsLegalLog g after
   after_legal = run_legal g log xs legal
 
-  all_delivered : IsClosed g after → (e : ℕ) → e < all_edges g → delivered_on g log xs e ≡ sent_on g log xs e
+  all_delivered : IsClosed g after → (e : ℕ) → e < all_edges g → delivered_on g log xs e ≡ to_deliver g log xs e
   all_delivered closed e l =
       let a = append-nil (delivered_on g log xs e) in
       let b = nothing_in_flight g game some_ring after after_legal closed e l in

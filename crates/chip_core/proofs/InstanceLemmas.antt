@@ -28,7 +28,7 @@ use Rattle.chip_detect.specs.Change.{AddsAnswers}
 use Rattle.chip_core.proofs.NumberLemmas.{claims_most}
 use Rattle.chip_diffusing.specs.Network.{Network, IsNetwork}
 use Rattle.chip_diffusing.specs.Computation as diffusing
-use Rattle.chip_diffusing.specs.Computation.{Happens, Leads, May, Notes, Wakes, Get, Send, Work, OpensPart, World}
+use Rattle.chip_diffusing.specs.Computation.{Happens, Leads, May, NotesEvent, Wakes, Get, Send, Work, OpensPart, World}
 use Rattle.chip_diffusing.proofs.CountedLemmas.{books_by, side, side_same, side_message, side_answers, side_open}
 use Rattle.chip_diffusing.proofs.CountedLemmas.{side_all_open, side_fresh, counts_in}
 use Rattle.chip_core.specs.Instance.{network_of, passive_of, Shows, CoreDiffuses}
@@ -72,7 +72,7 @@ module _ (g : Setting) where
   books_of p s = books_by (ins p) (outs p) (λ e. length (s.into e).got) (λ e. (s.into e).acked)
       (λ e. claims_of (s.out e).link) (λ e. (s.out e).settled) s.parent
 
-  abbrev show : ℕ → Part → diffusing.Part
+  abbrev show : ℕ → Part → diffusing.PartState
   show p s = record { books = books_of p s; passive = passive_of g p s }
 
   -- the world of these parts
@@ -87,7 +87,7 @@ module _ (g : Setting) where
   -- what an event of the part s is, if it saw this word. By the end of feeding the root settles, and is passive then
   abbrev pub event_by : Event → ℕ → Part → diffusing.Event
   event_by (Take e) seen s = cond (eqb seen 0) (Work (head_of g e)) (Get e)
-  event_by (Ack e) seen s = diffusing.Ack e (part.may_ack g (head_of g e) s e)
+  event_by (Ack e) seen s = diffusing.Ack e (part.may_ack_on g (head_of g e) s e)
   event_by (Claim e) seen s = cond (eqb seen (claims_of (s.out e).link)) (Send e) (Work (tail_of g e))
   event_by (Settle e) seen s = diffusing.Settle e seen
   event_by (Feed e k) seen s = Send e
@@ -106,30 +106,30 @@ module _ (g : Setting) where
   in_outs e p l at = picked_has (λ i. eqb (tail_of g i) p) (all_edges g) e l (eq-eqb _ _ at)
 
   -- one part acts, from this state to that, as its own books tell
-  acts : (old new : ℕ → Part) (x : diffusing.Event) (q : ℕ) (s t : Part) → diffusing.part_of net x ≡ q → old q ≡ s
-      → new q ≡ t → ((p : ℕ) → p ≢ q → new p ≡ old p) → May net (world old) x → Notes (books_of q s) x (books_of q t)
+  acts : (old new : ℕ → Part) (x : diffusing.Event) (q : ℕ) (s t : Part) → diffusing.process_of net x ≡ q → old q ≡ s
+      → new q ≡ t → ((p : ℕ) → p ≢ q → new p ≡ old p) → May net (world old) x → NotesEvent (books_of q s) x (books_of q t)
       → Wakes (passive_of g q s) x (passive_of g q t) → Happens net (world old) x (world new)
   acts old new x q s t at was now others may notes wakes = record {
     may = may;
-    notes = here (λ a b. Notes a.books x b.books) notes;
+    notes = here (λ a b. NotesEvent a.books x b.books) notes;
     wakes = here (λ a b. Wakes a.passive x b.passive) wakes;
     others = λ p n. ap (show p) (others p (λ z. n (z ∙ sym at)));
   }
     where
-      here : (P : diffusing.Part → diffusing.Part → Type 0) → P (show q s) (show q t)
-          → P (world old (diffusing.part_of net x)) (world new (diffusing.part_of net x))
+      here : (P : diffusing.PartState → diffusing.PartState → Type 0) → P (show q s) (show q t)
+          → P (world old (diffusing.process_of net x)) (world new (diffusing.process_of net x))
       here P holds = subst (λ (p : ℕ). P (world old p) (world new p)) (sym at)
           (subst (λ (u : Part). P (show q u) (world new q)) (sym was)
           (subst (λ (u : Part). P (show q s) (show q u)) (sym now) holds))
 
   -- what is owed in all and waited for in all
-  pub owed_same : (p : ℕ) (s : Part) → all_owed (books_of p s) ≡ part.all_owed g p s
+  pub owed_same : (p : ℕ) (s : Part) → all_owed (books_of p s) ≡ part.owed_by g p s
   owed_same p s = side_all_open (ins p) (λ e. length (s.into e).got) (λ e. (s.into e).acked)
-      ∙ picked_sum (λ e. part.owed (s.into e)) (λ e. eqb (head_of g e) p) (all_edges g)
+      ∙ picked_sum (λ e. part.owed_on (s.into e)) (λ e. eqb (head_of g e) p) (all_edges g)
 
-  pub deficit_same : (p : ℕ) (s : Part) → deficit (books_of p s) ≡ part.deficit g p s
+  pub deficit_same : (p : ℕ) (s : Part) → deficit (books_of p s) ≡ part.deficit_of g p s
   deficit_same p s = side_all_open (outs p) (λ e. claims_of (s.out e).link) (λ e. (s.out e).settled)
-      ∙ picked_sum (λ e. part.outstanding (s.out e)) (λ e. eqb (tail_of g e) p) (all_edges g)
+      ∙ picked_sum (λ e. part.outstanding_on (s.out e)) (λ e. eqb (tail_of g e) p) (all_edges g)
 
   pub at_vertex : (p : ℕ) (s : Part) → p < root g → passive_of g p s ≡ is_passive g p s
   at_vertex p s l = grind (arith, nat_tests)
@@ -138,11 +138,11 @@ module _ (g : Setting) where
   at_root p s at = grind (arith, nat_tests)
 
   pub owes_same : (e p : ℕ) (s : Part) → e < all_edges g → head_of g e ≡ p
-      → owed (books_of p s) e ≡ part.owed (s.into e)
+      → owed (books_of p s) e ≡ part.owed_on (s.into e)
   owes_same e p s l at = side_open (ins p) (λ i. length (s.into i).got) (λ i. (s.into i).acked) e (in_ins e p l at)
 
   pub may_same : (e p : ℕ) (s : Part) → e < all_edges g → head_of g e ≡ p → p < root g
-      → detect.may_ack (books_of p s) e (passive_of g p s) ≡ part.may_ack g p s e
+      → detect.may_ack (books_of p s) e (passive_of g p s) ≡ part.may_ack_on g p s e
   may_same e p s l at vertex =
       let here = owes_same e p s l at in
       let all = owed_same p s in let waits = deficit_same p s in let rests = at_vertex p s vertex in cc
@@ -200,15 +200,15 @@ module _ (g : Setting) where
 
   module _ (game : IsGame g.game) (some_ring : 0 < g.ring) where
     -- one event of a part, by what it does to the part
-    by_event : (x : Step) (log : Log) (y : diffusing.Event) → part_of g x.event ≡ diffusing.part_of net y
+    by_event : (x : Step) (log : Log) (y : diffusing.Event) → part_of g x.event ≡ diffusing.process_of net y
         → May net (was log) y
-        → Notes (books_of (diffusing.part_of net y) (part_in g log (diffusing.part_of net y))) y
-        (books_of (diffusing.part_of net y) (does g x (part_in g log (diffusing.part_of net y))))
-        → Wakes (passive_of g (diffusing.part_of net y) (part_in g log (diffusing.part_of net y))) y
-        (passive_of g (diffusing.part_of net y) (does g x (part_in g log (diffusing.part_of net y))))
+        → NotesEvent (books_of (diffusing.process_of net y) (part_in g log (diffusing.process_of net y))) y
+        (books_of (diffusing.process_of net y) (does g x (part_in g log (diffusing.process_of net y))))
+        → Wakes (passive_of g (diffusing.process_of net y) (part_in g log (diffusing.process_of net y))) y
+        (passive_of g (diffusing.process_of net y) (does g x (part_in g log (diffusing.process_of net y))))
         → Happens net (was log) y (was (x ∷ log))
     by_event x log y at may notes wakes =
-        let q : ℕ = diffusing.part_of net y in
+        let q : ℕ = diffusing.process_of net y in
         let s : Part = part_in g log q in
         acts (part_in g log) (part_in g (x ∷ log)) y q s (does g x s) refl refl (part_here g x log q at)
         (λ p n. part_else g x log p (λ z. n (sym z ∙ at))) may notes wakes
@@ -232,9 +232,9 @@ module _ (g : Setting) where
         no_parent = refl;
         passive = sym (at_vertex v (part_in g log v) l) ∙ on;
         nothing_owed = tested_none (all_edges g) (λ e. eqb (head_of g e) v)
-            (λ e. part.owed ((settled_up (part_in g log v)).into e)) (λ e m is. omega arith);
+            (λ e. part.owed_on ((settled_up (part_in g log v)).into e)) (λ e m is. omega arith);
         no_deficit = tested_none (all_edges g) (λ e. eqb (tail_of g e) v)
-            (λ e. part.outstanding ((settled_up (part_in g log v)).out e)) (λ e m is. omega arith);
+            (λ e. part.outstanding_on ((settled_up (part_in g log v)).out e)) (λ e m is. omega arith);
       }
 
       -- an edge of the graph with something pending doesn't leave a passive vertex
@@ -366,7 +366,7 @@ module _ (g : Setting) where
         let s : Part = part_in g log h in
         let may = rules_met g (Ack e) s legal.1.0 in
         let l = may.0 in
-        let n : ℕ = part.may_ack g h s e in
+        let n : ℕ = part.may_ack_on g h s e in
         let t : Part = does g (saw (Ack e) seen) s in
         let same = may_same e h s l refl (head_inside g game e l) in
         by_event (saw (Ack e) seen) log (diffusing.Ack e n) refl (l, omega arith)
@@ -374,7 +374,7 @@ module _ (g : Setting) where
           ins = side_answers (ins h) (λ i. length (s.into i).got) (λ i. (s.into i).acked) (λ i. length (s.into i).got)
               (λ i. acked_after g (Ack e) s i (s.into i)) e n (in_ins e h l refl) (λ i m. refl) (λ i m. refl);
           outs = refl;
-          parent = parent_goes s.parent e n (λ i. part.owed (s.into i)) (owed (books_of h t)) (may_le g h e s)
+          parent = parent_goes s.parent e n (λ i. part.owed_on (s.into i)) (owed (books_of h t)) (may_le g h e s)
               (λ q is.
               let k = (kept log legal.0 h).parents q is in
               let shown = side_open (ins h) (λ i. length (s.into i).got) (λ i. acked_after g (Ack e) s i (s.into i)) q
@@ -522,8 +522,8 @@ module _ (g : Setting) where
         })
         (λ on. absurd (not_passive k on)))
       where
-        by : (y : diffusing.Event) → diffusing.part_of net y ≡ r → May net (world (starting k)) y
-            → Notes (books_of r (rooted k)) y (books_of r (rooted (suc k)))
+        by : (y : diffusing.Event) → diffusing.process_of net y ≡ r → May net (world (starting k)) y
+            → NotesEvent (books_of r (rooted k)) y (books_of r (rooted (suc k)))
             → Wakes (passive_of g r (rooted k)) y (passive_of g r (rooted (suc k)))
             → Happens net (world (starting k)) y (world (starting (suc k)))
         by y at may notes wakes = acts (starting k) (starting (suc k)) y r (rooted k) (rooted (suc k)) at (at_start k)
@@ -599,7 +599,7 @@ module _ (g : Setting) where
             ins = a.0;
             outs = b.0;
             engaged = λ q z. absurd (none_some q s.parent none z);
-            neutral = λ z. owed_same p s ∙ tested_none (all_edges g) (λ e. eqb (head_of g e) p) (λ e. part.owed (s.into e))
+            neutral = λ z. owed_same p s ∙ tested_none (all_edges g) (λ e. eqb (head_of g e) p) (λ e. part.owed_on (s.into e))
                 (λ e l on. (let x = got e in omega arith));
           };
           passive = passive;

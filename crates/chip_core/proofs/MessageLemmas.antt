@@ -12,7 +12,7 @@ use Rattle.chip_core.proofs.Names.{first_sent, Log, Event, Take, Clear, Claim, P
 use Rattle.chip_core.proofs.Names.{part_of, reply_of, part_in, out_in, into_in, fired_by, sees, IsLegalLog, answer}
 use Rattle.chip_core.proofs.Names.{step, log_after, replies_to, tail_of, graph_edges, Message, sent_by, delivered_by}
 use Rattle.chip_core.proofs.Names.{is_seal_of, sent_in, sent_after_seal, is_seal, was_sealed, messages_from}
-use Rattle.chip_core.proofs.Names.{counts_in_flight, in_flight, sent_on, delivered_on, AreInOrderFrom, chips_in}
+use Rattle.chip_core.proofs.Names.{counts_in_flight, in_flight, to_deliver, delivered_on, AreInOrderFrom, chips_in}
 use Rattle.chip_core.proofs.Names.{chips_given, held, OpeningMessages, InOrderFromTheOpening}
 use Rattle.chip_core.proofs.LogLemmas.{edge_sound, link_step, got_step}
 use Rattle.chip_core.proofs.PositionLemmas.{held_is}
@@ -199,28 +199,28 @@ module _ (g : Setting) where
 
     -- all that was sent after a run: what was delivered before it, and what it had to deliver
     all_sent : (log : Log) (xs : List Event) (e : ℕ) → IsLegalLog g log
-        → sent_at (log_after g log xs) e ≡ got_at log e ++ sent_on g log xs e
+        → sent_at (log_after g log xs) e ≡ got_at log e ++ to_deliver g log xs e
     all_sent log xs e legal =
         let a = sent_is log xs e legal in let b = in_flight_is log e legal in
         let c = append_assoc (got_at log e) (in_flight g log e) (sent_in e xs (replies_to g log xs)) in cc
 
     -- the prefix law, with what is left
     pub left_is : (log : Log) (xs : List Event) (e : ℕ) → IsLegalLog g log
-        → delivered_on g log xs e ++ in_flight g (log_after g log xs) e ≡ sent_on g log xs e
+        → delivered_on g log xs e ++ in_flight g (log_after g log xs) e ≡ to_deliver g log xs e
     left_is log xs e legal =
         let after : Log = log_after g log xs in
-        append_cancel_left (got_at log e) (delivered_on g log xs e ++ in_flight g after e) (sent_on g log xs e)
+        append_cancel_left (got_at log e) (delivered_on g log xs e ++ in_flight g after e) (to_deliver g log xs e)
         (let a = append_assoc (got_at log e) (delivered_on g log xs e) (in_flight g after e) in
         let b = delivered_is log xs e in let c = in_flight_is after e (run_legal g log xs legal) in
         let d = all_sent log xs e legal in cc)
 
     pub delivers_prefix : (log : Log) (xs : List Event) (e : ℕ) → IsLegalLog g log
-        → IsPrefix (delivered_on g log xs e) (sent_on g log xs e)
+        → IsPrefix (delivered_on g log xs e) (to_deliver g log xs e)
     delivers_prefix log xs e legal = (in_flight g (log_after g log xs) e, left_is log xs e legal)
 
     -- what a run has to deliver is what the tail's part has after it, but for what was delivered before
     pub sent_stands : (log : Log) (xs : List Event) (e : ℕ) → IsLegalLog g log
-        → sent_on g log xs e ≡ messages_from e (length (into_in g log e).got)
+        → to_deliver g log xs e ≡ messages_from e (length (into_in g log e).got)
         (drop (length (into_in g log e).got) (sent_counts (out_in g (log_after g log xs) e).link))
     sent_stands log xs e legal =
         let n : ℕ = length (into_in g log e).got in
@@ -228,18 +228,18 @@ module _ (g : Setting) where
         let front : length (got_at log e) ≡ n = length-messages e 0 (into_in g log e).got in
         let both = ap length (all_sent log xs e legal) in
         let long = length-messages e 0 all in
-        let parts = length-append (got_at log e) (sent_on g log xs e) in
+        let parts = length-append (got_at log e) (to_deliver g log xs e) in
         let enough : n ≤ length all = omega arith in
         let taken : length (take n all) ≡ n = Rattle.std.proofs.lemmas.List.length-take-le n all enough in
         let cut : messages_from e 0 all ≡ messages_from e 0 (take n all) ++ messages_from e n (drop n all) =
         (let a = take-append-drop n all in let b = messages-append e 0 (take n all) (drop n all) in
         let c : 0 + length (take n all) ≡ n = omega arith in cc) in
-        let d = drop_at (got_at log e) (sent_on g log xs e) n front in let f = all_sent log xs e legal in
+        let d = drop_at (got_at log e) (to_deliver g log xs e) n front in let f = all_sent log xs e legal in
         let h = drop_at (messages_from e 0 (take n all)) (messages_from e n (drop n all)) n
         (let k = length-messages e 0 (take n all) in grind (arith, nat_tests)) in cc
 
     pub sent_in_order : (log : Log) (xs : List Event) (e : ℕ) → IsLegalLog g log
-        → AreInOrderFrom e (length (into_in g log e).got) (sent_on g log xs e)
+        → AreInOrderFrom e (length (into_in g log e).got) (to_deliver g log xs e)
     sent_in_order log xs e legal = rw (sent_stands log xs e legal) (messages_in_order e (length
         (into_in g log e).got) (drop (length (into_in g log e).got) (sent_counts (out_in g
         (log_after g log xs) e).link)))

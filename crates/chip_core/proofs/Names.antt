@@ -50,7 +50,7 @@ pub use Rattle.chip_link.proofs.SoundsLemmas.{take_sound, seal_sound, fresh_soun
 pub use Rattle.chip_link.proofs.WordLawsLemmas.{edge_word_reads, fired_word_reads, halts_word, halts_by_limit}
 pub use Rattle.chip_link.specs.Laws.{IsPrefix}
 pub use Rattle.chip_link.specs.Link.{claims_of, sent_counts, Tail, after_clear, after_claim, after_put, after_take}
-pub use Rattle.chip_link.specs.Link.{after_seal, Sound, IsSealedAt, word_of, Shows}
+pub use Rattle.chip_link.specs.Link.{after_seal, Sound, IsSealedAt, word_of, WordsShow}
 pub use Rattle.chip_link.specs.WordLaws.{ReadsAs, ReadsAsFired}
 pub use Rattle.chip_link.specs.Words.{edge_word, fired_word, word_after_exchange}
 pub use Rattle.chip_detect.proofs.ListLemmas.{contains_nothing, none_some, contains_cases}
@@ -70,7 +70,7 @@ pub use Rattle.chip_part.specs.Acting.{FitsSeen, is_of_root, FitsRoot}
 pub use Rattle.chip_part.specs.Counting.{is_sent, work_of}
 pub use Rattle.chip_part.specs.Edges.{over_ins, start_of, mult_of, chips_of_firings}
 pub use Rattle.chip_part.specs.Kept.{IsNeutral, Met, opening_tail, KeepsOut, KeepsPart}
-pub use Rattle.chip_part.specs.Part.{pending_of, owed, is_passive, is_legal, is_running, may_ack, deficit, unput_count}
+pub use Rattle.chip_part.specs.Part.{pending_of, owed_on, is_passive, is_legal, is_running, may_ack_on, deficit_of, unput_count}
 pub use Rattle.chip_part.specs.Part.{refusals, cause, all_fed, AreGiven, first_put}
 pub use Rattle.chip_part.specs.Setting.{Setting}
 pub use Rattle.chip_part.specs.Steps.{saw, link_after, stop_after, message_of, settled_after, got_after, acked_after}
@@ -84,7 +84,7 @@ pub use Rattle.chip_part.specs.declared.reply.Reply.TheVariants.{Got, Sent, Empt
 pub use Rattle.chip_core.specs.Closing.{HasEnd, is_new_look, Advances, AsksFor, AsksForEverything, RootHasPut, HasTurn}
 pub use Rattle.chip_core.specs.Closing.{HasRound, StirsNothing, NothingIsTold, HasStretches, HasRounds}
 pub use Rattle.chip_core.specs.Core.{Log, Step, Event, Part, Take, Ack, Fire, Clear, Claim, Put, Halt, Settle, Seal}
-pub use Rattle.chip_core.specs.Core.{Read, Feed, End, part_of, does, part_in, out_in, into_in, IsLegalLog, outstanding}
+pub use Rattle.chip_core.specs.Core.{Read, Feed, End, part_of, does, part_in, out_in, into_in, IsLegalLog, outstanding_on}
 pub use Rattle.chip_core.specs.Core.{tail_of, head_of, root, all_edges, graph_edges, Rule, unmet_rule, sees}
 pub use Rattle.chip_core.specs.Core.{is_by_limit, answer, step, log_after, IsClosed, stopper, root_edge, Out, IsSettled}
 pub use Rattle.chip_core.specs.Core.{fired_by, stop_in, Into, reply_of, replies_to, word_of_part, opening_part}
@@ -94,18 +94,18 @@ pub use Rattle.chip_core.specs.Histories.{done_by, part_by}
 pub use Rattle.chip_core.specs.Laws.{GivenByTheRecord, OpeningMessages, InOrderFromTheOpening, CountsOf, NumbersOf}
 pub use Rattle.chip_core.specs.Laws.{CellsOf, WordsOf, WordsTell, SealsStand, UnfedIsTheStart, FeedsAreSent, gone_into}
 pub use Rattle.chip_core.specs.Laws.{PartsByTheirOwnEvents, LegalLogsAreRuns}
-pub use Rattle.chip_core.specs.Messages.{counts_in_flight, messages_from, in_flight, Message, sent_on, delivered_on}
+pub use Rattle.chip_core.specs.Messages.{counts_in_flight, messages_from, in_flight, Message, to_deliver, delivered_on}
 pub use Rattle.chip_core.specs.Messages.{sent_by, delivered_by, is_seal_of, sent_in, sent_after_seal, is_seal}
 pub use Rattle.chip_core.specs.Messages.{was_sealed, AreInOrderFrom, chips_in}
 pub use Rattle.chip_core.specs.Outcomes.{is_by_seal, AreFired, IsOutcomeOf, ComesTo, OutcomesTell}
-pub use Rattle.chip_core.specs.Playing.{SealsNone, PlaysOut, UnsealedHaltsNone, FairSchedulesPlay, FairRoundsPlay}
+pub use Rattle.chip_core.specs.Playing.{SealsNone, EndsAsPlayed, UnsealedHaltsNone, FairSchedulesPlay, FairRoundsPlay}
 pub use Rattle.chip_core.specs.Positions.{chips_given, held, chips_at, firings, AgreesWith, played_game, fed_of, fed_in}
-pub use Rattle.chip_core.specs.Positions.{full_position, firings_of, LeadsTo, events_in}
+pub use Rattle.chip_core.specs.Positions.{full_position, firings_of, FiresToEnd, events_in}
 pub use Rattle.chip_core.specs.Reached.{parts_by, IsOneMore, IsReached, at_opening, one_more, ReachedByLegalLogs}
 pub use Rattle.chip_core.specs.Replies.{is_idle, DifferInNotes, IdleStepsLeave, RunsGoOn}
-pub use Rattle.chip_core.specs.Soon.{HasTerminated, IsAtMostDeep, DepthCloses, DepthClosesLater}
-pub use Rattle.chip_core.specs.Soon.{DepthIsCounted}
-pub use Rattle.chip_core.specs.Wasting.{AllAdvance, NoneIsDue, NoWasteCloses}
+pub use Rattle.chip_core.specs.Soon.{HasTerminated, IsTreeAtMostDeep, CoreDepthCloses, DepthClosesLater}
+pub use Rattle.chip_core.specs.Soon.{CoreDepthIsCounted}
+pub use Rattle.chip_core.specs.Wasting.{AllAdvance, NoneIsDue, CoreNoWasteCloses}
 pub use Rattle.chip_core.specs.Words.{acting_part, of_edge, of_cell, Word, of_vertex, IsWord, halt_bits, word_of_event}
 pub use Rattle.chip_core.specs.Words.{word_to_note, IsShown, OperationsFind, IsLeft, WordsGoOn}
 pub use Rattle.chip_core.specs.Work.{counts_as_work, is_refusal, work_in, refusals_in, steps_at_most, fed_so_far}

@@ -5,7 +5,7 @@ use Rattle.chip_core.proofs.Names.{arith, ◌<◌, ◌++◌, true≢false, nat_t
 use Rattle.chip_core.proofs.Names.{word_of, Setting, refusals, cause, link_after, halt_after, stop_after, at_edge}
 use Rattle.chip_core.proofs.Names.{is_none_of, Log, Event, Clear, Claim, Put, Halt, Feed, Seal, Part, part_of, part_in}
 use Rattle.chip_core.proofs.Names.{does, out_in, stop_in, sees, IsLegalLog, IsClosed, tail_of, all_edges, log_after}
-use Rattle.chip_core.proofs.Names.{is_by_seal, SealsNone, PlaysOut, UnsealedHaltsNone, FairSchedulesPlay}
+use Rattle.chip_core.proofs.Names.{is_by_seal, SealsNone, EndsAsPlayed, UnsealedHaltsNone, FairSchedulesPlay}
 use Rattle.chip_core.proofs.Names.{FairRoundsPlay}
 use Rattle.chip_core.proofs.LogLemmas.{link_step, stop_step}
 use Rattle.chip_core.proofs.NumberLemmas.{seals_stand}
@@ -65,7 +65,7 @@ unsealed_halts_none g game some_ring log legal open_all v l is = true≢false (l
     (λ e. is_none_of (stop_in g log e) (let b = seals_stand g log e in let c = open_all e in cc))).1 v in cc)
 
 pub plays_out : (g : Setting) → IsGame g.game → 0 < g.ring → (log : Log) → IsLegalLog g log → SealsNone log → IsClosed g log
-    → PlaysOut g log
+    → EndsAsPlayed g log
 plays_out g game some_ring log legal open_all closed = (
   closed,
   λ o is.

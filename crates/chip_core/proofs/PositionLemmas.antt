@@ -10,7 +10,7 @@ use Rattle.chip_core.proofs.Names.{sequence-append, batch, position_by_counts_la
 use Rattle.chip_core.proofs.Names.{over_ins, chips_of_firings, over_ins_graph, tail_graph, rules_met, saw, fired_after}
 use Rattle.chip_core.proofs.Names.{Log, Event, Fire, part_of, part_in, out_in, into_in, fired_by, IsLegalLog, tail_of}
 use Rattle.chip_core.proofs.Names.{head_of, all_edges, graph_edges, counts_in_flight, chips_given, held, full_position}
-use Rattle.chip_core.proofs.Names.{firings, firings_of, LeadsTo, gone_into}
+use Rattle.chip_core.proofs.Names.{firings, firings_of, FiresToEnd, gone_into}
 use Rattle.chip_core.proofs.LogLemmas.{part_kept, out_kept, edge_sound}
 use Rattle.chip_core.proofs.GivenLemmas.{started_grows}
 
@@ -150,7 +150,7 @@ module _ (g : Setting) where
     is_within log legal u = let a = counts_are log u in let b = (part_kept g game log legal u).within in omega arith
 
     -- the position law
-    pub leads_to : (log : Log) → IsLegalLog g log → LeadsTo g log (firings log)
+    pub leads_to : (log : Log) → IsLegalLog g log → FiresToEnd g log (firings log)
     leads_to log legal = record {
       sequence = is_sequence log legal;
       within = is_within log legal;

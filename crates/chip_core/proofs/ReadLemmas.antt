@@ -1,24 +1,24 @@
 -- Serves Core.antt.
 -- Every read that was made saw the fired word that stands at the end, and the root is closed there.
 use Rattle.chip_core.proofs.Names.{◌≡◌, ◌↔◌, ℕ, ◌<◌, [], ◌∷◌, true, None, Contains, arith, ⊎_elim, eqb}
-use Rattle.chip_core.proofs.Names.{eqb-true, IsGame, Setting, tested_none, deficit, rules_met, out_zero, Log, Step}
+use Rattle.chip_core.proofs.Names.{eqb-true, IsGame, Setting, tested_none, deficit_of, rules_met, out_zero, Log, Step}
 use Rattle.chip_core.proofs.Names.{Read, unmet_rule, part_in, word_of_part, IsLegalLog, IsSettled}
-use Rattle.chip_core.proofs.Names.{IsClosed, outstanding, tail_of, root, all_edges, contains_cases}
+use Rattle.chip_core.proofs.Names.{IsClosed, outstanding_on, tail_of, root, all_edges, contains_cases}
 use Rattle.chip_core.proofs.ClosingLemmas.{still, still_closed}
 
 -- the two ways to say that all that the root sent is settled
-pub settled_is : (g : Setting) (log : Log) → (deficit g (root g) (part_in g log (root g)) ≡ 0) ↔ IsSettled g log
+pub settled_is : (g : Setting) (log : Log) → (deficit_of g (root g) (part_in g log (root g)) ≡ 0) ↔ IsSettled g log
 settled_is g log = (
-  (λ none e l at. (let a = out_zero g (root g) (λ i. outstanding ((part_in g log (root g)).out i)) none e l at in
+  (λ none e l at. (let a = out_zero g (root g) (λ i. outstanding_on ((part_in g log (root g)).out i)) none e l at in
       cc)),
   (λ settled. tested_none (all_edges g) (λ e. eqb (tail_of g e) (root g))
-      (λ e. outstanding ((part_in g log (root g)).out e)) (λ e l on.
+      (λ e. outstanding_on ((part_in g log (root g)).out e)) (λ e l on.
       (let at = eqb-true (tail_of g e) (root g) on in let b = settled e l at in cc))),
 )
 
 -- and that it is closed
 pub closed_is : (g : Setting) (log : Log)
-    → (((part_in g log (root g)).ended ≡ true) × (deficit g (root g) (part_in g log (root g)) ≡ 0)) ↔ IsClosed g log
+    → (((part_in g log (root g)).ended ≡ true) × (deficit_of g (root g) (part_in g log (root g)) ≡ 0)) ↔ IsClosed g log
 closed_is g log = (
   (λ both. (both.0, (settled_is g log).0 both.1)),
   (λ closed. (closed.0, (settled_is g log).1 closed.1)),

@@ -4,7 +4,7 @@ use Rattle.chip_core.proofs.Names.{nat_tests, eqb-false, rules, ◌≡◌, ◌�
 use Rattle.chip_core.proofs.Names.{◌&&◌, cond, eqb, List, [], ◌∷◌, ◌++◌, length, Option, Some, None, is_some, Contains}
 use Rattle.chip_core.proofs.Names.{refl, sym, ap, ◌∙◌, subst, arith, inl, inr, ⊎_elim, eqb-true, true≢false}
 use Rattle.chip_core.proofs.Names.{Contains-append_left, Contains-append_right, Contains-push_cases, by_test, Setting}
-use Rattle.chip_core.proofs.Names.{work_of, Part, is_running, refusals, may_ack, head_of, tail_of, Event, Take, Ack}
+use Rattle.chip_core.proofs.Names.{work_of, Part, is_running, refusals, may_ack_on, head_of, tail_of, Event, Take, Ack}
 use Rattle.chip_core.proofs.Names.{Fire, Clear, Claim, Put, Halt, Settle, Step, does, saw, Phase, nothing, either_phase}
 use Rattle.chip_core.proofs.Names.{each_phase, one_step, seeing, ins_of, outs_of, may_fire, batch_of, putting, sending}
 use Rattle.chip_core.proofs.Names.{sending_all, after_claim_phase, is_at_limit, acknowledging_parent, turn, part_by}
@@ -348,8 +348,8 @@ module _ (g : Setting) where
       its_step x has = rw its.all_are (Contains-append_right its.late (its.middle ++ its.early) x
           (Contains-append_left its.middle its.early x (own_in v its.middle x has)))
 
-      none_left : (e : ℕ) → e < all_edges g → head_of g e ≡ v → may_ack g v (part_in g after v) e ≡ 0
-      none_left e l at = sym (ap (λ (p : Part). may_ack g v p e) same)
+      none_left : (e : ℕ) → e < all_edges g → head_of g e ≡ v → may_ack_on g v (part_in g after v) e ≡ 0
+      none_left e l at = sym (ap (λ (p : Part). may_ack_on g v p e) same)
           ∙ nothing_left g v s ds its.are_turn.0 its.are_turn.1 e at
 
     all_put : (e : ℕ) → e < all_edges g → (out_in g after e).link.held ≡ None

@@ -4,10 +4,10 @@
 use Rattle.chip_core.proofs.Names.{nat_tests, ◌≡◌, ◌≢◌, ℕ, ◌+◌, ◌-◌, ◌%◌, ◌^◌, ◌<◌, true, false, cond, eqb, List, ◌∷◌}
 use Rattle.chip_core.proofs.Names.{length, sum, Option, Some, None, option_to_list, refl, ◌∙◌}
 use Rattle.chip_core.proofs.Names.{arith, ⊎_elim, zero-add, bit_or, mod_below, dite, ℕ_discrete, cond_yes, cond_no}
-use Rattle.chip_core.proofs.Names.{Tail, claims_of, after_claim, after_put, after_take, after_seal, Sound, Shows}
+use Rattle.chip_core.proofs.Names.{Tail, claims_of, after_claim, after_put, after_take, after_seal, Sound, WordsShow}
 use Rattle.chip_core.proofs.Names.{fired_word, word_after_exchange, clear_sees, claim_shows, put_shows, take_sees}
 use Rattle.chip_core.proofs.Names.{take_shows, seal_shows, one_held, halts_word, halts_by_limit, IsGame, Setting, Cause}
-use Rattle.chip_core.proofs.Names.{may_ack, cause, is_by_limit, SealedEdge, FiringLimit, Met, link_after, got_after}
+use Rattle.chip_core.proofs.Names.{may_ack_on, cause, is_by_limit, SealedEdge, FiringLimit, Met, link_after, got_after}
 use Rattle.chip_core.proofs.Names.{acked_after, stop_after, saw, at_edge, at_other, may_le, rules_met, Log, Step, Event}
 use Rattle.chip_core.proofs.Names.{Take, Ack, Fire, Clear, Claim, Put, Halt, Settle, Seal, Read, Feed, End, Part, Out}
 use Rattle.chip_core.proofs.Names.{unmet_rule, part_of, does, part_in, out_in, into_in, stop_in, word_of_part, sees}
@@ -22,7 +22,7 @@ use Rattle.chip_core.proofs.NumberLemmas.{claims_most}
 -- the same edge, read off other words
 reread : (ring word word' : ℕ) (cell cell' : ℕ → ℕ) (t : Tail) (got : List ℕ) (stop : Option ℕ) → 0 < ring
     → word' ≡ word → ((i : ℕ) → i < ring → cell' i ≡ cell i)
-    → Shows ring word cell t got stop → Shows ring word' cell' t got stop
+    → WordsShow ring word cell t got stop → WordsShow ring word' cell' t got stop
 reread ring word word' cell cell' t got stop some_ring e es ok = record {
   word_is = cc;
   ring_is = λ p lo hi. es (p % ring) (mod_below p ring some_ring) ∙ ok.ring_is p lo hi;
@@ -96,12 +96,12 @@ module _ (g : Setting) (game : IsGame g.game) (some_ring : 0 < g.ring) (log : Lo
     -- an edge whose words are the same
     same_edge : (e : ℕ) → e < all_edges g → value' (of_edge e) ≡ value (of_edge e)
         → ((i : ℕ) → i < g.ring → value' (of_cell e i) ≡ value (of_cell e i))
-        → Shows g.ring (value' (of_edge e)) (λ i. value' (of_cell e i)) (out_in g log e).link (into_in g log e).got
+        → WordsShow g.ring (value' (of_edge e)) (λ i. value' (of_cell e i)) (out_in g log e).link (into_in g log e).got
         (stop_in g log e)
     same_edge e l word cells = reread g.ring _ _ _ _ _ _ _ some_ring word cells (shown.edges e l)
 
     ShowsAfter : Event → ℕ → Type 0
-    ShowsAfter x e = Shows g.ring (value' (of_edge e))
+    ShowsAfter x e = WordsShow g.ring (value' (of_edge e))
         (λ i. value' (of_cell e i)) (link_after x (seen_by x) e (out_in g log e))
         (got_after x (seen_by x) e (into_in g log e)) (stop_after x (seen_by x) e (stop_in g log e))
 
@@ -109,7 +109,7 @@ module _ (g : Setting) (game : IsGame g.game) (some_ring : 0 < g.ring) (log : Lo
     other_words : (x : Event) → IsLeft g log x value value' → (e : ℕ) → e < all_edges g
         → (of_edge e ≢ word_of_event g x (acting_part g log x))
         → ((i : ℕ) → of_cell e i ≢ word_of_event g x (acting_part g log x))
-        → Shows g.ring (value' (of_edge e)) (λ i. value' (of_cell e i)) (out_in g log e).link (into_in g log e).got
+        → WordsShow g.ring (value' (of_edge e)) (λ i. value' (of_cell e i)) (out_in g log e).link (into_in g log e).got
         (stop_in g log e)
     other_words x w e l ne nes = same_edge e l (w.others (of_edge e) l ne)
         (λ i h. w.others (of_cell e i) (l, h) (nes i))
@@ -120,11 +120,11 @@ module _ (g : Setting) (game : IsGame g.game) (some_ring : 0 < g.ring) (log : Lo
         (value (of_edge a))
         → ((i : ℕ) → i < all_edges g → a ≢ i → value' (of_edge i) ≡ value (of_edge i))
         → ((i : ℕ) → i < all_edges g → (j : ℕ) → j < g.ring → value' (of_cell i j) ≡ value (of_cell i j)) → (e : ℕ)
-        → e < all_edges g → Shows g.ring (value' (of_edge e)) (λ j. value' (of_cell e j))
+        → e < all_edges g → WordsShow g.ring (value' (of_edge e)) (λ j. value' (of_cell e j))
         (cond (eqb a e) (after_claim (count e) seen (out_in g log e).link) (out_in g log e).link) (into_in g log e).got
         (stop_in g log e)
     claim_after a count clear seen found here edges cells e l = at_other (λ i (u : Tail). i < all_edges g
-        → Shows g.ring (value' (of_edge i)) (λ j. value' (of_cell i j)) u (into_in g log i).got (stop_in g log i)) a
+        → WordsShow g.ring (value' (of_edge i)) (λ j. value' (of_cell i j)) u (into_in g log i).got (stop_in g log i)) a
         (λ i. after_claim (count i) seen (out_in g log i).link) (λ i. (out_in g log i).link)
         (λ m. reread g.ring _ _ _ _ _ _ _ some_ring refl (cells a m)
         (rw (← found) (claim_shows g.ring some_ring (value (of_edge a)) (λ j. value (of_cell a j)) _ _ _ (sound a)
@@ -136,7 +136,7 @@ module _ (g : Setting) (game : IsGame g.game) (some_ring : 0 < g.ring) (log : Lo
         → e < all_edges g → ShowsAfter x e
     unfolding ShowsAfter
     edges_after (Take a) none w e l = at_other (λ i (got : List ℕ). i < all_edges g
-        → Shows g.ring (value' (of_edge i)) (λ j. value' (of_cell i j)) (out_in g log i).link got (stop_in g log i)) a
+        → WordsShow g.ring (value' (of_edge i)) (λ j. value' (of_cell i j)) (out_in g log i).link got (stop_in g log i)) a
         (λ i. after_take (seen_by (Take a)) (into_in g log i).got) (λ i. (into_in g log i).got)
         (λ l. reread g.ring _ _ _ _ _ _ _ some_ring (w.others (of_edge a) l (λ z. absurd (cc)))
         (λ j h. refl)
@@ -155,7 +155,7 @@ module _ (g : Setting) (game : IsGame g.game) (some_ring : 0 < g.ring) (log : Lo
         let kept = same_edge e l (w.others (of_edge e) l (λ z. absurd (cc))) cells in
         grind (arith, nat_tests)
     edges_after (Put a) none w e l = at_other (λ i (u : Tail). i < all_edges g
-        → Shows g.ring (value' (of_edge i)) (λ j. value' (of_cell i j)) u (into_in g log i).got (stop_in g log i)) a
+        → WordsShow g.ring (value' (of_edge i)) (λ j. value' (of_cell i j)) u (into_in g log i).got (stop_in g log i)) a
         (λ i. after_put (out_in g log i).link) (λ i. (out_in g log i).link)
         (λ l.
         let met = met_for (Put a) none in
@@ -174,7 +174,7 @@ module _ (g : Setting) (game : IsGame g.game) (some_ring : 0 < g.ring) (log : Lo
         (λ i other l. other_words (Put a) w i l (λ z. absurd (cc)) (λ j z. grind arith))
         e l
     edges_after (Seal a) none w e l = at_other (λ i (stop : Option ℕ). i < all_edges g
-        → Shows g.ring (value' (of_edge i)) (λ j. value' (of_cell i j)) (out_in g log i).link (into_in g log i).got stop)
+        → WordsShow g.ring (value' (of_edge i)) (λ j. value' (of_cell i j)) (out_in g log i).link (into_in g log i).got stop)
         a
         (λ i. after_seal (seen_by (Seal a)) (stop_in g log i)) (λ i. stop_in g log i)
         (λ l.
@@ -199,7 +199,7 @@ module _ (g : Setting) (game : IsGame g.game) (some_ring : 0 < g.ring) (log : Lo
     acks_after : (x : Event) → unmet_rule g x (acting_part g log x) ≡ None → IsLeft g log x value value' → (e : ℕ)
         → e < all_edges g → value' (of_acks e) ≡ acked_after g x (part_in g log (head_of g e)) e (into_in g log e)
     acks_after (Ack a) none w e l = at_other (λ i (n : ℕ). i < all_edges g → value' (of_acks i) ≡ n) a
-        (λ i. (into_in g log i).acked + may_ack g (head_of g a) (part_in g log (head_of g i)) a)
+        (λ i. (into_in g log i).acked + may_ack_on g (head_of g a) (part_in g log (head_of g i)) a)
         (λ i. (into_in g log i).acked)
         (λ l.
         let is = shown.acks a l in

@@ -3,12 +3,12 @@
 use Rattle.chip_core.proofs.Names.{◌≡◌, ℕ, zero, suc, ◌+◌, ◌-◌, ◌<◌, ◌≤◌, List, [], ◌∷◌, ◌++◌, length, Some, None}
 use Rattle.chip_core.proofs.Names.{Contains, refl, sym, ap, ◌∙◌, subst, arith, ⊎_elim, append_assoc, length-drop}
 use Rattle.chip_core.proofs.Names.{Contains-append_left, Contains-append_right, dite, dec_lt, IsGame, cond_yes}
-use Rattle.chip_core.proofs.Names.{claims_of, sent_counts, length-sent_counts, Setting, owed, saw, Part, settled_after}
+use Rattle.chip_core.proofs.Names.{claims_of, sent_counts, length-sent_counts, Setting, owed_on, saw, Part, settled_after}
 use Rattle.chip_core.proofs.Names.{nothing_left, Log, Step, Event, Settle, part_in, out_in, into_in, IsLegalLog}
 use Rattle.chip_core.proofs.Names.{IsClosed, head_of, all_edges, graph_edges, messages_from}
 use Rattle.chip_core.proofs.Names.{counts_in_flight, IsTree, IsDetectionOrder, done_by, HasTurn, HasRounds}
-use Rattle.chip_core.proofs.Names.{HasTerminated, IsAtMostDeep, DepthCloses, DepthClosesLater}
-use Rattle.chip_core.proofs.Names.{DepthIsCounted, nat_tests, cases_option, contains_cases}
+use Rattle.chip_core.proofs.Names.{HasTerminated, IsTreeAtMostDeep, CoreDepthCloses, DepthClosesLater}
+use Rattle.chip_core.proofs.Names.{CoreDepthIsCounted, nat_tests, cases_option, contains_cases}
 use Rattle.chip_core.proofs.LogLemmas.{part_kept, settled_step, acked_step, head_inside, tail_inside, tail_cases}
 use Rattle.chip_core.proofs.LogLemmas.{acked_grows, settled_grows, legal_before, in_pieces}
 use Rattle.chip_core.proofs.RoundLemmas.{makes_turn, settles_all, own_in}
@@ -77,7 +77,7 @@ module _ (g : Setting) where
       end = round ++ (front ++ before)
 
       turn_there : (v : ℕ) → v < g.game.graph.vertices → HasTurn g v (front ++ before) round
-          → rounds.HasTurn (net g) (was g before) (was g end) v
+          → rounds.HasMoment (net g) (was g before) (was g end) v
       turn_there v vertex turn =
           let base : Log = turn.early ++ (front ++ before) in
           let made : Log = turn.middle ++ base in
@@ -111,7 +111,7 @@ module _ (g : Setting) where
 
       -- the stopper has nothing to do
       round_there : ((v : ℕ) → v < g.game.graph.vertices → HasTurn g v (front ++ before) round)
-          → rounds.HasRound (net g) (was g before) (was g end)
+          → rounds.HasMomentRound (net g) (was g before) (was g end)
       round_there turns =
           let whole = goes_on (was g before) (was g (front ++ before)) (was g end)
           (goes front before (legal_before g round (front ++ before) legal)) (goes round (front ++ before) legal) in
@@ -127,9 +127,9 @@ module _ (g : Setting) where
             });
           }
 
-    first_round : (n : ℕ) (a b c : diffusing.World) → rounds.HasRound (net g) a b → rounds.HasRounds (net g) n b c
-        → rounds.HasRounds (net g) (suc n) a c
-    first_round zero a b c one same = (a, refl, subst (rounds.HasRound (net g) a) same one)
+    first_round : (n : ℕ) (a b c : diffusing.World) → rounds.HasMomentRound (net g) a b → rounds.HasMomentRounds (net g) n b c
+        → rounds.HasMomentRounds (net g) (suc n) a c
+    first_round zero a b c one same = (a, refl, subst (rounds.HasMomentRound (net g) a) same one)
     first_round (suc n) a b c one (w, more, last) = (w, first_round n a b w one more, last)
 
     -- n rounds at the end of these steps, after k rounds
@@ -137,7 +137,7 @@ module _ (g : Setting) where
       rest : Log
       mid : Log
       all_is : xs ++ log ≡ rest ++ mid
-      before : rounds.HasRounds (net g) k (was g log) (was g mid)
+      before : rounds.HasMomentRounds (net g) k (was g log) (was g mid)
       left : HasRounds g n mid rest
 
     parted : (k m n : ℕ) → m ≡ k + n → (xs log : Log) → IsLegalLog g (xs ++ log) → HasRounds g m log xs → Parted k n xs log
@@ -166,8 +166,8 @@ module _ (g : Setting) where
     -- ---- by the theorem
 
     -- one round more than the tree is deep, after which the root settles all its edges
-    closes : (log : Log) → IsLegalLog g log → HasTerminated g log → (depth : ℕ) → IsAtMostDeep g log depth
-        → (mid xs : Log) → IsLegalLog g (xs ++ mid) → rounds.HasRounds (net g) (suc depth) (was g log) (was g mid)
+    closes : (log : Log) → IsLegalLog g log → HasTerminated g log → (depth : ℕ) → IsTreeAtMostDeep g log depth
+        → (mid xs : Log) → IsLegalLog g (xs ++ mid) → rounds.HasMomentRounds (net g) (suc depth) (was g log) (was g mid)
         → ((e : ℕ) → graph_edges g ≤ e → e < all_edges g → (x : Step) × Contains xs x × (x.event ≡ Settle e))
         → IsClosed g (xs ++ mid)
     closes log legal over depth deep mid xs new has settles =
@@ -191,14 +191,14 @@ module _ (g : Setting) where
     -- ---- the core's trees are trees there
 
     module _ (log : Log) (legal : IsLegalLog g log) where
-      tree_there : (vs : List ℕ) → IsTree g log vs → rounds.IsTree (net g) (was g log) vs
+      tree_there : (vs : List ℕ) → IsTree g log vs → rounds.IsEngagementTree (net g) (was g log) vs
       tree_there [] tree = tt
       tree_there (v ∷ vs) tree =
           let e : ℕ = tree.2.0 in
           let p = tree.2.1 in
           let s : Part = part_in g log v in
           let here = owes_same g e v s p.is_edge p.head in
-          let owes : 0 < owed (s.into e) = subst (λ (q : ℕ). 0 < owed ((part_in g log q).into e)) p.head p.owes in (
+          let owes : 0 < owed_on (s.into e) = subst (λ (q : ℕ). 0 < owed_on ((part_in g log q).into e)) p.head p.owes in (
             tree_there vs tree.0,
             tree.1,
             (
@@ -207,7 +207,7 @@ module _ (g : Setting) where
             ),
           )
 
-      order_there : (vs : List ℕ) → IsDetectionOrder g log vs → rounds.IsDetectionOrder (net g) (was g log) vs
+      order_there : (vs : List ℕ) → IsDetectionOrder g log vs → rounds.IsEngagementOrder (net g) (was g log) vs
       order_there vs order = record {
         tree = tree_there vs order.tree;
         others = λ p l other out.
@@ -225,7 +225,7 @@ module _ (g : Setting) where
             };
       }
 
-pub depth_closes : DepthCloses
+pub depth_closes : CoreDepthCloses
 depth_closes g game some_ring log legal over depth tree xs last has order all_legal =
     let p = parted g game some_ring depth depth 0 (omega arith) xs log (legal_before g last (xs ++ log) all_legal) has in
     let turned : Log = order.front ++ (xs ++ log) in
@@ -237,7 +237,7 @@ depth_closes g game some_ring log legal over depth tree xs last has order all_le
     subst (IsClosed g) (sym same) (closes g game some_ring log legal over depth tree turned order.back all (
       was g p.mid,
       p.before,
-      subst (λ (l : Log). rounds.HasRound (net g) (was g p.mid) (was g (order.front ++ l))) (sym its)
+      subst (λ (l : Log). rounds.HasMomentRound (net g) (was g p.mid) (was g (order.front ++ l))) (sym its)
           (round_there g game some_ring p.mid p.rest order.front turned_legal (λ v l.
           subst (λ (w : Log). HasTurn g v w order.front) its (order.turns v l))),
     ) order.settles)
@@ -253,7 +253,7 @@ depth_closes_later g game some_ring log legal over depth tree xs has all_legal =
       x.2,
     )))
 
-pub depth_is_counted : DepthIsCounted
+pub depth_is_counted : CoreDepthIsCounted
 depth_is_counted g game some_ring log legal vs order =
     let deep = theorem.depth_is_counted (net g) (is_network g game some_ring) (events_of g log) (was g log)
     (legal_there g game some_ring log legal) vs (order_there g game some_ring log legal vs order) in

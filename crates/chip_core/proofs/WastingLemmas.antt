@@ -4,9 +4,9 @@ use Rattle.chip_core.proofs.Names.{◌++◌, length, refl, ap, ◌∙◌, arith,
 use Rattle.chip_core.proofs.Names.{ℕ_discrete, IsGame, sum_below, edge_at, sum_below_le, sum_below_add, one_at_most}
 use Rattle.chip_core.proofs.Names.{least_action, Tail, claims_of, none_held, length-sent_counts, Setting, Met, saw}
 use Rattle.chip_core.proofs.Names.{link_after, tail_graph, tail_root, Log, Step, Event, Clear, Claim, Put, Feed}
-use Rattle.chip_core.proofs.Names.{part_of, part_in, out_in, IsLegalLog, IsClosed, outstanding, tail_of, graph_edges}
+use Rattle.chip_core.proofs.Names.{part_of, part_in, out_in, IsLegalLog, IsClosed, outstanding_on, tail_of, graph_edges}
 use Rattle.chip_core.proofs.Names.{sees, chips_given, firings, acting_part, counts_as_work, is_refusal, AreFiringBounds}
-use Rattle.chip_core.proofs.Names.{HasEnd, Advances, is_new_look, AllAdvance, NoneIsDue, NoWasteCloses}
+use Rattle.chip_core.proofs.Names.{HasEnd, Advances, is_new_look, AllAdvance, NoneIsDue, CoreNoWasteCloses}
 use Rattle.chip_core.proofs.LogLemmas.{out_kept, edge_sound, link_step, met_here, tail_inside}
 use Rattle.chip_core.proofs.PositionLemmas.{counts_are, is_sequence, is_within}
 use Rattle.chip_core.proofs.DueLemmas.{never_stuck, look_finds, tells_in}
@@ -116,12 +116,12 @@ module _ (g : Setting) (game : IsGame g.game) (some_ring : 0 < g.ring) where
   none_due_closes : (log : Log) → IsLegalLog g log → HasEnd g log → NoneIsDue g log → IsClosed g log
   none_due_closes log legal end none = (
     end,
-    λ e l at. dite (ℕ_discrete (outstanding (out_in g log e)) 0) (λ z. z)
+    λ e l at. dite (ℕ_discrete (outstanding_on (out_in g log e)) 0) (λ z. z)
         (λ some. absurd (let due = never_stuck g game some_ring log legal end (λ closed. some (closed.1 e l at)) in
         none due.0 due.1)),
   )
 
-pub no_waste_closes : NoWasteCloses
+pub no_waste_closes : CoreNoWasteCloses
 no_waste_closes g game some_ring log legal end fired bounds xs longer all =
     let ends = ends_longer g game some_ring xs log longer end in
     let a = all_more g game some_ring xs log longer end all in

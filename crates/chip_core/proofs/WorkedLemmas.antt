@@ -167,7 +167,7 @@ three_stretches = (
   λ closed. (let some : 1 ≡ 0 = closed.1 0 (omega arith) refl in absurd (omega arith)),
   (
     refl,
-    λ e l at. only (λ i. Rattle.chip_core.specs.Core.outstanding (Rattle.chip_core.specs.Core.out_in sink_alone
+    λ e l at. only (λ i. Rattle.chip_core.specs.Core.outstanding_on (Rattle.chip_core.specs.Core.out_in sink_alone
         (log_after sink_alone [] (backwards ++ (backwards ++ backwards))) i) ≡ 0) refl e l,
   ),
 )
@@ -224,7 +224,7 @@ three_steps = (
   (((tt, record { may = refl; tells = refl }), record { may = refl; tells = refl }), record { may = refl; tells = refl }),
   (
     refl,
-    λ e l at. only (λ i. Rattle.chip_core.specs.Core.outstanding (Rattle.chip_core.specs.Core.out_in sink_alone
+    λ e l at. only (λ i. Rattle.chip_core.specs.Core.outstanding_on (Rattle.chip_core.specs.Core.out_in sink_alone
         (log_after sink_alone [] (Take 0 ∷ Ack 0 ∷ Settle 0 ∷ [])) i) ≡ 0) refl e l,
   ),
   λ all. true≢false (sym all.1.tells),

@@ -36,8 +36,8 @@ pub record Advances (g : Setting) (log : Log) (x : Event) : Type 0 where
       ≡ true
 
 -- if the end is noted and the root isn't closed, some vertex or the root may make such an event
-abbrev pub NeverStuck : Type 0
-NeverStuck = ForEveryLog (λ g log. HasEnd g log → (IsClosed g log → ⊥) → (x : Event) × Advances g log x)
+abbrev pub CoreNeverStuck : Type 0
+CoreNeverStuck = ForEveryLog (λ g log. HasEnd g log → (IsClosed g log → ⊥) → (x : Event) × Advances g log x)
 
 -- ---- schedules that ask for everything
 

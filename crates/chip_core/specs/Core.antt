@@ -5,7 +5,7 @@ use Rattle.chip_part.specs.Setting.{Setting}
 use Rattle.chip_link.specs.Words.{fired_word}
 use Rattle.chip_link.specs.Link.{cell_at_tail, cell_at_head, word_of}
 pub use Rattle.chip_part.specs.Edges.{tail_of, head_of, root, root_edge, stopper, all_edges, graph_edges}
-pub use Rattle.chip_part.specs.Part.{Part, Out, Into, opening_part, is_by_limit, outstanding}
+pub use Rattle.chip_part.specs.Part.{Part, Out, Into, opening_part, is_by_limit, outstanding_on}
 pub use Rattle.chip_part.specs.Rules.{Event, Take, Ack, Fire, Clear, Claim, Put, Halt, Settle, Seal, Read, Feed, End}
 pub use Rattle.chip_part.specs.Rules.{unmet_rule}
 pub use Rattle.chip_part.specs.declared.rule.Rule.{Rule}
@@ -76,13 +76,13 @@ sees g log x = seen_of g (part_in g log) x
 
 -- the core makes this event after these, and it sees this: each of its rules is met, and the word is what the others
 -- have made of it
-abbrev pub Fits : Setting → Log → Step → Type 0
-Fits g log x = (unmet_rule g x.event (part_in g log (part_of g x.event)) ≡ None) × (x.seen ≡ sees g log x.event)
+abbrev pub FitsLog : Setting → Log → Step → Type 0
+FitsLog g log x = (unmet_rule g x.event (part_in g log (part_of g x.event)) ≡ None) × (x.seen ≡ sees g log x.event)
 
 -- each event is one that the core makes after those before it
 abbrev pub IsLegalLog : Setting → Log → Type 0
 IsLegalLog g [] = Unit {0}
-IsLegalLog g (x ∷ log) = IsLegalLog g log × Fits g log x
+IsLegalLog g (x ∷ log) = IsLegalLog g log × FitsLog g log x
 
 -- the log and the reply after an event was asked for: if a rule isn't met nothing is done
 abbrev pub answer : Setting → Log → Event → Option Rule → Log × Reply
@@ -109,7 +109,7 @@ replies_to g log (x ∷ xs) = (step g log x).1 ∷ replies_to g (step g log x).0
 
 -- on each root edge as many messages are settled as were sent
 abbrev pub IsSettled : Setting → Log → Type 0
-IsSettled g log = (e : ℕ) → e < all_edges g → tail_of g e ≡ root g → outstanding (out_in g log e) ≡ 0
+IsSettled g log = (e : ℕ) → e < all_edges g → tail_of g e ≡ root g → outstanding_on (out_in g log e) ≡ 0
 
 -- the root is closed: it noted that nothing more is fed, and on each root edge as many messages are settled as were
 -- sent

@@ -2,7 +2,7 @@
 -- This is in the words of the core what `IsDetectionOrder` of `chip_diffusing` is in any computation.
 use Rattle.std.specs.Prelude.{◌≡◌, ◌⊎◌, ℕ, ◌<◌, List, [], ◌∷◌, Contains, Some}
 use Rattle.chip_part.specs.Setting.{Setting}
-use Rattle.chip_part.specs.Part.{owed}
+use Rattle.chip_part.specs.Part.{owed_on}
 use Rattle.chip_part.specs.Kept.{IsNeutral}
 use Rattle.chip_core.specs.Core.{Log, part_in, into_in, tail_of, head_of, all_edges, root}
 
@@ -13,7 +13,7 @@ pub record IsParentFrom (g : Setting) (log : Log) (us : List ℕ) (v e : ℕ) : 
   pub is_edge : e < all_edges g
   pub head : head_of g e ≡ v
   pub from_earlier : (tail_of g e ≡ root g) ⊎ Contains us (tail_of g e)
-  pub owes : 0 < owed (into_in g log e)
+  pub owes : 0 < owed_on (into_in g log e)
 
 -- the engaged vertices, each once, the latest first; the root stands before all of them and isn't written
 abbrev pub IsTree : Setting → Log → List ℕ → Type 0

@@ -13,7 +13,7 @@ use Rattle.chip_part.specs.Edges.{mult_of}
 use Rattle.chip_core.specs.Core.{Log, Event, Reply, part_in, out_in, into_in, fired_by, is_by_limit, replies_to}
 use Rattle.chip_core.specs.Core.{log_after, IsLegalLog, IsClosed, tail_of, all_edges, graph_edges, stopper}
 use Rattle.chip_core.specs.Messages.{sent_in, delivered_in, sent_after_seal, was_sealed, in_flight, AreInOrderFrom}
-use Rattle.chip_core.specs.Positions.{chips_given, held, chips_at, firings, LeadsTo, AgreesWith}
+use Rattle.chip_core.specs.Positions.{chips_given, held, chips_at, firings, FiresToEnd, AgreesWith}
 use Rattle.chip_core.specs.Detection.{IsDetectionOrder}
 
 -- no vertex halted
@@ -42,7 +42,7 @@ pub record HeadlineOf (g : Setting) (before : Log) (xs : List Event) (replies : 
   pub sealed : (e : ℕ) → sent_after_seal e xs replies ≡ []
   pub sealed_before : (e : ℕ) → was_sealed before e ≡ true → sent_in e xs replies ≡ []
   -- the firings that were made, one at a time, are a firing sequence within the limit, and lead to the full position
-  pub position : LeadsTo g after (firings after)
+  pub position : FiresToEnd g after (firings after)
   -- by the counts alone no vertex is below 0, and it is the position by the counts
   pub none_below : (v : ℕ) → IsBelowZero g.game.graph (chips_given g after) (fired_by g after) v → ⊥
   pub by_counts : (v : ℕ) → position_after g.game.graph (chips_given g after) (firings after) v

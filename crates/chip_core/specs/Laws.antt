@@ -16,7 +16,7 @@ use Rattle.chip_core.specs.Core.{Log, Step, Event, Take, Clear, Claim, Seal, Rea
 use Rattle.chip_core.specs.Core.{part_of, part_in, out_in, into_in, stop_in, fired_by, word_of_part, sees, IsLegalLog}
 use Rattle.chip_core.specs.Core.{replies_to, log_after, IsClosed, is_by_limit, tail_of, root, root_edge, graph_edges}
 use Rattle.chip_core.specs.Core.{all_edges}
-use Rattle.chip_core.specs.Messages.{sent_in, was_sealed, messages_from, counts_in_flight, in_flight, sent_on, chips_in}
+use Rattle.chip_core.specs.Messages.{sent_in, was_sealed, messages_from, counts_in_flight, in_flight, to_deliver, chips_in}
 use Rattle.chip_core.specs.Positions.{chips_given, played_game, held, full_position, events_in, fed_in}
 use Rattle.chip_core.specs.Histories.{done_by, part_by}
 
@@ -119,7 +119,7 @@ SealsStand = ForEveryLog (λ g log. (e : ℕ) → (was_sealed log e ≡ is_some 
 -- what a run has to deliver on an edge is what the tail's part has sent and the head's part had not taken before
 abbrev pub SentStands : Type 0
 SentStands = ForEveryLog (λ g log. (xs : List Event) (e : ℕ)
-    → sent_on g log xs e ≡ messages_from e (length (into_in g log e).got)
+    → to_deliver g log xs e ≡ messages_from e (length (into_in g log e).got)
     (drop (length (into_in g log e).got) (sent_counts (out_in g (log_after g log xs) e).link)))
 
 -- at the opening a root edge has one message, with the chips of its vertex, and nothing else is in flight
@@ -129,7 +129,7 @@ OpeningMessages = (g : Setting) (e : ℕ) → in_flight g [] e ≡ messages_from
 -- from the opening the places are 0, 1, 2 and so on
 abbrev pub InOrderFromTheOpening : Type 0
 InOrderFromTheOpening = (g : Setting) → IsGame g.game → 0 < g.ring → (xs : List Event) (e : ℕ)
-    → AreInOrder e (sent_on g [] xs e)
+    → AreInOrder e (to_deliver g [] xs e)
 
 -- from the opening, what is held on an edge of the graph is what the firings of its tail made, less the chips in the
 -- messages that were sent

@@ -64,8 +64,8 @@ abbrev pub in_flight : Setting → Log → ℕ → List Message
 in_flight g log e = messages_from e (length (into_in g log e).got) (counts_in_flight g log e)
 
 -- all messages that a run has to deliver on e: those that were in flight before it, and then those that it sent
-abbrev pub sent_on : Setting → Log → List Event → ℕ → List Message
-sent_on g log xs e = in_flight g log e ++ sent_in e xs (replies_to g log xs)
+abbrev pub to_deliver : Setting → Log → List Event → ℕ → List Message
+to_deliver g log xs e = in_flight g log e ++ sent_in e xs (replies_to g log xs)
 
 -- those that it delivered
 abbrev pub delivered_on : Setting → Log → List Event → ℕ → List Message

@@ -17,8 +17,8 @@ abbrev pub SealsNone : Log → Type 0
 SealsNone log = (e : ℕ) → was_sealed log e ≡ false
 
 -- the root is closed, and what the log comes to is the plain player's outcome of the game with all that was given
-abbrev pub PlaysOut : Setting → Log → Type 0
-PlaysOut g log = IsClosed g log × ((o : Outcome) → IsOutcomeOf g log o → IsPlayed (played_game g log) o)
+abbrev pub EndsAsPlayed : Setting → Log → Type 0
+EndsAsPlayed g log = IsClosed g log × ((o : Outcome) → IsOutcomeOf g log o → IsPlayed (played_game g log) o)
 
 -- if nothing was sealed no seal halted a vertex
 abbrev pub UnsealedHaltsNone : Type 0
@@ -28,10 +28,10 @@ UnsealedHaltsNone = ForEveryLog (λ g log. SealsNone log → NoneHaltedBySeal g 
 abbrev pub FairSchedulesPlay : Type 0
 FairSchedulesPlay = ForEveryLog (λ g log. HasEnd g log → (fired : ℕ → ℕ) → AreFiringBounds g log fired → (n : ℕ)
     → steps_at_most g.game (length (fed_so_far g log)) fired + graph_edges g < n → (xs : List Event) → HasStretches g n log xs
-    → SealsNone (log_after g log xs) → PlaysOut g (log_after g log xs))
+    → SealsNone (log_after g log xs) → EndsAsPlayed g (log_after g log xs))
 
 -- and so do rounds of whole turns
 abbrev pub FairRoundsPlay : Type 0
 FairRoundsPlay = ForEveryLog (λ g before. HasEnd g before → RootHasPut g before → (fired : ℕ → ℕ)
     → AreFiringBounds g before fired → (n : ℕ) → steps_at_most g.game (length (fed_so_far g before)) fired < n → (xs : Log)
-    → IsLegalLog g (xs ++ before) → HasRounds g n before xs → SealsNone (xs ++ before) → PlaysOut g (xs ++ before))
+    → IsLegalLog g (xs ++ before) → HasRounds g n before xs → SealsNone (xs ++ before) → EndsAsPlayed g (xs ++ before))

@@ -52,7 +52,7 @@ events_in (x ∷ log) = events_in log ++ x.event ∷ []
 
 -- one thread that fires these vertices in turn from all that was given comes to the full position, within the limit and
 -- with the counts of the log
-pub record LeadsTo (g : Setting) (log : Log) (vs : List ℕ) : Type 0 where
+pub record FiresToEnd (g : Setting) (log : Log) (vs : List ℕ) : Type 0 where
   pub sequence : IsFiringSequence g.game.graph (chips_given g log) vs
   pub within : IsWithin g.game.limit vs
   pub counted : (v : ℕ) → counts vs v ≡ fired_by g log v

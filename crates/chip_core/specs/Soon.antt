@@ -16,7 +16,7 @@ pub record HasTerminated (g : Setting) (log : Log) : Type 0 where
 
 -- the tree of engaged vertices is at most `depth` deep: each of them has a level of at most `depth`, and the tail of
 -- its parent edge has a lower one, be it a vertex or the root
-pub record IsAtMostDeep (g : Setting) (log : Log) (depth : ℕ) : Type 0 where
+pub record IsTreeAtMostDeep (g : Setting) (log : Log) (depth : ℕ) : Type 0 where
   pub level : ℕ → ℕ
   pub below : (v : ℕ) → v < g.game.graph.vertices → (e : ℕ) → (part_in g log v).parent ≡ Some e
       → (level (tail_of g e) < level v) × (level v ≤ depth)
@@ -30,17 +30,17 @@ pub record HasRoundInOrder (g : Setting) (before xs : Log) : Type 0 where
   pub settles : (e : ℕ) → graph_edges g ≤ e → e < all_edges g → (x : Step) × Contains back x × (x.event ≡ Settle e)
 
 -- one round more than the tree is deep closes the root, if in the last of them it settles after all turns
-abbrev pub DepthCloses : Type 0
-DepthCloses = ForEveryLog (λ g before. HasTerminated g before → (depth : ℕ) → IsAtMostDeep g before depth
+abbrev pub CoreDepthCloses : Type 0
+CoreDepthCloses = ForEveryLog (λ g before. HasTerminated g before → (depth : ℕ) → IsTreeAtMostDeep g before depth
     → (rounds last : Log) → HasRounds g depth before rounds → HasRoundInOrder g (rounds ++ before) last
     → IsLegalLog g (last ++ (rounds ++ before)) → IsClosed g (last ++ (rounds ++ before)))
 
 -- and two more, wherever in a round it settles
 abbrev pub DepthClosesLater : Type 0
-DepthClosesLater = ForEveryLog (λ g before. HasTerminated g before → (depth : ℕ) → IsAtMostDeep g before depth
+DepthClosesLater = ForEveryLog (λ g before. HasTerminated g before → (depth : ℕ) → IsTreeAtMostDeep g before depth
     → (rounds : Log) → HasRounds g (suc (suc depth)) before rounds → IsLegalLog g (rounds ++ before)
     → IsClosed g (rounds ++ before))
 
 -- no tree is deeper than it has vertices
-abbrev pub DepthIsCounted : Type 0
-DepthIsCounted = ForEveryLog (λ g log. (vs : List ℕ) → IsDetectionOrder g log vs → IsAtMostDeep g log (length vs))
+abbrev pub CoreDepthIsCounted : Type 0
+CoreDepthIsCounted = ForEveryLog (λ g log. (vs : List ℕ) → IsDetectionOrder g log vs → IsTreeAtMostDeep g log (length vs))

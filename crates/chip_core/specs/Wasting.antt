@@ -17,8 +17,8 @@ abbrev pub NoneIsDue : Setting → Log → Type 0
 NoneIsDue g log = (x : Event) → Advances g log x → ⊥
 
 -- after the end of feeding such steps are few, and if none is due the root is closed
-abbrev pub NoWasteCloses : Type 0
-NoWasteCloses = ForEveryLog (λ g log. HasEnd g log → (fired : ℕ → ℕ) → AreFiringBounds g log fired → (xs : Log)
+abbrev pub CoreNoWasteCloses : Type 0
+CoreNoWasteCloses = ForEveryLog (λ g log. HasEnd g log → (fired : ℕ → ℕ) → AreFiringBounds g log fired → (xs : Log)
     → IsLegalLog g (xs ++ log) → AllAdvance g log xs
     → (length xs ≤ steps_at_most g.game (length (fed_so_far g log)) fired
     + messages_at_most g.game (length (fed_so_far g log)) fired + 3 * graph_edges g)

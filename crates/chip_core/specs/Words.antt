@@ -1,11 +1,11 @@
 -- The words that a running game shares: which word the operation of an event is on, what it leaves there, and what all
 -- words show of a log.
 use Rattle.std.specs.Prelude.{◌≡◌, ◌≢◌, ℕ, ◌+◌, ◌-◌, ◌%◌, ◌^◌, ◌<◌, ◌∷◌, length, sum, option_to_list, bit_or, None}
-use Rattle.chip_link.specs.Link.{Shows, claims_of}
+use Rattle.chip_link.specs.Link.{WordsShow, claims_of}
 use Rattle.chip_link.specs.Words.{word_after_exchange}
 pub use Rattle.chip_link.specs.Words.{halt_bits}
 use Rattle.chip_part.specs.Setting.{Setting}
-use Rattle.chip_part.specs.Part.{may_ack, cause, is_by_limit}
+use Rattle.chip_part.specs.Part.{may_ack_on, cause, is_by_limit}
 use Rattle.chip_part.specs.Steps.{saw}
 use Rattle.chip_core.specs.Core.{Log, Event, Take, Ack, Fire, Clear, Claim, Put, Halt, Settle, Seal, Read, Feed, End}
 use Rattle.chip_core.specs.Core.{Part, unmet_rule, root_edge, part_of, part_in, out_in, into_in, stop_in, word_of_part}
@@ -45,7 +45,7 @@ word_of_event g End s = of_acks (root_edge g 0)
 -- what it leaves there, if n was found: what is added goes round at 2 ^ 64
 abbrev pub left_by : Setting → Event → Part → ℕ → ℕ
 left_by g (Take e) s n = 0
-left_by g (Ack e) s n = (n + may_ack g (head_of g e) s e) % 2 ^ 64
+left_by g (Ack e) s n = (n + may_ack_on g (head_of g e) s e) % 2 ^ 64
 left_by g (Fire v k) s n = (n + k) % 2 ^ 64
 left_by g (Clear e) s n = n
 left_by g (Claim e) s n = word_after_exchange (claims_of (s.out e).link) (claims_of (s.out e).link + 1) n
@@ -66,7 +66,7 @@ word_to_note _ n = n
 pub record IsShown (g : Setting) (log : Log) (value : Word → ℕ) : Type 0 where
   -- the edge word is the claims and the seal; a cell holds a count exactly if its message is put and not taken
   pub edges : (e : ℕ) → e < all_edges g
-      → Shows g.ring (value (of_edge e)) (λ i. value (of_cell e i)) (out_in g log e).link (into_in g log e).got
+      → WordsShow g.ring (value (of_edge e)) (λ i. value (of_cell e i)) (out_in g log e).link (into_in g log e).got
       (stop_in g log e)
   -- the word of acknowledgements is what the head acknowledged
   pub acks : (e : ℕ) → e < all_edges g → value (of_acks e) ≡ (into_in g log e).acked

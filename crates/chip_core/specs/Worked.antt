@@ -18,8 +18,8 @@ use Rattle.chip_core.specs.Detection.{IsDetectionOrder}
 use Rattle.chip_core.specs.Histories.{done_by}
 
 -- a function on three vertices, as a list
-abbrev pub on_each : (ℕ → ℕ) → List ℕ
-on_each f = f 0 ∷ f 1 ∷ f 2 ∷ []
+abbrev pub on_vertices : (ℕ → ℕ) → List ℕ
+on_vertices f = f 0 ∷ f 1 ∷ f 2 ∷ []
 
 -- nine chips on the sink: its opening message is taken, acknowledged and settled, and then the root may read
 abbrev pub ChipsOnTheSink : Type 0
@@ -28,7 +28,7 @@ ChipsOnTheSink =
     let events : List Event = Take 6 ∷ Ack 6 ∷ Settle 6 ∷ Read 2 ∷ [] in
     let after : Log = log_after g [] events in
     (replies_to g [] events ≡ Got (message_of 6 0 9) ∷ Done 1 ∷ Done 1 ∷ Done 0 ∷ [])
-    × (on_each (fired_by g after) ≡ 0 ∷ 0 ∷ 0 ∷ []) × (on_each (chips_at g after) ≡ 0 ∷ 0 ∷ 9 ∷ [])
+    × (on_vertices (fired_by g after) ≡ 0 ∷ 0 ∷ 0 ∷ []) × (on_vertices (chips_at g after) ≡ 0 ∷ 0 ∷ 9 ∷ [])
 
 -- vertex 0 of the chain sends a chip, fires again, and finds the cell full
 abbrev pub full_ring : List Event
@@ -39,20 +39,20 @@ FullRing =
     (replies_to chain [] full_ring ≡ Got (message_of 2 0 3) ∷ Done 1 ∷ Done 0 ∷ Sent (message_of 0 0 1) ∷ Done 1
     ∷ Done 2 ∷ Full ∷ [])
     × (in_flight chain (log_after chain [] full_ring) 0 ≡ message_of 0 0 1 ∷ [])
-    × (on_each (full_position chain (log_after chain [] full_ring)) ≡ 1 ∷ 2 ∷ 0 ∷ [])
+    × (on_vertices (full_position chain (log_after chain [] full_ring)) ≡ 1 ∷ 2 ∷ 0 ∷ [])
 
 -- an edge is sealed before the second half of a firing is sent on it: the claim is refused, and the vertex halts
 abbrev pub sealed_half_way : List Event
 sealed_half_way = Seal 1 ∷ Take 4 ∷ Fire 0 2 ∷ Clear 0 ∷ Claim 0 ∷ Put 0 ∷ Clear 1 ∷ Claim 1 ∷ Halt 0 ∷ []
 
-abbrev pub SealedHalfWay : Type 0
-SealedHalfWay =
+abbrev pub CoreSealedHalfWay : Type 0
+CoreSealedHalfWay =
     let g : Setting = small_triangle (4 ∷ 0 ∷ 0 ∷ []) in
     (replies_to g [] sealed_half_way ≡ Done 0 ∷ Got (message_of 4 0 4) ∷ Done 2 ∷ Done 0 ∷ Sent (message_of 0 0 2)
     ∷ Done 2 ∷ Done 0 ∷ Sealed ∷ Done 0 ∷ [])
     × (sent_in 0 sealed_half_way (replies_to g [] sealed_half_way) ≡ message_of 0 0 2 ∷ [])
     × (sent_after_seal 1 sealed_half_way (replies_to g [] sealed_half_way) ≡ [])
-    × (on_each (full_position g (log_after g [] sealed_half_way)) ≡ 0 ∷ 2 ∷ 2 ∷ [])
+    × (on_vertices (full_position g (log_after g [] sealed_half_way)) ≡ 0 ∷ 2 ∷ 2 ∷ [])
 
 -- the sink is engaged by the first of two messages, and acknowledges it last
 abbrev pub engaging_message_last : List Event
@@ -74,8 +74,8 @@ ring_of_two =
     Take 2 ∷ Fire 0 1 ∷ Clear 0 ∷ Claim 0 ∷ Put 0 ∷ Fire 0 1 ∷ Clear 0 ∷ Claim 0 ∷ Put 0 ∷ Fire 0 1 ∷ Clear 0 ∷ Take 0
     ∷ Clear 0 ∷ Claim 0 ∷ Put 0 ∷ Take 0 ∷ Take 0 ∷ Take 0 ∷ []
 
-abbrev pub RingOfTwo : Type 0
-RingOfTwo =
+abbrev pub CoreRingOfTwo : Type 0
+CoreRingOfTwo =
     (replies_to wide_chain [] ring_of_two
     ≡ Got (message_of 2 0 3) ∷ Done 1 ∷ Done 0 ∷ Sent (message_of 0 0 1) ∷ Done 1 ∷ Done 2 ∷ Done 1
     ∷ Sent (message_of 0 1 1) ∷ Done 1 ∷ Done 3 ∷ Full
@@ -96,8 +96,8 @@ abbrev pub WholeSchedule : Type 0
 WholeSchedule =
     let g : Setting = small_triangle (4 ∷ 0 ∷ 0 ∷ []) in
     let after : Log = log_after g [] whole_schedule in
-    IsGame g.game × IsClosed g after × (firings after ≡ 0 ∷ 0 ∷ 1 ∷ []) × (on_each (fired_by g after) ≡ 2 ∷ 1 ∷ 0 ∷ [])
-    × (on_each (chips_at g after) ≡ 1 ∷ 0 ∷ 3 ∷ [])
+    IsGame g.game × IsClosed g after × (firings after ≡ 0 ∷ 0 ∷ 1 ∷ []) × (on_vertices (fired_by g after) ≡ 2 ∷ 1 ∷ 0 ∷ [])
+    × (on_vertices (chips_at g after) ≡ 1 ∷ 0 ∷ 3 ∷ [])
 
 -- the same triangle with five chips and a limit of two firings: vertex 0 gets its third pair of chips and halts, and
 -- the root closes
@@ -117,7 +117,7 @@ StoppedByLimit =
     let g : Setting = limit_of_two in
     let after : Log = log_after g [] stopped_by_limit in
     IsGame g.game × IsClosed g after × ((part_in g after 0).halt ≡ Some FiringLimit)
-    × (on_each (fired_by g after) ≡ 2 ∷ 1 ∷ 0 ∷ []) × (on_each (chips_at g after) ≡ 2 ∷ 0 ∷ 3 ∷ [])
+    × (on_vertices (fired_by g after) ≡ 2 ∷ 1 ∷ 0 ∷ []) × (on_vertices (chips_at g after) ≡ 2 ∷ 0 ∷ 3 ∷ [])
     × (legal_vertices g.game.graph (chips_at g after) ≡ 0 ∷ [])
 
 -- the run that was sealed half way, played on until the root closes: two chips are held for ever, and the counts lead
@@ -132,9 +132,9 @@ abbrev pub StoppedBySeal : Type 0
 StoppedBySeal =
     let g : Setting = small_triangle (4 ∷ 0 ∷ 0 ∷ []) in
     let after : Log = log_after g [] played_on in
-    IsClosed g after × ((part_in g after 0).halt ≡ Some SealedEdge) × (on_each (fired_by g after) ≡ 2 ∷ 1 ∷ 0 ∷ [])
-    × (on_each (chips_at g after) ≡ 1 ∷ 0 ∷ 1 ∷ [])
-    × (held g after 1 ≡ 2) × (on_each (position_by_counts g.game.graph (slice_index g.game.start) (fired_by g after))
+    IsClosed g after × ((part_in g after 0).halt ≡ Some SealedEdge) × (on_vertices (fired_by g after) ≡ 2 ∷ 1 ∷ 0 ∷ [])
+    × (on_vertices (chips_at g after) ≡ 1 ∷ 0 ∷ 1 ∷ [])
+    × (held g after 1 ≡ 2) × (on_vertices (position_by_counts g.game.graph (slice_index g.game.start) (fired_by g after))
     ≡ 1 ∷ 0 ∷ 3 ∷ [])
 
 -- the same triangle, fed while it runs
@@ -150,8 +150,8 @@ FedOnce =
     let g : Setting = fed_triangle (0 ∷ 0 ∷ 0 ∷ []) in
     let after : Log = log_after g [] fed_once in
     (replies_to g [] fed_once ≡ Done 0 ∷ Sent (message_of 4 0 3) ∷ Done 3 ∷ Full ∷ [])
-    × (in_flight g after 4 ≡ message_of 4 0 3 ∷ []) × (on_each (chips_given g after) ≡ 3 ∷ 0 ∷ 0 ∷ [])
-    × (on_each (full_position g after) ≡ 3 ∷ 0 ∷ 0 ∷ [])
+    × (in_flight g after 4 ≡ message_of 4 0 3 ∷ []) × (on_vertices (chips_given g after) ≡ 3 ∷ 0 ∷ 0 ∷ [])
+    × (on_vertices (full_position g after) ≡ 3 ∷ 0 ∷ 0 ∷ [])
 
 -- what is refused: a feed of nothing, one of a cell that was not seen empty, one past the range of chips, and any after
 -- the end
@@ -176,7 +176,7 @@ ClosedByTheEnd =
     let after : Log = log_after g before (End ∷ []) in
     IsGame g.game × IsSettled g before × ((part_in g before (root g)).ended ≡ false)
     × (replies_to g before (Read 0 ∷ End ∷ Read 0 ∷ []) ≡ NotNow NotClosed ∷ Done 0 ∷ Done 2 ∷ []) × IsClosed g after
-    × (firings after ≡ 0 ∷ 0 ∷ 1 ∷ []) × (on_each (chips_at g after) ≡ 1 ∷ 0 ∷ 3 ∷ [])
+    × (firings after ≡ 0 ∷ 0 ∷ 1 ∷ []) × (on_vertices (chips_at g after) ≡ 1 ∷ 0 ∷ 3 ∷ [])
 
 -- vertex 1 was engaged by vertex 0, and this by the root: so they stand in the detection order, the latest first, and
 -- the sink doesn't

@@ -8,7 +8,7 @@ use Rattle.chip_core.specs.Work.{work_in, refusals_in, steps_at_most, fires_at_m
 use Rattle.chip_core.specs.Worked.{whole_schedule, sealed_half_way}
 use Rattle.chip_core.specs.Closing.{HasEnd, AsksForEverything, IsStretch, HasStretches}
 use Rattle.chip_core.specs.Wasting.{AllAdvance, NoneIsDue}
-use Rattle.chip_core.specs.Playing.{SealsNone, PlaysOut}
+use Rattle.chip_core.specs.Playing.{SealsNone, EndsAsPlayed}
 
 -- the triangle with four chips on vertex 0, which is played by 0, 0, 1: three firings; six messages on its edges, each
 -- with five steps; one first message, with three; and three halts at most. The distances from the sink are 1, 1 and 0,
@@ -75,5 +75,5 @@ abbrev pub TrianglePlays : Type 0
 TrianglePlays =
     let g : Setting = small_triangle (4 ∷ 0 ∷ 0 ∷ []) in
     SealsNone (log_after g [] whole_schedule)
-    × PlaysOut g (log_after g [] whole_schedule)
+    × EndsAsPlayed g (log_after g [] whole_schedule)
     × (SealsNone (log_after g [] sealed_half_way) → ⊥)

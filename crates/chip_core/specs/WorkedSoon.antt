@@ -2,13 +2,13 @@
 -- settles and acknowledges; its takes find nothing and are left out, and what may not be acknowledged isn't.
 use Rattle.std.specs.Prelude.{◌≡◌, ℕ, ◌^◌, List, [], ◌∷◌, ◌++◌}
 use Rattle.chip_part.specs.Setting.{Setting, setting_of}
-use Rattle.chip_part.specs.Part.{deficit}
+use Rattle.chip_part.specs.Part.{deficit_of}
 use Rattle.chip_part.specs.Worked.{small_triangle, chain, edge}
 use Rattle.chip_core.specs.Core.{Log, Event, Take, Ack, Fire, Clear, Claim, Put, Settle, part_in, log_after, root}
-use Rattle.chip_core.specs.Soon.{HasTerminated, IsAtMostDeep}
+use Rattle.chip_core.specs.Soon.{HasTerminated, IsTreeAtMostDeep}
 
 abbrev pub root_waits : Setting → Log → ℕ
-root_waits g log = deficit g (root g) (part_in g log (root g))
+root_waits g log = deficit_of g (root g) (part_in g log (root g))
 
 -- the chain 0, 1, 2, all of which are engaged: the tree is three deep. Root edge v has the number 2 + v
 abbrev pub chain_fired : List Event
@@ -74,6 +74,6 @@ first_first = Settle 0 ∷ Settle 1 ∷ Ack 2 ∷ Ack 4 ∷ Settle 2 ∷ Settle 
 abbrev pub PairCloses : Type 0
 PairCloses =
     let log : Log = log_after four_chips [] sent_back in
-    HasTerminated four_chips log × IsAtMostDeep four_chips log 2
+    HasTerminated four_chips log × IsTreeAtMostDeep four_chips log 2
     × (root_waits four_chips (log_after four_chips log (second_first ++ first_first)) ≡ 1)
     × (root_waits four_chips (log_after four_chips log (second_first ++ (first_first ++ first_first))) ≡ 0)

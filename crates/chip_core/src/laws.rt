@@ -3,7 +3,7 @@
 //! The core theorem stands last. What is before it speaks of the legal logs, which are those of the runs from the
 //! opening.
 
-ghost use Rattle.chip_core.specs.Worked.{ChipsOnTheSink, FullRing, SealedHalfWay, EngagingMessageLast, RingOfTwo};
+ghost use Rattle.chip_core.specs.Worked.{ChipsOnTheSink, FullRing, CoreSealedHalfWay, EngagingMessageLast, CoreRingOfTwo};
 ghost use Rattle.chip_core.specs.Worked.{TwoEngaged, WholeSchedule, StoppedByLimit, StoppedBySeal};
 ghost use Rattle.chip_core.specs.Worked.{FedOnce, FedInVain, FedUncleared, ClosedByTheEnd};
 ghost use Rattle.chip_core.specs.Outcomes.{OutcomesTell};
@@ -19,11 +19,11 @@ ghost use Rattle.chip_core.specs.Reached.{ReachedByLegalLogs};
 ghost use Rattle.chip_core.specs.Headline.{CoreTheorem};
 ghost use Rattle.chip_core.specs.Instance.{CoreDiffuses};
 ghost use Rattle.chip_core.specs.Work.{FewSteps, DistancesBound, FewRefusals};
-ghost use Rattle.chip_core.specs.Closing.{NeverStuck, AskedInVain, IdleRoundsClose};
+ghost use Rattle.chip_core.specs.Closing.{CoreNeverStuck, AskedInVain, IdleRoundsClose};
 ghost use Rattle.chip_core.specs.Closing.{FairSchedulesClose, RoundsAreStretches, FairRoundsClose, NothingStirs};
-ghost use Rattle.chip_core.specs.Wasting.{NoWasteCloses};
+ghost use Rattle.chip_core.specs.Wasting.{CoreNoWasteCloses};
 ghost use Rattle.chip_core.specs.Playing.{UnsealedHaltsNone, FairSchedulesPlay, FairRoundsPlay};
-ghost use Rattle.chip_core.specs.Soon.{DepthCloses, DepthClosesLater, DepthIsCounted};
+ghost use Rattle.chip_core.specs.Soon.{CoreDepthCloses, DepthClosesLater, CoreDepthIsCounted};
 ghost use Rattle.chip_core.specs.WorkedClosing.{TriangleBounds, OneRefused, ThreeStretches};
 ghost use Rattle.chip_core.specs.WorkedClosing.{FiveStretches, BatchesAsk, ThreeSteps, TrianglePlays};
 ghost use Rattle.chip_core.specs.WorkedSoon.{ChainCloses, StarCloses, PairCloses};
@@ -32,9 +32,9 @@ ghost use Rattle.chip_core.specs.WorkedSoon.{ChainCloses, StarCloses, PairCloses
 pub fn worked_runs()
     ensures chips_on_the_sink { ChipsOnTheSink }
     ensures full_ring { FullRing }
-    ensures sealed_half_way { SealedHalfWay }
+    ensures sealed_half_way { CoreSealedHalfWay }
     ensures engaging_message_last { EngagingMessageLast }
-    ensures ring_of_two { RingOfTwo }
+    ensures ring_of_two { CoreRingOfTwo }
     ensures two_engaged { TwoEngaged }
 {}
 
@@ -164,7 +164,7 @@ pub fn few_steps_count()
 /// Once the end of feeding is noted there is something to do until the root is closed, and if everything was asked for
 /// in vain it is closed.
 pub fn never_stuck()
-    ensures advances { NeverStuck }
+    ensures advances { CoreNeverStuck }
     ensures in_vain { AskedInVain }
     ensures rounds { IdleRoundsClose }
 {}
@@ -179,7 +179,7 @@ pub fn fair_schedules()
 
 /// If no step is wasted few are made, and once none is due the root is closed.
 pub fn no_waste()
-    ensures { NoWasteCloses }
+    ensures { CoreNoWasteCloses }
 {}
 
 /// If nothing is sealed, a schedule that asks for everything often enough plays the game.
@@ -192,9 +192,9 @@ pub fn fair_schedules_play()
 /// If nothing is left but to acknowledge, as many rounds close the root as the tree of engaged vertices is deep, and
 /// one more.
 pub fn soon_after_the_end()
-    ensures depth { DepthCloses }
+    ensures depth { CoreDepthCloses }
     ensures later { DepthClosesLater }
-    ensures counted { DepthIsCounted }
+    ensures counted { CoreDepthIsCounted }
 {}
 
 /// For every list of actor steps, each edge has delivered a prefix of what was sent on it, each message once and in

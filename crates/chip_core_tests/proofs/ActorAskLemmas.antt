@@ -16,14 +16,14 @@ use Rattle.chip_part.specs.Rules.{unmet_rule}
 use Rattle.chip_part.specs.declared.reply.Reply.TheVariants.{NotNow}
 use Rattle.chip_part.specs.declared.reply.Reply.{Reply}
 use Rattle.chip_part.specs.Steps.{Step, part_of, does, part_and_reply, saw}
-use Rattle.chip_part.specs.Acting.{act_of, event_of, verdict, FitsSeen, CanDo, IsDue}
-use Rattle.chip_actor.specs.Actor.{Makes}
+use Rattle.chip_part.specs.Acting.{act_of, event_of, verdict, FitsSeen, CanDo, IsOperationDue}
+use Rattle.chip_actor.specs.Actor.{ActorMakes}
 use Rattle.chip_actor.specs.Actor.{Actor, StandsFor, SomePart}
 use Rattle.chip_part.specs.declared.cursor.Cursor.{Cursor}
 use Rattle.chip_part.specs.Cursor.{IsUnderWay}
 use Rattle.chip_actor.specs.Turning.{TurnContinues}
 use Rattle.chip_core_tests.specs.Asking.{may_ask, may_play, may_see_all}
-use Rattle.chip_core_tests.specs.ActorAsking.{Answers}
+use Rattle.chip_core_tests.specs.ActorAsking.{AnswersFor}
 use Rattle.chip_part.proofs.CursorLemmas.{event_of_act}
 use Rattle.chip_core_tests.proofs.AskLemmas.{verdict_ok, verdict_err, fits_from_test}
 
@@ -45,20 +45,20 @@ module _ (g : Setting) (s : Part) (a : Actor) (stands : StandsFor g s a) (x : Ev
     told = ap (event_of a.vertex) (verdict_ok _ _ _ given).1 ∙ event_of_act g a.vertex stands.knows.vertex s x ask_mine
         (verdict_ok _ _ _ given).0
 
-    pub ask_due : IsDue g s a.vertex (record { act = act; seen = seen })
+    pub ask_due : IsOperationDue g s a.vertex (record { act = act; seen = seen })
     ask_due = (
       subst (λ (y : Event). CanDo g s a.vertex y seen) (sym told) (may_do (verdict_ok _ _ _ given).0),
       (verdict_ok _ _ _ given).1 ∙ ap (λ (y : Event). act_of g y s) (sym told),
     )
 
-    pub ask_made : (new : Actor) (reply : Reply) → Makes a new (event_of a.vertex act) seen reply
+    pub ask_made : (new : Actor) (reply : Reply) → ActorMakes a new (event_of a.vertex act) seen reply
         → StandsFor g (part_and_reply g (saw x seen) s (unmet_rule g x s)).0 new
         × (reply ≡ (part_and_reply g (saw x seen) s (unmet_rule g x s)).1) × (new.vertex ≡ a.vertex)
     ask_made new reply makes =
         subst (λ (u : Option Rule). StandsFor g (part_and_reply g (saw x seen) s u).0 new
         × (reply ≡ (part_and_reply g (saw x seen) s u).1) × (new.vertex ≡ a.vertex))
         (sym (verdict_ok _ _ _ given).0)
-        (subst (λ (y : Event). Makes a new y seen reply) told makes g s stands (may_do (verdict_ok _ _ _ given).0))
+        (subst (λ (y : Event). ActorMakes a new y seen reply) told makes g s stands (may_do (verdict_ok _ _ _ given).0))
 
   pub ask_refused : (rule : Rule) → verdict (unmet_rule g x s) (act_of g x s) ≡ Err rule
       → StandsFor g (part_and_reply g (saw x seen) s (unmet_rule g x s)).0 a
@@ -89,7 +89,7 @@ module _ (xs : List (Event × ℕ × Reply)) (turn : List (Act × ℕ)) where
   ask_now a i d within (g, s, stands, all) = (g, s, stands, (and_parts _ _ (play_first g a.vertex s i d within all)).0)
 
   pub ask_next : (a new : Actor) (reply : Reply) (i : ℕ) (d : Event × ℕ × Reply) → i < length xs → MayPlay a i
-      → Answers a new (get_or xs i d).0 (get_or xs i d).1 reply → MayPlay new (i + 1)
+      → AnswersFor a new (get_or xs i d).0 (get_or xs i d).1 reply → MayPlay new (i + 1)
   ask_next a new reply i d within (g, s, stands, all) answers =
       let both = and_parts _ _ (play_first g a.vertex s i d within all) in
       let after : Part = (part_and_reply g (saw ((get_or xs i d).0) ((get_or xs i d).1)) s
@@ -117,11 +117,11 @@ IsTurning a cursor os = SomePart a (λ g s. (first : Part) × (done : List Step)
 module _ (a : Actor) (cursor next : Cursor) (act : Act) (os : List (Act × ℕ)) (i : ℕ) (d : Act × ℕ)
     (within : i < length os) (turning : IsTurning a cursor (drop i os)) (continues : TurnContinues a cursor act next)
     (is : act ≡ (get_or os i d).0) (some : act ≢ Do.End) where
-  pub turn_due : SomePart a (λ g s. IsDue g s a.vertex (record { act = (get_or os i d).0; seen = (get_or os i d).1 }))
+  pub turn_due : SomePart a (λ g s. IsOperationDue g s a.vertex (record { act = (get_or os i d).0; seen = (get_or os i d).1 }))
   turn_due = from turning
     where
       from : IsTurning a cursor (drop i os)
-          → SomePart a (λ g s. IsDue g s a.vertex (record { act = (get_or os i d).0; seen = (get_or os i d).1 }))
+          → SomePart a (λ g s. IsOperationDue g s a.vertex (record { act = (get_or os i d).0; seen = (get_or os i d).1 }))
       from (g, s, stands, (first, done, way, all)) =
           let step = (continues g s stands).steps some first done way in
           let fits = and_parts _ _ (subst (λ (xs : List (Act × ℕ)). may_see_all g a.vertex s xs ≡ true)
@@ -142,7 +142,7 @@ module _ (a : Actor) (cursor next : Cursor) (act : Act) (os : List (Act × ℕ))
           )
 
   pub turn_goes_on : (new : Actor) (reply : Reply)
-      → Makes a new (event_of a.vertex (get_or os i d).0) (get_or os i d).1 reply → IsTurning new next (drop (i + 1) os)
+      → ActorMakes a new (event_of a.vertex (get_or os i d).0) (get_or os i d).1 reply → IsTurning new next (drop (i + 1) os)
   turn_goes_on new reply makes = from turning
     where
       from : IsTurning a cursor (drop i os) → IsTurning new next (drop (i + 1) os)

@@ -16,7 +16,7 @@ use Rattle.chip_part.specs.declared.reply.Reply.TheVariants.{NotNow}
 use Rattle.chip_part.specs.declared.reply.Reply.{Reply}
 use Rattle.chip_part.specs.Steps.{part_and_reply, saw}
 use Rattle.chip_part.specs.Acting.{act_of, verdict}
-use Rattle.chip_root.specs.Root.{Root, RootStandsFor, SomeRoot, RootCanDo, RootMakes}
+use Rattle.chip_actor.specs.Root.{Root, RootStandsFor, SomeRoot, RootCanDo, RootMakes}
 use Rattle.chip_part.specs.Acting.{is_of_root, FitsRoot}
 use Rattle.chip_core_tests.specs.RootAsking.{root_fits_seen, may_ask_root, may_play_root, RootAnswers}
 use Rattle.chip_core_tests.proofs.AskLemmas.{verdict_ok, verdict_err, fits_from_test}

@@ -7,8 +7,8 @@ use Rattle.chip_core_tests.specs.Asking.{may_ask}
 use Rattle.chip_actor.specs.Actor.{Actor, WhateverPart, StandsFor}
 
 -- the actor answered so: whatever part it stood for, it stands for that part after the question, at the same vertex
-abbrev pub Answers : Actor → Actor → Event → ℕ → Reply → Type 0
-Answers old new x seen reply =
+abbrev pub AnswersFor : Actor → Actor → Event → ℕ → Reply → Type 0
+AnswersFor old new x seen reply =
     WhateverPart old (λ g s. may_ask g old.vertex s x seen ≡ true
     → StandsFor g (part_and_reply g (saw x seen) s (unmet_rule g x s)).0 new
     × (reply ≡ (part_and_reply g (saw x seen) s (unmet_rule g x s)).1) × (new.vertex ≡ old.vertex))

@@ -43,13 +43,13 @@ may_play g v s (x ∷ xs) turn = may_ask g v s x.0 x.1
     && may_play g v (part_and_reply g (saw x.0 x.1) s (unmet_rule g x.0 s)).0 xs turn
 
 -- the game on edges with these ends, which send one chip for each firing. The sink is the last vertex
-abbrev pub edge_of : ℕ × ℕ → Edge
-edge_of ends = edge ends.0 ends.1
+abbrev pub simple_edge : ℕ × ℕ → Edge
+simple_edge ends = edge ends.0 ends.1
 
 abbrev pub game_on : List (ℕ × ℕ) → List ℕ → ChipGame
 game_on ends start =
     record {
-      graph = record { vertices = length start; sink = length start - 1; edges = map edge_of ends };
+      graph = record { vertices = length start; sink = length start - 1; edges = map simple_edge ends };
       start = start;
       limit = max_limit;
     }

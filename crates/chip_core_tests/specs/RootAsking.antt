@@ -9,7 +9,7 @@ use Rattle.chip_part.specs.declared.reply.Reply.{Reply}
 use Rattle.chip_part.specs.Steps.{part_and_reply, saw}
 use Rattle.chip_part.specs.Acting.{is_of_root}
 use Rattle.chip_core_tests.specs.Asking.{fits_seen, setting_on}
-use Rattle.chip_root.specs.Root.{Root, RootStandsFor, WhateverRoot}
+use Rattle.chip_actor.specs.Root.{Root, RootStandsFor, WhateverRoot}
 
 -- what an event of the root may see
 abbrev pub root_fits_seen : Setting → Part → Event → ℕ → Bool
@@ -39,5 +39,5 @@ abbrev pub may_play_root_new : List (ℕ × ℕ) → List ℕ → Bool → List 
 may_play_root_new ends start fed xs = let g = setting_on ends start fed in may_play_root g (opening_part g) xs
 
 -- the triangle with four chips on vertex 0, and rings of one cell
-abbrev pub four_chips : Setting
-four_chips = setting_on ((0, 1) ∷ (0, 2) ∷ (1, 0) ∷ (1, 2) ∷ []) (4 ∷ 0 ∷ 0 ∷ []) false
+abbrev pub four_on_first : Setting
+four_on_first = setting_on ((0, 1) ∷ (0, 2) ∷ (1, 0) ∷ (1, 2) ∷ []) (4 ∷ 0 ∷ 0 ∷ []) false

@@ -2,7 +2,7 @@
 
 ghost use Rattle.std.specs.Prelude.{◌≡◌, ◌≢◌, ◌<◌, false, IsTrue, length};
 ghost use Rattle.chip_actor.specs.Actor.{SomePart, StandsFor};
-ghost use Rattle.chip_core_tests.specs.ActorAsking.{Answers};
+ghost use Rattle.chip_core_tests.specs.ActorAsking.{AnswersFor};
 ghost use Rattle.chip_core_tests.specs.Asking.{may_ask, may_play, may_see_all, may_play_new, setting_on};
 ghost use Rattle.chip_part.specs.Part.{opening_part};
 
@@ -15,7 +15,7 @@ use std::process::Abort;
 /// Asks for an event, which is made if its rules are met.
 fn ask(actor: &mut ActorState, event: Event, seen: u64) -> Reply
     requires { SomePart actor.old (λ g s. IsTrue (may_ask g actor.old.vertex s event seen)) }
-    ensures { Answers actor.old actor.new event seen result }
+    ensures { AnswersFor actor.old actor.new event seen result }
 {
     match actor.may(&event) {
         Ok(act) => actor.apply(Observed { act, seen }),

@@ -3,7 +3,7 @@
 ghost use Rattle.std.specs.Prelude.{◌≡◌, ◌≤◌, [], ◌∷◌, length};
 ghost use Rattle.std.specs.List.Sorted.{IsStrictlyIncreasing};
 ghost use Rattle.chip_detect.specs.Tally.{edge_limit};
-ghost use Rattle.chip_detect.specs.Books.{IsSound, IsFresh, in_edges, out_edges};
+ghost use Rattle.chip_detect.specs.Books.{IsSound, AreFreshBooks, in_edges, out_edges};
 
 use chip_detect::{Detect, Slot};
 use std::process::Abort;
@@ -17,7 +17,7 @@ fn neutral(rt: &(impl AllocGlobal + Abort), ins: &[u64], outs: &[u64]) -> Box<De
     requires few_outs { length outs.now ≤ edge_limit }
     ensures ins { in_edges result.value ≡ ins.now }
     ensures outs { out_edges result.value ≡ outs.now }
-    ensures fresh { IsFresh result.value ins.now outs.now }
+    ensures fresh { AreFreshBooks result.value ins.now outs.now }
     ensures sound { IsSound result.value }
 {
     let detect = Detect::new(rt.alloc(), ins, outs).expect(rt, "memory");

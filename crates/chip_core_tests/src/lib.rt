@@ -1,10 +1,13 @@
-//! The core on small games: what no contract says of `chip_link`, `chip_detect`, `chip_actor`, `chip_root` and `chip_world`.
+//! The core on small games, and floods of small networks: what no contract says of `chip_link`, `chip_detect`,
+//! `chip_flooding`, `chip_actor` and `chip_world`.
 #![tactic(auto)]
 
 #[cfg(test)]
 mod actor;
 #[cfg(test)]
 mod detect;
+#[cfg(test)]
+mod floods;
 #[cfg(test)]
 mod games;
 #[cfg(test)]

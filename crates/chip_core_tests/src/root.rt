@@ -3,14 +3,14 @@
 ghost use Rattle.std.specs.Prelude.{◌<◌, IsTrue, length};
 ghost use Rattle.chip_core_tests.specs.Asking.{setting_on};
 ghost use Rattle.chip_core_tests.specs.RootAsking.{may_ask_root, may_play_root, may_play_root_new, RootAnswers};
-ghost use Rattle.chip_core_tests.specs.RootAsking.{four_chips};
+ghost use Rattle.chip_core_tests.specs.RootAsking.{four_on_first};
 ghost use Rattle.chip_part.specs.Part.{opening_part};
-ghost use Rattle.chip_root.specs.Root.{SomeRoot, RootStandsFor};
+ghost use Rattle.chip_actor.specs.Root.{SomeRoot, RootStandsFor};
 
 use crate::games::{TRIANGLE, feed, made_game, message, sent};
+use chip_actor::RootBooks;
 use chip_link::{Event, Message, Ring};
 use chip_part::{Reply, Rule, Setting};
-use chip_root::RootBooks;
 use std::process::Abort;
 
 /// Asks the root for an event, which is made if its rules are met.
@@ -87,7 +87,7 @@ fn unfed_root(rt: HostRuntime) {
 
 /// The message of vertex 0 is acknowledged, and then no more is new.
 fn settles_once(rt: &impl Abort, root: &mut RootBooks)
-    requires { RootStandsFor four_chips (opening_part four_chips) root.old }
+    requires { RootStandsFor four_on_first (opening_part four_on_first) root.old }
 {
     assert!(rt; root.outstanding() == 1);
     let first = root.settle(0, 1);

@@ -6,7 +6,7 @@ use Rattle.chip_crew.proofs.Names.{add-one, zero-add, mod-add-mod, mod-eq_of_lt,
 use Rattle.chip_crew.proofs.Names.{slice_get_read, slice_get_past, slice_get_within, get_or_from_slice_get, slice_get}
 use Rattle.chip_crew.proofs.Names.{Multigraph, edge_at, length-picked, ActorKnown, MakesTurn, Turn, Asked, passes}
 use Rattle.chip_crew.proofs.Names.{CrewId, IsOurs, IsAt, AreFrom, turns_of, all_turns, ends_at, ends_before}
-use Rattle.chip_crew.proofs.Names.{IsCut, IsFirstOf, AreOf, HasDealt, TurnsThere, TurnsAt, RoundsMade}
+use Rattle.chip_crew.proofs.Names.{IsShareStart, IsFirstOf, AreActorsOf, HasDealt, TurnsThere, TurnsAt, RoundsMade}
 use Rattle.chip_crew.proofs.TurnLemmas.{turn_counts}
 use Rattle.chip_crew.proofs.RunLemmas.{from_at, from_set, from_take, from_all}
 
@@ -23,29 +23,29 @@ module _ (G : Multigraph) where
 
   module _ (workers : ℕ) where
     -- the first worker begins at vertex 0
-    pub cut_first : (v : ℕ) → IsCut G workers 0 v → v ≡ 0
+    pub cut_first : (v : ℕ) → IsShareStart G workers 0 v → v ≡ 0
     cut_first zero cut = refl
     cut_first (suc v) cut = let below = cut.least 0 (omega arith) in absurd (omega arith)
 
     -- a worker begins at one vertex
-    not_less : (worker v w : ℕ) → IsCut G workers worker v → IsCut G workers worker w → v < w → ⊥
+    not_less : (worker v w : ℕ) → IsShareStart G workers worker v → IsShareStart G workers worker w → v < w → ⊥
     not_less worker v w cut other less = let below = other.least v less in omega arith
 
-    pub cut_same : (worker v w : ℕ) → IsCut G workers worker v → IsCut G workers worker w → v ≡ w
+    pub cut_same : (worker v w : ℕ) → IsShareStart G workers worker v → IsShareStart G workers worker w → v ≡ w
     cut_same worker v w cut other =
         let one = not_less worker v w cut other in let two = not_less worker w v other cut in omega arith
 
     -- after the last worker there is no vertex
-    pub cut_last : (v : ℕ) → 0 < workers → IsCut G workers workers v → v ≡ G.vertices
+    pub cut_last : (v : ℕ) → 0 < workers → IsShareStart G workers workers v → v ≡ G.vertices
     cut_last v some cut =
         let past : G.vertices < v → ⊥ = λ less. (let below = cut.least G.vertices less in omega arith) in
         let short : v < G.vertices → ⊥ = λ less. (let more = mul-le workers (suc (ends_before G v)) workers
         (ends_before G G.vertices) (omega arith) (ends_grow v G.vertices less) in omega arith) in omega arith
 
     -- one goes on from the first vertex of a worker to that of the next
-    pub cut_next : (worker v w share ends : ℕ) → IsCut G workers worker v
+    pub cut_next : (worker v w share ends : ℕ) → IsShareStart G workers worker v
         → share ≡ (worker + 1) * ends_before G G.vertices → ends ≡ ends_before G w → share ≤ workers * ends
-        → ((u : ℕ) → v ≤ u → u < w → workers * ends_before G u < share) → IsCut G workers (worker + 1) w
+        → ((u : ℕ) → v ≤ u → u < w → workers * ends_before G u < share) → IsShareStart G workers (worker + 1) w
     cut_next worker v w share ends cut is at reached least = record {
       reached = rw (is, at) at reached;
       least = λ u less. (let before = cut.least u in let after = least u in grind arith);
@@ -136,7 +136,7 @@ dealt_turn asked worker m k before now made begins less pass turn =
 -- the first ones of those that are left are the worker's
 pub are_of : (crew : CrewId) (worker first next : ℕ) (actors own : List ActorKnown) → IsFirstOf crew worker first
     → IsFirstOf crew (worker + 1) next → first ≤ next → next ≤ first + length actors → AreFrom crew first actors
-    → own ≡ take (next - first) actors → AreOf crew worker own
+    → own ≡ take (next - first) actors → AreActorsOf crew worker own
 are_of crew worker first next actors own is_first is_next behind some are is =
     let count = ap length is in let taken = length-take (next - first) actors in
     let end : next ≡ first + length own = omega arith in

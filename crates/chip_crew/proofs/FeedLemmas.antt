@@ -3,10 +3,10 @@
 use Rattle.chip_crew.proofs.Names.{◌≡◌, ℕ, zero, suc, ◌+◌, ◌%◌, ◌<◌, ◌≤◌, ◌-◌, ◌==◌, List, Some, None, refl, ap}
 use Rattle.chip_crew.proofs.Names.{arith, true, false, Bool, [], ◌∷◌, ◌++◌, All, append_assoc, inl}
 use Rattle.chip_crew.proofs.Names.{inr, nat_tests, All-tail, All-head, All-push, All-nil, sum_by-append, tested_le}
-use Rattle.chip_crew.proofs.Names.{root_edge, graph_edges, all_edges, tail_of, root, Part, deficit}
-use Rattle.chip_crew.proofs.Names.{outstanding, Clear, Setting, does, saw, Step, Event, Settle, End, opening_part}
+use Rattle.chip_crew.proofs.Names.{root_edge, graph_edges, all_edges, tail_of, root, Part, deficit_of}
+use Rattle.chip_crew.proofs.Names.{outstanding_on, Clear, Setting, does, saw, Step, Event, Settle, End, opening_part}
 use Rattle.chip_crew.proofs.Names.{part_by, fed_of, fed_in, part_append, RootKnown, root_part, root_after, has_ended}
-use Rattle.chip_crew.proofs.Names.{fed_by, Feeds, LooksInVain, feed_steps, settles_from, IsPolling, Ends, IsOver}
+use Rattle.chip_crew.proofs.Names.{fed_by, FeedsChips, LooksInVain, feed_steps, settles_from, IsPolling, Ends, IsRootOver}
 use Rattle.chip_crew.proofs.Names.{root_deficit, RootState, Left, pairs, MayFeed, MayFeedLeft, FeedsNext}
 use Rattle.chip_crew.proofs.Names.{EndsAfter, FeedsOnce, PollsIf, IsLed, events_of}
 
@@ -89,7 +89,7 @@ end_adds old new answer ends =
     (end_feeds g (root_part old) steps _ ends.ending.events_are (are_settles g 1 (g.game.graph.vertices - 1)))
 
 -- a feed feeds what it says
-feed_adds : (old new : RootKnown) (v k place : ℕ) → Feeds old new v k place
+feed_adds : (old new : RootKnown) (v k place : ℕ) → FeedsChips old new v k place
     → Adds old new ((v, k) ∷ []) (has_ended old)
 feed_adds old new v k place feeds =
     let g = old.net.setting in let back : root_edge g v - graph_edges g ≡ v = omega arith in
@@ -191,29 +191,29 @@ over_has_fed None root may ended = refl
 over_has_fed (Some left) root may ended = absurd (cc)
 
 module _ (g : Setting) (v : ℕ) where
-  settle_less : (x : Event) (seen : ℕ) (s : Part) → IsSettle x → deficit g v (does g (saw x seen) s) ≤ deficit g v s
+  settle_less : (x : Event) (seen : ℕ) (s : Part) → IsSettle x → deficit_of g v (does g (saw x seen) s) ≤ deficit_of g v s
   settle_less (Settle e) seen s is = tested_le (all_edges g) (λ i. tail_of g i == v)
-      (λ i. outstanding ((does g (saw (Settle e) seen) s).out i)) (λ i. outstanding (s.out i))
+      (λ i. outstanding_on ((does g (saw (Settle e) seen) s).out i)) (λ i. outstanding_on (s.out i))
       (λ i l on. grind (arith, nat_tests))
   settle_less _ seen s is = absurd is
 
-  settles_less : (xs : List Step) (s : Part) → All IsSettle (events_of xs) → deficit g v (part_by g s xs) ≤ deficit g v s
+  settles_less : (xs : List Step) (s : Part) → All IsSettle (events_of xs) → deficit_of g v (part_by g s xs) ≤ deficit_of g v s
   settles_less [] s are = omega arith
   settles_less (x ∷ xs) s are =
       let here = settle_less x.event x.seen s (All-head IsSettle x.event (events_of xs) are) in
       let rest = settles_less xs (does g x s) (All-tail IsSettle x.event (events_of xs) are) in omega arith
 
-pub over_polled : (old now : RootKnown) (n : ℕ) → IsPolling old now n → IsOver old → IsOver now
+pub over_polled : (old now : RootKnown) (n : ℕ) → IsPolling old now n → IsRootOver old → IsRootOver now
 over_polled old now n polls over =
     let g = old.net.setting in
     let less = settles_less g (root g) polls.steps (root_part old)
     (rw polls.events_are (are_settles g 0 n)) in
-    let same = ap (deficit g (root g)) (part_append g (opening_part g) old.did polls.steps) in
+    let same = ap (deficit_of g (root g)) (part_append g (opening_part g) old.did polls.steps) in
     let is = ap root_deficit polls.record_is in
     (omega arith, rw (poll_adds old now n polls).ended_is over.1)
 
 -- nothing is fed any more
-pub over_fed : (left after : Left) (old new : RootKnown) → MayFeedLeft old left → FeedsOnce left after old new → IsOver old
-    → IsOver new
+pub over_fed : (left after : Left) (old new : RootKnown) → MayFeedLeft old left → FeedsOnce left after old new → IsRootOver old
+    → IsRootOver new
 over_fed left after old new may once over =
     let same = rw (over_has_fed left old may over.1) at once in rw same.1 over

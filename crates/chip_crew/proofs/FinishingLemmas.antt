@@ -3,10 +3,10 @@
 use Rattle.chip_crew.proofs.Names.{◌≡◌, ℕ, ◌<◌, ◌≤◌, List, Option, Some, None, refl, subst, arith, true}
 use Rattle.chip_crew.proofs.Names.{false, [], ⊎_elim, ◌⊎◌, is_some, and_parts, nat_tests, AllPass-from_list_all}
 use Rattle.chip_crew.proofs.Names.{option_copied, ChipGame, HasMore, Outcome, setting_with, Step, RootKnown}
-use Rattle.chip_crew.proofs.Names.{has_ended, fed_by, new_root, IsOver, NetId, Asked, root_of, CrewId, EndsWell}
+use Rattle.chip_crew.proofs.Names.{has_ended, fed_by, new_root, IsRootOver, NetId, Asked, root_of, CrewId, EndsWell}
 use Rattle.chip_crew.proofs.Names.{StaysOpen, EndsLed, StaysUnfinished, Left, pairs, MayFeedLeft, IsLed, CanPlay}
-use Rattle.chip_crew.proofs.Names.{IsCrewFor, HasFinished, IsWhole, IsFinished, IsStopped, IsFaultOf, HasLed, is_plan}
-use Rattle.chip_crew.proofs.Names.{names_edge, are_feeds, max_workers, max_turns, HasBack, HasSealed, TakesBack}
+use Rattle.chip_crew.proofs.Names.{IsCrewFor, HasFinished, IsWhole, IsFinished, IsCrewStopped, IsFaultOf, HasLed, is_plan}
+use Rattle.chip_crew.proofs.Names.{seals_edge, are_feeds, max_workers, max_turns, HasBack, HasSealed, TakesBack}
 use Rattle.chip_crew.proofs.Names.{KnowsSeals, CrewFault, Leader, Plan, SealAt, Sharing, Finished}
 use Rattle.chip_crew.proofs.FeedLemmas.{Adds, GoesOn, poll_adds, led_goes_on, over_has_fed, over_polled}
 use Rattle.chip_crew.proofs.LeadingLemmas.{led_by, IsSame, takes_back, back_same, knows_seals}
@@ -27,13 +27,13 @@ may_begin game (Some feeds) plan net root stopper_did can setting is =
 
 -- what its plan says is in its ranges
 pub plan_fits : (game : ChipGame) (feeds : Left) (plan : Plan) → CanPlay game feeds plan
-    → (0 < plan.workers) × (plan.workers ≤ max_workers) × (plan.turns ≤ max_turns) × (names_edge game plan.seal ≡ true)
+    → (0 < plan.workers) × (plan.workers ≤ max_workers) × (plan.turns ≤ max_turns) × (seals_edge game plan.seal ≡ true)
 plan_fits game feeds plan can = let within = can.within in grind (arith, nat_tests)
 
 -- ---- a crew that finished
 
 module _ (asked : Asked) (round turns : ℕ) (leader : Leader) (back : RootKnown) (has : HasLed asked round turns leader)
-    (lasts : (turns ≡ asked.plan.turns) ⊎ IsOver leader.root) (has_back : HasBack leader.seal leader.root back) where
+    (lasts : (turns ≡ asked.plan.turns) ⊎ IsRootOver leader.root) (has_back : HasBack leader.seal leader.root back) where
   its_led : IsLed round turns asked.feeds (root_of asked.crew asked.plan) (option_copied leader.feeds) leader.root
       × HasSealed asked.crew asked.plan.seal turns leader.seal
   its_led = led_by asked round turns has.first leader has.begins has.served
@@ -68,7 +68,7 @@ module _ (asked : Asked) (round turns : ℕ) (leader : Leader) (back : RootKnown
       → StaysUnfinished asked.crew asked.feeds asked.plan now deficit
   stays_led now deficit stays =
       let all : turns ≡ asked.plan.turns = ⊎_elim (λ (same : turns ≡ asked.plan.turns). same)
-      (λ (over : IsOver leader.root). absurd (stays.not_over (over_polled back now back.net.setting.game.graph.vertices
+      (λ (over : IsRootOver leader.root). absurd (stays.not_over (over_polled back now back.net.setting.game.graph.vertices
       stays.polled (rw same.1 over)))) lasts in
       record {
         round = round;
@@ -131,7 +131,7 @@ module _ (feeds : Left) (plan : Plan) (crew : CrewId) (f : Finished) (finished :
 
 -- why a crew that was opened for the game didn't finish
 pub stopped_by : (shared : Sharing) (game : ChipGame) (asked : Asked) (e : CrewFault)
-    → IsCrewFor shared game asked.feeds asked.plan asked.crew → IsStopped asked e
+    → IsCrewFor shared game asked.feeds asked.plan asked.crew → IsCrewStopped asked e
     → IsFaultOf shared game asked.feeds asked.plan asked.may_answer e
 stopped_by shared game asked fault.NoMemory opened why = opened.can
 stopped_by shared game asked fault.Spawn opened why = opened.can

@@ -3,9 +3,9 @@
 use Rattle.chip_crew.proofs.Names.{◌≡◌, ℕ, zero, suc, ◌+◌, ◌%◌, ◌<◌, ◌==◌, List, length, Option, Some, None, refl, ap}
 use Rattle.chip_crew.proofs.Names.{arith, add-one, true, false, Bool, eq-eqb, ne_eqb, [], ◌∷◌, ◌++◌, is_some}
 use Rattle.chip_crew.proofs.Names.{ltb-true, if◌then◌else◌, add-mod_right, nat_tests, option_copied, option_zip}
-use Rattle.chip_crew.proofs.Names.{ChipGame, Step, Seal, RootKnown, IsPolling, IsOver, StopperKnown, new_stopper, NetId}
-use Rattle.chip_crew.proofs.Names.{Asked, root_of, CrewId, BeginsEach, EndsIf, Serves, PollsIf, IsLed, CanLead}
-use Rattle.chip_crew.proofs.Names.{IsLeader, LeadsTurn, LeadsRound, names_edge, HasBack, HasSealed, TakesBack}
+use Rattle.chip_crew.proofs.Names.{ChipGame, Step, Seal, RootKnown, IsPolling, IsRootOver, StopperKnown, new_stopper, NetId}
+use Rattle.chip_crew.proofs.Names.{Asked, root_of, CrewId, BeginsEach, EndsIf, ServesTurns, PollsIf, IsLed, CanLead}
+use Rattle.chip_crew.proofs.Names.{IsLeader, LeadsTurn, LeadsRound, seals_edge, HasBack, HasSealed, TakesBack}
 use Rattle.chip_crew.proofs.Names.{KnowsSeals, SealsBefore, MaySeal, seals_by, Leader, SealAt}
 use Rattle.chip_crew.proofs.FeedLemmas.{poll_goes_on}
 use Rattle.chip_crew.proofs.DealingLemmas.{place_is}
@@ -32,7 +32,7 @@ sealed_next crew (Some at) turn old new has seals = let s = rw has.1 at seals in
 
 -- a stopper that opens with its net has sealed nothing
 pub none_sealed : (crew : CrewId) (game : ChipGame) (plan : Option SealAt) (stopper : Option StopperKnown)
-    → stopper ≡ (if is_some plan then Some (new_stopper crew.net) else None) → names_edge game plan ≡ true
+    → stopper ≡ (if is_some plan then Some (new_stopper crew.net) else None) → seals_edge game plan ≡ true
     → crew.net.setting.game ≡ game → HasSealed crew plan 0 (option_zip stopper plan)
 none_sealed crew game None stopper is named same = rw is refl
 none_sealed crew game (Some at) stopper is named same =
@@ -72,7 +72,7 @@ seal_stays net turn (Some s) new seals can = rw seals.1 can
 -- a poll leaves what worker 0 needs
 pub can_still : (net : NetId) (leader : Leader) (root : RootKnown) (closed : Bool)
     → IsPolling leader.root root leader.root.net.setting.game.graph.vertices → root.net ≡ leader.root.net
-    → (closed ≡ true → IsOver root) → CanLead net leader → CanLead net (record leader { root = root; is_closed = closed })
+    → (closed ≡ true → IsRootOver root) → CanLead net leader → CanLead net (record leader { root = root; is_closed = closed })
 can_still net leader root closed polls same over can = record {
   net_is = rw same can.net_is;
   may = (poll_goes_on (option_copied leader.feeds) leader.root root leader.root.net.setting.game.graph.vertices polls).may can.may;
@@ -88,7 +88,7 @@ ends_round false old new same = rw same (refl, refl, refl)
 
 -- the root is led, and what is due is sealed
 pub led_by : (asked : Asked) (round k : ℕ) (old new : Leader) → IsLeader asked old
-    → Serves LeadsTurn LeadsRound round k old new
+    → ServesTurns LeadsTurn LeadsRound round k old new
     → IsLed round k asked.feeds (root_of asked.crew asked.plan) (option_copied new.feeds) new.root
     × HasSealed asked.crew asked.plan.seal k new.seal
 led_by asked round zero old new begins same = rw same ((begins.feeds, begins.root), begins.seal)
@@ -107,15 +107,15 @@ round_over round m k whole begins = rw (whole, add-mod_right) begins
 
 module _ {D : Type 0} (before : ℕ → D → D → Type 0) (after : D → D → Type 0) (round : ℕ) where
   -- one turn more, with what comes after a round where it ends one
-  pub serves_turn : (k : ℕ) (over : Bool) (old was now end : D) → Serves before after round k old was
+  pub serves_turn : (k : ℕ) (over : Bool) (old was now end : D) → ServesTurns before after round k old was
       → before k was now
-      → ((k + 1) % round == 0) ≡ over → EndsIf after over now end → Serves before after round (k + 1) old end
+      → ((k + 1) % round == 0) ≡ over → EndsIf after over now end → ServesTurns before after round (k + 1) old end
   serves_turn k over old was now end served begun is ends =
       rw add-one (was, now, served, begun, rw (rw add-one at is) ends)
 
   -- turns of a round that is not over
-  pub serves_more : (m k : ℕ) (old was now : D) → m % round ≡ 0 → k < round → Serves before after round m old was
-      → BeginsEach before m k was now → Serves before after round (m + k) old now
+  pub serves_more : (m k : ℕ) (old was now : D) → m % round ≡ 0 → k < round → ServesTurns before after round m old was
+      → BeginsEach before m k was now → ServesTurns before after round (m + k) old now
   serves_more m zero old was now begins less served same = let here : m + 0 ≡ m = omega arith in rw (same, here) served
   serves_more m (suc k) old was now begins less served each =
       let next : m + suc k ≡ m + k + 1 = omega arith in let place = place_is m (suc k) round begins less in
@@ -125,8 +125,8 @@ module _ {D : Type 0} (before : ℕ → D → D → Type 0) (after : D → D →
 
   -- a whole round
   pub serves_round : (m k : ℕ) (old was now end : D) → k ≡ round → m % round ≡ 0 → 0 < round
-      → Serves before after round m old was → BeginsEach before m k was now → after now end
-      → Serves before after round (m + k) old end
+      → ServesTurns before after round m old was → BeginsEach before m k was now → after now end
+      → ServesTurns before after round (m + k) old end
   serves_round m zero old was now end whole begins some served each done = absurd (omega arith)
   serves_round m (suc j) old was now end whole begins some served each done =
       let next : m + suc j ≡ m + j + 1 = omega arith in

@@ -49,7 +49,7 @@ pub use Rattle.chip_sequence.specs.declared.outcome.Outcome.{Outcome}
 pub use Rattle.chip_part.proofs.PickedLemmas.{length-picked}
 pub use Rattle.chip_part.specs.Cursor.{from_settling}
 pub use Rattle.chip_part.specs.Edges.{root_edge, graph_edges, all_edges, tail_of, root}
-pub use Rattle.chip_part.specs.Part.{Part, deficit, outstanding}
+pub use Rattle.chip_part.specs.Part.{Part, deficit_of, outstanding_on}
 pub use Rattle.chip_part.specs.Rules.{Clear, Take}
 pub use Rattle.chip_part.specs.Setting.{Setting, setting_with}
 pub use Rattle.chip_part.specs.Steps.{does, saw}
@@ -60,30 +60,30 @@ pub use Rattle.chip_core.specs.Positions.{fed_of, fed_in}
 pub use Rattle.chip_net.proofs.CrossingLemmas.{actor_send, net_crosses}
 pub use Rattle.chip_net.proofs.FinishingLemmas.{one_run}
 pub use Rattle.chip_net.proofs.ViewingLemmas.{part_append}
-pub use Rattle.chip_net.specs.Roots.{RootKnown, root_part, root_after, has_ended, fed_by, Feeds, LooksInVain}
-pub use Rattle.chip_net.specs.Roots.{feed_steps, settles_from, IsPolling, Ends, new_root, IsOver, StopperKnown}
+pub use Rattle.chip_net.specs.Roots.{RootKnown, root_part, root_after, has_ended, fed_by, FeedsChips, LooksInVain}
+pub use Rattle.chip_net.specs.Roots.{feed_steps, settles_from, IsPolling, Ends, new_root, IsRootOver, StopperKnown}
 pub use Rattle.chip_net.specs.Roots.{root_deficit, new_stopper}
 pub use Rattle.chip_net.specs.Tokens.{ActorKnown, MakesTurn, NetId, newcomer, part_known}
 pub use Rattle.chip_net.specs.declared.actor.Turn.{Turn}
 pub use Rattle.chip_net.specs.declared.poll.RootState.{RootState}
 pub use Rattle.chip_crew.specs.Asked.{Asked, passes, SomeShut, root_of, ShutFor, asked_of}
 pub use Rattle.chip_crew.specs.Crew.{CrewId, IsOurs, IsAt, AreFrom, turns_of, all_turns, AreActors, EachFrom}
-pub use Rattle.chip_crew.specs.Crew.{AreInOrder, is_root_take}
-pub use Rattle.chip_crew.specs.Dealing.{ends_at, ends_before, IsCut, IsFirstOf, AreOf, IsRound}
-pub use Rattle.chip_crew.specs.Duties.{BeginsEach, EndsIf, Serves}
+pub use Rattle.chip_crew.specs.Crew.{AreAscendingActors, is_root_take}
+pub use Rattle.chip_crew.specs.Dealing.{ends_at, ends_before, IsShareStart, IsFirstOf, AreActorsOf, IsRoundOfTurns}
+pub use Rattle.chip_crew.specs.Duties.{BeginsEach, EndsIf, ServesTurns}
 pub use Rattle.chip_crew.specs.Ending.{EndsWell, StaysOpen, EndsLed, StaysUnfinished}
 pub use Rattle.chip_crew.specs.Feeding.{Left, pairs, MayFeed, MayFeedLeft, FeedsNext, EndsAfter, FeedsOnce, PollsIf}
 pub use Rattle.chip_crew.specs.Feeding.{IsLed}
-pub use Rattle.chip_crew.specs.Finished.{CanPlay, IsCrewFor, HasFinished, IsWhole, IsFinished, IsStopped, IsFaultOf}
+pub use Rattle.chip_crew.specs.Finished.{CanPlay, IsCrewFor, HasFinished, IsWhole, IsFinished, IsCrewStopped, IsFaultOf}
 pub use Rattle.chip_crew.specs.Gathering.{AreGathered, IsGatheringFor, AreBack, IsRow, queue_for}
 pub use Rattle.chip_crew.specs.Handed.{HasDealt, HasMade, HasWorked, round_of, queue_of, IsReady, AreReady}
 pub use Rattle.chip_crew.specs.Joining.{IsWorker, queue_of_all}
 pub use Rattle.chip_crew.specs.Leading.{HasLed, CanLead, IsLeader, LeadsTurn, LeadsRound}
 pub use Rattle.chip_crew.specs.Ledger.{got_turns, gave_turns, first_ledger, new_ledger, with_fewer, both_ledgers}
-pub use Rattle.chip_crew.specs.Ledger.{no_ledger, with_taken, with_put, HasJust, IsNext, EndsTurn, TurnsMade}
+pub use Rattle.chip_crew.specs.Ledger.{no_ledger, with_actor, with_put, HasJust, IsNextActor, EndsTurn, TurnsMade}
 pub use Rattle.chip_crew.specs.Ledger.{kept_turns}
 pub use Rattle.chip_crew.specs.Places.{times, actors_of, AreAllThere, HasNothing, AreShared, HaveRoom}
-pub use Rattle.chip_crew.specs.Plans.{is_plan, names_edge, are_feeds, max_workers, max_turns}
+pub use Rattle.chip_crew.specs.Plans.{is_plan, seals_edge, are_feeds, max_workers, max_turns}
 pub use Rattle.chip_crew.specs.Rounds.{TurnsThere, TurnsAt, RoundsMade}
 pub use Rattle.chip_crew.specs.Sealing.{events_of, HasBack, HasSealed, TakesBack, KnowsSeals, SealsBefore, MaySeal}
 pub use Rattle.chip_crew.specs.Sealing.{seals_by}

@@ -7,7 +7,7 @@ use Rattle.chip_crew.proofs.Names.{length-range_with_len, sum_by-append, sum_by-
 use Rattle.chip_crew.proofs.Names.{range_with_len, set_else, drop_at, Pushes, Pops, Forks, Merges, Learns, Held}
 use Rattle.chip_crew.proofs.Names.{get_elem?, some, some-injective, some-ne-none, ActorKnown, CrewId, IsOurs, AreFrom}
 use Rattle.chip_crew.proofs.Names.{turns_of, got_turns, gave_turns, first_ledger, new_ledger, with_fewer, both_ledgers}
-use Rattle.chip_crew.proofs.Names.{no_ledger, with_taken, with_put, times, AreAllThere, HasNothing, AreShared, HaveRoom}
+use Rattle.chip_crew.proofs.Names.{no_ledger, with_actor, with_put, times, AreAllThere, HasNothing, AreShared, HaveRoom}
 use Rattle.chip_crew.proofs.Names.{Ledger}
 
 -- ---- what is counted
@@ -91,10 +91,10 @@ module _ (crew : CrewId) where
 
   -- an actor comes out, and the thread had not all of them
   pub takes : (pass : ℕ) (v : Ledger) → 0 < v.workers → Pops (AreShared crew) pass v
-      (λ x w. IsOurs crew x × (length v.has < crew.net.setting.game.graph.vertices) × (w ≡ with_taken v x))
+      (λ x w. IsOurs crew x × (length v.has < crew.net.setting.game.graph.vertices) × (w ≡ with_actor v x))
   takes pass v speaks x queued ledgers old at =
-      let moves = λ (f : Ledger → ℕ). sum_set f ledgers pass v (with_taken v x) at in (
-        with_taken v x,
+      let moves = λ (f : Ledger → ℕ). sum_set f ledgers pass v (with_actor v x) at in (
+        with_actor v x,
         record {
           ours = All-tail (IsOurs crew) x queued old.ours;
           once = λ u less. (let a = old.once u less in
@@ -102,7 +102,7 @@ module _ (crew : CrewId) where
           count = omega (arith, moves, length-append {A = ℕ});
           workers = omega (arith, moves);
           turns = omega (arith, moves, sum_by-cons turns_of, sum_by_push turns_of);
-          spent = All-set IsSpent ledgers pass (with_taken v x) (λ none. absurd (omega arith)) old.spent;
+          spent = All-set IsSpent ledgers pass (with_actor v x) (λ none. absurd (omega arith)) old.spent;
         },
         (
           All-head (IsOurs crew) x queued old.ours,

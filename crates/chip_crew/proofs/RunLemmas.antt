@@ -3,7 +3,7 @@
 use Rattle.chip_crew.proofs.Names.{◌≡◌, ℕ, zero, suc, ◌+◌, ◌<◌, List, length, Some, take, set, refl, ap}
 use Rattle.chip_crew.proofs.Names.{arith, add-one, [], ◌∷◌, ◌++◌, All, drop, sum_by-le, slice_get_within}
 use Rattle.chip_crew.proofs.Names.{get_or_from_slice_get, same_Some, none-some, slice_get, ActorKnown, NetId, newcomer}
-use Rattle.chip_crew.proofs.Names.{CrewId, IsAt, AreFrom, turns_of, all_turns, EachFrom, AreInOrder}
+use Rattle.chip_crew.proofs.Names.{CrewId, IsAt, AreFrom, turns_of, all_turns, EachFrom, AreAscendingActors}
 
 module _ {X : Type 0} (P : ℕ → X → Type 0) where
   at_number : (n m : ℕ) (x : X) → n ≡ m → P n x → P m x
@@ -57,7 +57,7 @@ module _ {X : Type 0} (P : ℕ → X → Type 0) where
   from_all Q each n (x ∷ xs) all (suc k) d less = from_all Q each (suc n) xs all.1 k d (omega (arith, less))
 
 -- from vertex 0 on they are in order
-pub in_order : (crew : CrewId) (actors : List ActorKnown) → AreFrom crew 0 actors → AreInOrder crew actors
+pub in_order : (crew : CrewId) (actors : List ActorKnown) → AreFrom crew 0 actors → AreAscendingActors crew actors
 in_order crew actors all v a at =
     let here = from_at (IsAt crew) 0 v actors a all at in (here.0, omega arith)
 

@@ -6,7 +6,7 @@ use Rattle.chip_crew.proofs.Names.{All-head, sum_by-append, sum_by-cons, sum_by_
 use Rattle.chip_crew.proofs.Names.{from_settling, root_edge, graph_edges, Part, Take, Setting, saw, Phase, and_then}
 use Rattle.chip_crew.proofs.Names.{each_phase, one_step, ins_of, outs_of, sending, turn, sending_all, Step, Event}
 use Rattle.chip_crew.proofs.Names.{Settle, ActorKnown, MakesTurn, part_known, Turn, turns_of, is_root_take, got_turns}
-use Rattle.chip_crew.proofs.Names.{gave_turns, HasJust, IsNext, EndsTurn, TurnsMade, kept_turns, Ledger}
+use Rattle.chip_crew.proofs.Names.{gave_turns, HasJust, IsNextActor, EndsTurn, TurnsMade, kept_turns, Ledger}
 
 module _ (g : Setting) (v : ℕ) where
   abbrev take_count : Step → ℕ
@@ -77,7 +77,7 @@ turn_counts old new answer makes =
 abbrev AreMade : ℕ → Ledger → Option ActorKnown → Type 0
 AreMade k l kept = HasJust l kept × (gave_turns l + kept_turns kept ≤ got_turns l + k)
 
-made_next : (k : ℕ) (old new : Ledger) (kept next : Option ActorKnown) → IsNext old new kept next → AreMade k old kept
+made_next : (k : ℕ) (old new : Ledger) (kept next : Option ActorKnown) → IsNextActor old new kept next → AreMade k old kept
     → AreMade k new next
 made_next k old new (Some a) next is made = rw (is.0, is.1) made
 made_next k old new None (Some a) is made = rw is (

@@ -53,10 +53,10 @@ abbrev pub AreFrom : CrewId → ℕ → List ActorKnown → Type 0
 AreFrom crew from actors = EachFrom (IsAt crew) from actors
 
 -- actors of the first vertices, each once, ascending
-abbrev pub AreInOrder : CrewId → List ActorKnown → Type 0
-AreInOrder crew actors = (v : ℕ) (a : ActorKnown) → slice_get actors v ≡ Some a → IsOurs crew a × (a.vertex ≡ v)
+abbrev pub AreAscendingActors : CrewId → List ActorKnown → Type 0
+AreAscendingActors crew actors = (v : ℕ) (a : ActorKnown) → slice_get actors v ≡ Some a → IsOurs crew a × (a.vertex ≡ v)
 
 -- the actors of all vertices, each once, ascending
 pub record AreActors (crew : CrewId) (actors : List ActorKnown) : Type 0 where
   pub count : length actors ≡ crew.net.setting.game.graph.vertices
-  pub order : AreInOrder crew actors
+  pub order : AreAscendingActors crew actors

@@ -16,16 +16,16 @@ ends_before G zero = 0
 ends_before G (suc v) = ends_before G v + ends_at G v
 
 -- the first vertex of a worker: the least one before which there are the ends that the workers before it have in even shares
-pub record IsCut (G : Multigraph) (workers worker v : ℕ) : Type 0 where
+pub record IsShareStart (G : Multigraph) (workers worker v : ℕ) : Type 0 where
   pub reached : worker * ends_before G G.vertices ≤ workers * ends_before G v
   pub least : (u : ℕ) → u < v → workers * ends_before G u < worker * ends_before G G.vertices
 
 -- so it is for this crew
 abbrev pub IsFirstOf : CrewId → ℕ → ℕ → Type 0
-IsFirstOf crew worker v = IsCut crew.net.setting.game.graph crew.workers worker v
+IsFirstOf crew worker v = IsShareStart crew.net.setting.game.graph crew.workers worker v
 
 -- the actors of a worker: from its first vertex on, up to the first one of the next worker
-pub record AreOf (crew : CrewId) (worker : ℕ) (actors : List ActorKnown) : Type 0 where
+pub record AreActorsOf (crew : CrewId) (worker : ℕ) (actors : List ActorKnown) : Type 0 where
   pub from : ℕ
   pub is_first : IsFirstOf crew worker from
   pub is_next : IsFirstOf crew (suc worker) (from + length actors)
@@ -37,5 +37,5 @@ IsRoundBy crew sharing.Queue round = round ≡ 1
 IsRoundBy crew sharing.Dealt round = (actors : ℕ) × IsFirstOf crew 1 actors × (round ≡ max 1 actors)
 
 -- this number of turns makes a round of this crew
-abbrev pub IsRound : CrewId → ℕ → Type 0
-IsRound crew round = IsRoundBy crew crew.sharing round
+abbrev pub IsRoundOfTurns : CrewId → ℕ → Type 0
+IsRoundOfTurns crew round = IsRoundBy crew crew.sharing round

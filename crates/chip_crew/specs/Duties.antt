@@ -2,9 +2,9 @@
 use Rattle.std.specs.Prelude.{◌≡◌, ℕ, zero, suc, ◌+◌, ◌%◌, ◌==◌, Bool, true, false}
 
 -- the gate let a turn pass, and what comes before it was done; or it did not, and nothing was done
-abbrev pub Begins : {D : Type 0} → (D → D → Type 0) → Type 0 → Type 0 → D → D → Bool → Type 0
-Begins before passes shut old new true = passes × before old new
-Begins before passes shut old new false = shut × (new ≡ old)
+abbrev pub BeginsTurn : {D : Type 0} → (D → D → Type 0) → Type 0 → Type 0 → D → D → Bool → Type 0
+BeginsTurn before passes shut old new true = passes × before old new
+BeginsTurn before passes shut old new false = shut × (new ≡ old)
 
 -- what comes before each of k turns was done, from the turn with the number `from` on
 abbrev pub BeginsEach : {D : Type 0} → (ℕ → D → D → Type 0) → ℕ → ℕ → D → D → Type 0
@@ -18,7 +18,7 @@ EndsIf after false old new = new ≡ old
 
 -- k turns of a worker, of which `round` make a round: what comes before each was done, and after each round what comes
 -- after it
-abbrev pub Serves : {D : Type 0} → (ℕ → D → D → Type 0) → (D → D → Type 0) → ℕ → ℕ → D → D → Type 0
-Serves before after round zero old new = new ≡ old
-Serves {D = D} before after round (suc k) old new = (was : D) × (begun : D) × Serves before after round k old was
+abbrev pub ServesTurns : {D : Type 0} → (ℕ → D → D → Type 0) → (D → D → Type 0) → ℕ → ℕ → D → D → Type 0
+ServesTurns before after round zero old new = new ≡ old
+ServesTurns {D = D} before after round (suc k) old new = (was : D) × (begun : D) × ServesTurns before after round k old was
     × before k was begun × EndsIf after (suc k % round == 0) begun new

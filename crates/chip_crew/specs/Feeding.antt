@@ -3,7 +3,7 @@ use Rattle.std.specs.Prelude.{◌≡◌, ◌⊎◌, ℕ, zero, suc, ◌+◌, ◌
 use Rattle.std.specs.Prelude.{Option, Some, None}
 use Rattle.chip_graph.specs.Limits.{max_total}
 use Rattle.chip_graph.specs.More.{all_brought}
-use Rattle.chip_net.specs.Roots.{RootKnown, has_ended, all_given, Feeds, LooksInVain, Ends, IsPolling}
+use Rattle.chip_net.specs.Roots.{RootKnown, has_ended, all_given, FeedsChips, LooksInVain, Ends, IsPolling}
 use Rattle.chip_net.specs.declared.poll.RootState.{RootState}
 
 -- what is left to feed before the end is noted, a vertex and its chips each; nothing if the end is noted
@@ -30,7 +30,7 @@ MayFeedLeft root (Some left) = MayFeed root left
 -- the first that is left was fed; or its cell was full, and it is left still
 abbrev pub FeedsNext : List (ℕ × ℕ) → List (ℕ × ℕ) → RootKnown → RootKnown → Type 0
 FeedsNext [] left old new = (left ≡ []) × (new ≡ old)
-FeedsNext (pair ∷ rest) left old new = ((left ≡ rest) × ((place : ℕ) × Feeds old new pair.0 pair.1 place))
+FeedsNext (pair ∷ rest) left old new = ((left ≡ rest) × ((place : ℕ) × FeedsChips old new pair.0 pair.1 place))
     ⊎ ((left ≡ pair ∷ rest) × LooksInVain old new pair.0)
 
 -- if nothing is left, the end is noted

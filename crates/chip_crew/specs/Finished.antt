@@ -2,7 +2,7 @@
 use Rattle.std.specs.Prelude.{◌≡◌, ◌⊎◌, ℕ, ◌+◌, ◌<◌, ⊤, Bool, true, false, sum, Some, None, ◌*◌, ◌≤◌}
 use Rattle.std.specs.Prelude.{is_some}
 use Rattle.chip_graph.specs.Limits.{max_total}
-use Rattle.chip_graph.specs.More.{HasMore, HasRoom, all_brought}
+use Rattle.chip_graph.specs.More.{HasMore, HasRoomForChips, all_brought}
 use Rattle.chip_graph.specs.ChipGame.{ChipGame}
 use Rattle.chip_sequence.specs.Play.{IsPlayed}
 use Rattle.chip_part.specs.Setting.{setting_with}
@@ -23,7 +23,7 @@ use Rattle.chip_crew.specs.declared.fault.CrewFault.TheVariants as fault
 -- with the chips of the start what is fed stays within the total
 abbrev pub StaysWithin : ChipGame → Left → Type 0
 StaysWithin game None = ⊤
-StaysWithin game (Some feeds) = HasRoom game feeds
+StaysWithin game (Some feeds) = HasRoomForChips game feeds
 
 -- it passes the total
 abbrev pub PassesTotal : ChipGame → Left → Type 0
@@ -80,12 +80,12 @@ pub record IsFinished (shared : Sharing) (game : ChipGame) (feeds : Left) (plan 
 
 -- why a crew that was opened didn't finish: memory or threads ran out, a gate was shut, or the root is open. No actor is
 -- missing, and none is there twice
-abbrev pub IsStopped : Asked → CrewFault → Type 0
-IsStopped asked fault.NoMemory = ⊤
-IsStopped asked fault.Spawn = ⊤
-IsStopped asked fault.GateShut = SomeShut asked.may_answer asked.crew.workers asked.plan.turns
-IsStopped asked (fault.Unfinished deficit root) = StaysUnfinished asked.crew asked.feeds asked.plan root deficit
-IsStopped asked _ = ⊥
+abbrev pub IsCrewStopped : Asked → CrewFault → Type 0
+IsCrewStopped asked fault.NoMemory = ⊤
+IsCrewStopped asked fault.Spawn = ⊤
+IsCrewStopped asked fault.GateShut = SomeShut asked.may_answer asked.crew.workers asked.plan.turns
+IsCrewStopped asked (fault.Unfinished deficit root) = StaysUnfinished asked.crew asked.feeds asked.plan root deficit
+IsCrewStopped asked _ = ⊥
 
 -- plan or feeds are at fault; or their total is; or a crew of this game didn't finish, whose gate may answer so. No actor
 -- is missing, and none is there twice

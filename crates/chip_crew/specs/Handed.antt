@@ -5,8 +5,8 @@ use Rattle.crossbeam_queue.specs.Passes.{view, IsPassOf}
 use Rattle.chip_net.specs.Tokens.{NetId, ActorKnown}
 use Rattle.chip_crew.specs.Crew.{IsOurs, EachFrom, all_turns}
 use Rattle.chip_crew.specs.Asked.{Asked, passes, ShutFor}
-use Rattle.chip_crew.specs.Dealing.{AreOf}
-use Rattle.chip_crew.specs.Duties.{Serves}
+use Rattle.chip_crew.specs.Dealing.{AreActorsOf}
+use Rattle.chip_crew.specs.Duties.{ServesTurns}
 use Rattle.chip_crew.specs.Rounds.{RoundsMade}
 use Rattle.chip_crew.specs.Ledger.{TurnsMade}
 use Rattle.chip_crew.specs.declared.plan.Sharing.TheVariants as sharing
@@ -21,7 +21,7 @@ pub record IsRoundOf (asked : Asked) (worker most made : ℕ) : Type 0 where
 
 -- what became of the actors that were dealt to a worker in `turns` turns, each of which its gate let pass
 abbrev pub HasDealt : Asked → ℕ → ℕ → List ActorKnown → Type 0
-HasDealt asked worker turns actors = (asked.crew.sharing ≡ sharing.Dealt) × AreOf asked.crew worker actors
+HasDealt asked worker turns actors = (asked.crew.sharing ≡ sharing.Dealt) × AreActorsOf asked.crew worker actors
     × ((first : List ActorKnown) × (all_turns first ≡ 0) × RoundsMade (passes asked worker) turns first actors)
 
 module _ {B : Type 0} where
@@ -64,5 +64,5 @@ module _ {B : Type 0} where
         (worker : ℕ) (own : Share B) (begun : D) (handed : WorkerResult B D) : Type 0 where
       pub is_handed : IsHanded asked worker handed
       pub uses : queue_of handed.share ≡ queue_of own
-      pub served : Serves before after (round_of handed.share) handed.turns begun handed.duties
+      pub served : ServesTurns before after (round_of handed.share) handed.turns begun handed.duties
       pub can_still : can asked.crew.net handed.duties

@@ -2,10 +2,10 @@
 use Rattle.std.specs.Prelude.{◌≡◌, ℕ, ◌<◌, ◌≤◌, Bool, true, false}
 use Rattle.std.specs.Option.{option_copied}
 use Rattle.chip_net.specs.Tokens.{NetId}
-use Rattle.chip_net.specs.Roots.{IsPolling, IsOver}
+use Rattle.chip_net.specs.Roots.{IsPolling, IsRootOver}
 use Rattle.chip_crew.specs.Asked.{Asked, root_of}
-use Rattle.chip_crew.specs.Dealing.{IsRound}
-use Rattle.chip_crew.specs.Duties.{Serves}
+use Rattle.chip_crew.specs.Dealing.{IsRoundOfTurns}
+use Rattle.chip_crew.specs.Duties.{ServesTurns}
 use Rattle.chip_crew.specs.Feeding.{MayFeedLeft, FeedsOnce}
 use Rattle.chip_crew.specs.Sealing.{MaySeal, SealsBefore, HasSealed}
 use Rattle.chip_crew.specs.declared.leader.Leader.{Leader}
@@ -16,7 +16,7 @@ pub record CanLead (net : NetId) (leader : Leader) : Type 0 where
   pub net_is : leader.root.net ≡ net
   pub may : MayFeedLeft leader.root (option_copied leader.feeds)
   pub seal : MaySeal net leader.seal
-  pub closed : leader.is_closed ≡ true → IsOver leader.root
+  pub closed : leader.is_closed ≡ true → IsRootOver leader.root
 
 -- the stopper sealed what is due before this turn, and the root fed what it could
 pub record LeadsTurn (turn : ℕ) (old new : Leader) : Type 0 where
@@ -31,8 +31,8 @@ pub record LeadsRound (old new : Leader) : Type 0 where
 
 -- the crew is to stop exactly if the root is closed
 abbrev pub Stops : Bool → Leader → Type 0
-Stops true leader = IsOver leader.root
-Stops false leader = IsOver leader.root → ⊥
+Stops true leader = IsRootOver leader.root
+Stops false leader = IsRootOver leader.root → ⊥
 
 -- what worker 0 begins with: the root of the crew, what it has to feed, and the stopper, which sealed nothing yet
 pub record IsLeader (asked : Asked) (leader : Leader) : Type 0 where
@@ -46,8 +46,8 @@ pub record IsLeader (asked : Asked) (leader : Leader) : Type 0 where
 pub record HasLed (asked : Asked) (round turns : ℕ) (leader : Leader) : Type 0 where
   pub first : Leader
   pub begins : IsLeader asked first
-  pub is_round : IsRound asked.crew round
+  pub is_round : IsRoundOfTurns asked.crew round
   pub some : 0 < round
   pub at_most : turns ≤ asked.plan.turns
-  pub served : Serves LeadsTurn LeadsRound round turns first leader
+  pub served : ServesTurns LeadsTurn LeadsRound round turns first leader
   pub can : CanLead asked.crew.net leader

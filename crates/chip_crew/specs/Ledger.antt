@@ -34,8 +34,8 @@ both_ledgers one other = record {
 }
 
 -- this actor was taken
-abbrev pub with_taken : Ledger → ActorKnown → Ledger
-with_taken old a = record old { has = old.has ++ a.vertex ∷ []; taken = old.taken ++ a ∷ [] }
+abbrev pub with_actor : Ledger → ActorKnown → Ledger
+with_actor old a = record old { has = old.has ++ a.vertex ∷ []; taken = old.taken ++ a ∷ [] }
 
 -- this actor was put, the first of those that the thread had
 abbrev pub with_put : Ledger → ActorKnown → Ledger
@@ -53,18 +53,18 @@ abbrev pub kept_turns : Option ActorKnown → ℕ
 kept_turns kept = all_turns (option_to_list kept)
 
 -- the vertex of this actor, if there is one
-abbrev pub vertex_of : Option ActorKnown → List ℕ
-vertex_of kept = map (λ a. a.vertex) (option_to_list kept)
+abbrev pub vertex_if_any : Option ActorKnown → List ℕ
+vertex_if_any kept = map (λ a. a.vertex) (option_to_list kept)
 
 -- who has this ledger speaks for one worker, and has this actor, if one
 abbrev pub HasJust : Ledger → Option ActorKnown → Type 0
-HasJust ledger kept = (ledger.workers ≡ 1) × (ledger.has ≡ vertex_of kept)
+HasJust ledger kept = (ledger.workers ≡ 1) × (ledger.has ≡ vertex_if_any kept)
 
 -- the actor that was kept is the next, and nothing was taken; else it is one that was taken, if one came
-abbrev pub IsNext : Ledger → Ledger → Option ActorKnown → Option ActorKnown → Type 0
-IsNext old new (Some kept) next = (next ≡ Some kept) × (new ≡ old)
-IsNext old new None (Some next) = new ≡ with_taken old next
-IsNext old new None None = new ≡ old
+abbrev pub IsNextActor : Ledger → Ledger → Option ActorKnown → Option ActorKnown → Type 0
+IsNextActor old new (Some kept) next = (next ≡ Some kept) × (new ≡ old)
+IsNextActor old new None (Some next) = new ≡ with_actor old next
+IsNextActor old new None None = new ≡ old
 
 -- the actor was put, or it is kept
 abbrev pub IsPutOrKept : Ledger → Ledger → ActorKnown → Option ActorKnown → Type 0
@@ -79,7 +79,7 @@ EndsTurn old new None kept = (new ≡ old) × (kept ≡ None)
 
 -- a worker's turn: the actor that was kept, else one that was taken, makes a turn, and is put or kept
 abbrev pub MakesOneTurn : Ledger → Ledger → Option ActorKnown → Option ActorKnown → Type 0
-MakesOneTurn old new kept result = (between : Ledger) × (next : Option ActorKnown) × IsNext old between kept next
+MakesOneTurn old new kept result = (between : Ledger) × (next : Option ActorKnown) × IsNextActor old between kept next
     × EndsTurn between new next result
 
 -- k turns of a worker, one after another from the first, each of which its gate let pass

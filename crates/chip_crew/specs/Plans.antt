@@ -19,18 +19,18 @@ abbrev pub max_trace_rows : ℕ
 max_trace_rows = 2 ^ 20
 
 -- from 1 to `most`
-abbrev pub is_count : ℕ → ℕ → Bool
-is_count most n = nat_lt 0 n && nat_le n most
+abbrev pub is_within : ℕ → ℕ → Bool
+is_within most n = nat_lt 0 n && nat_le n most
 
 -- what is to be sealed is an edge of the graph
-abbrev pub names_edge : ChipGame → Option SealAt → Bool
-names_edge game None = true
-names_edge game (Some at) = nat_lt at.edge (length game.graph.edges)
+abbrev pub seals_edge : ChipGame → Option SealAt → Bool
+seals_edge game None = true
+seals_edge game (Some at) = nat_lt at.edge (length game.graph.edges)
 
 -- the numbers are in their ranges
 abbrev pub is_plan : ChipGame → Plan → Bool
-is_plan game plan = is_count max_workers plan.workers && is_count max_ring plan.ring && is_count max_turns plan.turns
-    && nat_le plan.trace_rows max_trace_rows && names_edge game plan.seal
+is_plan game plan = is_within max_workers plan.workers && is_within max_ring plan.ring && is_within max_turns plan.turns
+    && nat_le plan.trace_rows max_trace_rows && seals_edge game plan.seal
 
 -- each is of one chip or more for a vertex of the graph
 abbrev pub are_feeds : ChipGame → List (ℕ × ℕ) → Bool

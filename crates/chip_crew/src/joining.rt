@@ -2,7 +2,7 @@
 
 ghost use Rattle.std.specs.Prelude.{◌≡◌, ◌+◌, ◌≤◌, length, IfOk, IfErr};
 ghost use Rattle.chip_crew.specs.declared.fault.CrewFault.TheVariants.{Spawn};
-ghost use Rattle.chip_crew.specs.Finished.{IsStopped};
+ghost use Rattle.chip_crew.specs.Finished.{IsCrewStopped};
 ghost use Rattle.chip_crew.specs.Handed.{HasMade};
 ghost use Rattle.chip_crew.specs.Leading.{IsLeader};
 ghost use Rattle.chip_crew.specs.Crew.{EachFrom};
@@ -88,7 +88,7 @@ pub(crate) fn start_all<'s, E, B: Crew + Send + Sync, G: Gate + Sync>(
 ) -> Result<(Started<'s, B, Leader<'s>>, Vec<Started<'s, B, NoDuties>>), CrewFault>
     requires leader { IsLeader B.asked leader }
     requires shares { AreShares B.asked shares.items }
-    ensures fault { IfErr result (IsStopped B.asked) }
+    ensures fault { IfErr result (IsCrewStopped B.asked) }
     ensures leader { IfOk result (λ s. IsWorker B.asked (queue_of_all shares.entry.items) 0 s.0.promise × (s.0.promise.duties.value ≡ leader.entry)) }
     ensures count { IfOk result (λ s. length s.1.items + 1 ≡ B.asked.crew.workers) }
     ensures others { IfOk result (λ s. EachFrom (λ worker h. IsWorker B.asked (queue_of_all shares.entry.items) worker h.promise) 1 s.1.items) }

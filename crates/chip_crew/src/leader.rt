@@ -1,7 +1,7 @@
 //! What worker 0 does beside the turns of its actors: it seals, it feeds, and it polls the root.
 
 ghost use Rattle.std.specs.Prelude.{◌≡◌, ◌⊎◌};
-ghost use Rattle.chip_net.specs.Roots.{IsOver};
+ghost use Rattle.chip_net.specs.Roots.{IsRootOver};
 ghost use Rattle.chip_crew.specs.Leading.{HasLed};
 ghost use Rattle.chip_crew.specs.Sealing.{MaySeal, SealsBefore};
 
@@ -82,7 +82,7 @@ impl<'a> Leader<'a> {
     pub fn go_on<B: Crew, G: Gate>(&mut self, shared: &Shared<B, G>, round: u64, made: u64) -> u64
         requires led { HasLed B.asked round made self.old }
         ensures led { HasLed B.asked round result self.new }
-        ensures lasts { (result ≡ B.asked.plan.turns) ⊎ IsOver self.new.root }
+        ensures lasts { (result ≡ B.asked.plan.turns) ⊎ IsRootOver self.new.root }
     {
         let mut turns = made;
         while turns < shared.plan.turns && !self.is_closed {

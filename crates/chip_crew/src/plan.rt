@@ -106,7 +106,7 @@ impl Plan {
 }
 
 fn is_count(most: u64, count: u64) -> bool
-    ensures { result ≡ Rattle.chip_crew.specs.Plans.is_count most count }
+    ensures { result ≡ Rattle.chip_crew.specs.Plans.is_within most count }
 {
     0 < count && count <= most
 }

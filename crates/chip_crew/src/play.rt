@@ -12,7 +12,7 @@ ghost use Rattle.chip_crew.specs.Leading.{IsLeader};
 ghost use Rattle.chip_crew.specs.Plans.{max_workers};
 ghost use Rattle.chip_crew.specs.Gathering.{AreBack, queue_for};
 ghost use Rattle.chip_crew.specs.Joining.{AreOpened, AreShares, HasJoined, queue_of_all};
-ghost use Rattle.chip_crew.specs.Finished.{HasFinished, IsFinished, IsStopped, IsFaultOf};
+ghost use Rattle.chip_crew.specs.Finished.{HasFinished, IsFinished, IsCrewStopped, IsFaultOf};
 
 use crate::dealing::deal;
 use crate::ending::{last_poll, take_back};
@@ -100,7 +100,7 @@ fn end_play<R: Wait, B: Crew, G: Gate>(
     requires workers { 0 < B.asked.crew.workers }
     ensures passed { IfOk result (λ _. joined.entry.collected.passed ≡ true) }
     ensures finished { IfOk result (HasFinished B.asked.crew B.asked.feeds B.asked.plan) }
-    ensures stopped { IfErr result (IsStopped B.asked) }
+    ensures stopped { IfErr result (IsCrewStopped B.asked) }
 {
     let Joined {
         mut leader,
@@ -142,7 +142,7 @@ fn work_all<'a, R: Threads + Wait, B: Crew + Send + Sync, G: Gate + Sync>(
     requires uses { queue_of_all own.items ≡ queue_for back }
     requires back { AreBack B.asked 0 back }
     ensures finished { IfOk result (HasFinished B.asked.crew B.asked.feeds B.asked.plan) }
-    ensures stopped { IfErr result (IsStopped B.asked) }
+    ensures stopped { IfErr result (IsCrewStopped B.asked) }
 {
     thread::scope(
         thread::scope_env(),
@@ -150,7 +150,7 @@ fn work_all<'a, R: Threads + Wait, B: Crew + Send + Sync, G: Gate + Sync>(
         |scope| -> Result<Finished, CrewFault>
             requires { IsLeader B.asked leader × AreShares B.asked own.items × (queue_of_all own.items ≡ queue_for back)
                 × AreBack B.asked 0 back }
-            ensures { IfOk result (HasFinished B.asked.crew B.asked.feeds B.asked.plan) × IfErr result (IsStopped B.asked) }
+            ensures { IfOk result (HasFinished B.asked.crew B.asked.feeds B.asked.plan) × IfErr result (IsCrewStopped B.asked) }
         {
             let (leader, others) = start_all(scope, alloc, shared, leader, own)?;
             end_play(rt, shared, join_all(rt, leader, others, back))
@@ -170,7 +170,7 @@ fn play_shared<'a, R: Threads + Wait, B: Crew + Send + Sync, G: Gate + Sync>(
     requires sharing { sharing ≡ B.asked.crew.sharing }
     requires opened { AreOpened B.asked leader actors.items }
     ensures finished { IfOk result (HasFinished B.asked.crew B.asked.feeds B.asked.plan) }
-    ensures stopped { IfErr result (IsStopped B.asked) }
+    ensures stopped { IfErr result (IsCrewStopped B.asked) }
 {
     match sharing {
         Sharing::Queue => {
@@ -202,7 +202,7 @@ fn play_on<R: Threads + Wait, B: Crew + Send + Sync, G: Gate + Sync>(
     requires sharing { sharing ≡ B.asked.crew.sharing }
     requires opened { AreOpened B.asked (record { root = opened.root; feeds = feeds; seal = option_zip opened.stopper plan.now.seal; is_closed = false }) opened.actors.items }
     ensures finished { IfOk result (HasFinished B.asked.crew B.asked.feeds B.asked.plan) }
-    ensures stopped { IfErr result (IsStopped B.asked) }
+    ensures stopped { IfErr result (IsCrewStopped B.asked) }
 {
     let Opened {
         net,

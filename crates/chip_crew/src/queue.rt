@@ -55,10 +55,10 @@ pub(crate) struct Popped<B> {
 impl<B: Crew> Outcome<Actor, Ledger> for Popped<B> {
     ghost use Rattle.std.specs.Prelude.{◌≡◌, ◌<◌, length};
     ghost use Rattle.chip_crew.specs.Crew.{IsOurs};
-    ghost use Rattle.chip_crew.specs.Ledger.{with_taken};
+    ghost use Rattle.chip_crew.specs.Ledger.{with_actor};
 
     ghost then = { λ old a new. IsOurs B.asked.crew a × (length old.has < B.asked.crew.net.setting.game.graph.vertices)
-        × (new ≡ with_taken old a) };
+        × (new ≡ with_actor old a) };
 }
 
 impl<B: Crew> Lesson<Actor, Ledger> for Popped<B> {

@@ -4,8 +4,8 @@ ghost use Rattle.std.specs.Prelude.{◌≡◌, ◌+◌, ◌%◌, ◌<◌, ◌≤
 ghost use Rattle.crossbeam_queue.specs.Passes.{view, IsPassOf};
 ghost use Rattle.chip_crew.specs.Crew.{IsOurs};
 ghost use Rattle.chip_crew.specs.Asked.{passes, ShutFor};
-ghost use Rattle.chip_crew.specs.Ledger.{HasJust, IsNext, MakesOneTurn};
-ghost use Rattle.chip_crew.specs.Duties.{Begins, BeginsEach};
+ghost use Rattle.chip_crew.specs.Ledger.{HasJust, IsNextActor, MakesOneTurn};
+ghost use Rattle.chip_crew.specs.Duties.{BeginsTurn, BeginsEach};
 ghost use Rattle.chip_crew.specs.Handed.{HasMade, HasDealt, HasWorked, IsRoundOf, round_of, queue_of};
 
 use crate::duties::Duties;
@@ -74,7 +74,7 @@ fn next_actor<B: Crew>(queue: &Queue<B>, pass: &mut QueuePass, kept: Option<Acto
     ensures pass { IsPassOf queue.now pass.new }
     ensures actor { IfSome result (IsOurs B.asked.crew) }
     ensures has { HasJust (view pass.new) result }
-    ensures next { IsNext (view pass.old) (view pass.new) kept result }
+    ensures next { IsNextActor (view pass.old) (view pass.new) kept result }
 {
     match kept {
         Some(actor) => Some(actor),
@@ -133,7 +133,7 @@ impl<'a, B: Crew, G: Gate> Shared<'a, B, G> {
         requires goes_on { D.goes_on duties.old }
         ensures can { D.can B.asked.crew.net duties.new }
         ensures goes_on { D.goes_on duties.new }
-        ensures begins { Begins (D.before turn) (passes B.asked worker turn) (ShutFor B.asked worker) duties.old duties.new result }
+        ensures begins { BeginsTurn (D.before turn) (passes B.asked worker turn) (ShutFor B.asked worker) duties.old duties.new result }
     {
         if !self.gate.pass(worker, turn) {
             self.stop.store(true, SeqCst);

@@ -61,7 +61,7 @@ pub record IsSound (b : Books) : Type 0 where
   pub neutral : b.parent ≡ None → all_owed b ≡ 0
 
 -- on these edges nothing was got or sent yet, and the vertex is neutral
-pub record IsFresh (b : Books) (into out : List ℕ) : Type 0 where
+pub record AreFreshBooks (b : Books) (into out : List ℕ) : Type 0 where
   pub ins : AreFresh b.ins into
   pub outs : AreFresh b.outs out
   pub parent : b.parent ≡ None

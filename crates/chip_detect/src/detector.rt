@@ -34,7 +34,7 @@ impl Model for Detect {
 
 impl Detect {
     ghost use Rattle.chip_detect.specs.Tally.{edge_limit, message_limit};
-    ghost use Rattle.chip_detect.specs.Books.{Books, IsSound, IsFresh, in_edges, out_edges, is_engaged};
+    ghost use Rattle.chip_detect.specs.Books.{Books, IsSound, AreFreshBooks, in_edges, out_edges, is_engaged};
     ghost use Rattle.chip_detect.specs.Books.{got_of, sent_of, settled_of, owed, deficit};
     ghost use Rattle.chip_detect.specs.Acknowledging.{may_ack, keeps_last};
     ghost use Rattle.chip_detect.specs.Steps.{Gets, Acknowledges, Sends, Settles};
@@ -45,7 +45,7 @@ impl Detect {
     pub fn new(alloc: Global, ins: &[u64], outs: &[u64]) -> Result<Self, AllocError>
         requires few_ins { length ins.now ≤ edge_limit }
         requires few_outs { length outs.now ≤ edge_limit }
-        ensures fresh { IfOk result (λ books. IsFresh books ins.now outs.now) }
+        ensures fresh { IfOk result (λ books. AreFreshBooks books ins.now outs.now) }
         ensures sound { IfOk result IsSound }
     {
         Ok(Detect {

@@ -1,6 +1,6 @@
 //! What follows from the rules of the books, for every vertex and every step.
 ghost use Rattle.chip_detect.specs.Laws.{StepsKeepSoundness, NeutralOnlyWhenDone, NoMoreThanOwed, ParentGoesWithAll};
-ghost use Rattle.chip_detect.specs.Worked.{SlotOfTheLast, EngagingMessageLast, TwoOnTheParentEdge};
+ghost use Rattle.chip_detect.specs.Worked.{SlotOfTheLast, BooksAcknowledgeLast, TwoOnTheParentEdge};
 
 /// Every step keeps the books sound: an engaged vertex owes something on its parent edge, and a
 /// neutral one owes nothing.
@@ -26,6 +26,6 @@ pub fn parent_goes_with_all()
 /// Worked examples, computed on the definitions.
 pub fn worked()
     ensures slot_of_the_last { SlotOfTheLast }
-    ensures engaging_message_last { EngagingMessageLast }
+    ensures engaging_message_last { BooksAcknowledgeLast }
     ensures two_on_the_parent_edge { TwoOnTheParentEdge }
 {}

@@ -8,9 +8,9 @@ use Rattle.chip_detect.specs.Books.{Books, IsSound, in_edges, out_edges, owed, a
 use Rattle.chip_detect.specs.Acknowledging.{acknowledgeable_count, may_ack}
 use Rattle.chip_detect.proofs.ChangesLemmas.{open_within_total, total_adds}
 use Rattle.chip_diffusing.specs.Network.{Network, IsNetwork, IsOutOf}
-use Rattle.chip_diffusing.specs.Computation.{World, IsSilent, IsClosed, sent_on, got_on, acked_on}
+use Rattle.chip_diffusing.specs.Computation.{World, IsQuiescent, HasClosedRoot, sent_on, got_on, acked_on}
 use Rattle.chip_diffusing.specs.Computation.{settled_on}
-use Rattle.chip_diffusing.specs.Ending.{IsTree, Goes, HasTurn, HasRound, HasRounds}
+use Rattle.chip_diffusing.specs.Ending.{IsEngagementTree, Goes, HasMoment, HasMomentRound, HasMomentRounds}
 use Rattle.chip_diffusing.specs.Laws.{DepthCloses, DepthIsCounted}
 use Rattle.chip_diffusing.proofs.KeptLemmas.{IsKept, legal_kept, sum_none}
 use Rattle.chip_diffusing.proofs.SilentLemmas.{IsLater, later, then_later}
@@ -66,12 +66,12 @@ module _ (net : Network) (is : IsNetwork net) (level : ℕ → ℕ) where
       let all = (kept.sound (net.head e) (is.heads e l)).neutral none in
       let a = open_within_total (w (net.head e)).books.ins e in omega arith
 
-  module _ (a : World) (kept : IsKept net a) (silent : IsSilent net a) (b : World) (round : HasRound net a b) where
+  module _ (a : World) (kept : IsKept net a) (silent : IsQuiescent net a) (b : World) (round : HasMomentRound net a b) where
     to_end : IsLater net is a b
     to_end = later net is a kept silent round.goes.0 b round.goes.1
 
     module _ (p : ℕ) (l : p < net.parts) (other : p ≡ net.root → ⊥) where
-      abbrev turn : HasTurn net a b p
+      abbrev turn : HasMoment net a b p
       turn = round.turns p l other
 
       abbrev m : World
@@ -144,16 +144,16 @@ module _ (net : Network) (is : IsNetwork net) (level : ℕ → ℕ) where
                 (sum_none (outstanding (m p l other p).books) (out_edges (m p l other p).books) waits)
                 (λ i has. (turn p l other).given i ((here.kept.ins p l).none_else i has))
 
-  module _ (w : World) (kept : IsKept net w) (silent : IsSilent net w) (depth : ℕ) (low : Low w depth) where
+  module _ (w : World) (kept : IsKept net w) (silent : IsQuiescent net w) (depth : ℕ) (low : Low w depth) where
     record After (k : ℕ) (v : World) : Type 0 where
       way : IsLater net is w v
       rested : Rested v
       lower : Low v (depth - k)
 
-    after_rounds : (k : ℕ) → k ≤ depth → (v : World) → HasRounds net (suc k) w v → After k v
+    after_rounds : (k : ℕ) → k ≤ depth → (v : World) → HasMomentRounds net (suc k) w v → After k v
     after_rounds zero few v (u, same, round) =
         let kept_u : IsKept net u = subst (IsKept net) same kept in
-        let silent_u : IsSilent net u = subst (IsSilent net) same silent in
+        let silent_u : IsQuiescent net u = subst (IsQuiescent net) same silent in
         let low_u : Low u depth = subst (λ (x : World). Low x depth) same low in
         record {
           way = subst (λ (x : World). IsLater net is x v) (sym same) (to_end u kept_u silent_u v round);
@@ -177,8 +177,8 @@ module _ (net : Network) (is : IsNetwork net) (level : ℕ → ℕ) where
         (λ some. let c = flat.below p l some.0 some.1 in let c0 = c.0 in let c1 = c.1 in absurd (omega arith))
         (cases_option (v p).books.parent)
 
-    closes : (v end : World) → HasRounds net (suc depth) w v → Goes net v end
-        → ((e : ℕ) → IsOutOf net net.root e → acked_on net v e ≤ settled_on net end e) → IsClosed net end
+    closes : (v end : World) → HasMomentRounds net (suc depth) w v → Goes net v end
+        → ((e : ℕ) → IsOutOf net net.root e → acked_on net v e ≤ settled_on net end e) → HasClosedRoot net end
     closes v end rounds goes heard =
         let all = after_rounds depth (omega arith) v rounds in
         let flat : Low v 0 = subst (Low v) (let z : depth - depth ≡ 0 = omega arith in z) all.lower in
@@ -212,14 +212,14 @@ outside (u ∷ us) v out =
     grind (arith, nat_tests)
 
 module _ (net : Network) (is : IsNetwork net) (w : World) where
-  never_root : (vs : List ℕ) → IsTree net w vs → Contains vs net.root → ⊥
+  never_root : (vs : List ℕ) → IsEngagementTree net w vs → Contains vs net.root → ⊥
   never_root [] tree has = contains_nothing net.root has
   never_root (v ∷ vs) tree has = ⊎_elim
       (λ z. is.none_to_root tree.2.0 tree.2.1.into.0 (tree.2.1.into.1 ∙ sym z))
       (λ z. never_root vs tree.0 z) (contains_cases v vs net.root has)
 
   -- the parent edge of the latest part comes from an earlier one or from the root, and so do the others
-  from_rest : (u : ℕ) (us : List ℕ) → IsTree net w (u ∷ us) → (v e : ℕ) → (w v).books.parent ≡ Some e
+  from_rest : (u : ℕ) (us : List ℕ) → IsEngagementTree net w (u ∷ us) → (v e : ℕ) → (w v).books.parent ≡ Some e
       → (Contains us v → (w v).books.parent ≡ Some e → (net.tail e ≡ net.root) ⊎ Contains us (net.tail e))
       → (v ≡ u) ⊎ Contains us v → (net.tail e ≡ net.root) ⊎ Contains us (net.tail e)
   from_rest u us tree v e at rest (inr has) = rest has at
@@ -229,13 +229,13 @@ module _ (net : Network) (is : IsNetwork net) (w : World) where
       subst (λ (i : ℕ). (net.tail i ≡ net.root) ⊎ Contains us (net.tail i)) same tree.2.1.from_earlier
 
   -- the parent edge of a part of the tree comes from the root or from a part of it
-  from_tree : (vs : List ℕ) → IsTree net w vs → (v e : ℕ) → Contains vs v → (w v).books.parent ≡ Some e
+  from_tree : (vs : List ℕ) → IsEngagementTree net w vs → (v e : ℕ) → Contains vs v → (w v).books.parent ≡ Some e
       → (net.tail e ≡ net.root) ⊎ Contains vs (net.tail e)
   from_tree [] tree v e has at = absurd (contains_nothing v has)
   from_tree (u ∷ us) tree v e has at = ⊎_elim (λ r. inl r) (λ c. inr (contains_later u us (net.tail e) c))
       (from_rest u us tree v e at (from_tree us tree.0 v e) (contains_cases u us v has))
 
-  places_fall : (vs : List ℕ) → IsTree net w vs → (v e : ℕ) → Contains vs v → (w v).books.parent ≡ Some e
+  places_fall : (vs : List ℕ) → IsEngagementTree net w vs → (v e : ℕ) → Contains vs v → (w v).books.parent ≡ Some e
       → place_in vs (net.tail e) < place_in vs v
   unfolding place_in
   places_fall [] tree v e has at = absurd (contains_nothing v has)

@@ -10,8 +10,8 @@ use Rattle.chip_detect.specs.Acknowledging.{may_ack}
 use Rattle.chip_detect.proofs.AllowedLemmas.{within_owed}
 use Rattle.chip_diffusing.specs.Network.{Network, IsNetwork}
 use Rattle.chip_diffusing.specs.Computation.{World, Event, Send, Get, Ack, Settle, Work, Log, May, Happens, Leads}
-use Rattle.chip_diffusing.specs.Computation.{IsLegalLog, IsSilent, IsClosed, sent_on, got_on, acked_on, settled_on}
-use Rattle.chip_diffusing.specs.Ending.{HasRounds, IsDue, left, LeadsDue}
+use Rattle.chip_diffusing.specs.Computation.{IsLegalLog, IsQuiescent, HasClosedRoot, sent_on, got_on, acked_on, settled_on}
+use Rattle.chip_diffusing.specs.Ending.{HasMomentRounds, MayTell, left, LeadsDue}
 use Rattle.chip_diffusing.specs.Laws.{NeverStuck}
 use Rattle.chip_diffusing.proofs.EdgesLemmas.{counted, less_sum}
 use Rattle.chip_diffusing.proofs.KeptLemmas.{IsKept, acked_most, legal_kept}
@@ -28,7 +28,7 @@ module _ (net : Network) (is : IsNetwork net) where
 
   -- each part has its turns where it stands, and so the root is closed
   module _ (w : World) (quiet : Quiet w) where
-    stays : (n : ℕ) → HasRounds net n w w
+    stays : (n : ℕ) → HasMomentRounds net n w w
     stays zero = refl
     stays (suc n) = (
       w,
@@ -45,7 +45,7 @@ module _ (net : Network) (is : IsNetwork net) where
       },
     )
 
-    pub quiet_closes : (log : Log) → IsLegalLog net log w → IsSilent net w → IsClosed net w
+    pub quiet_closes : (log : Log) → IsLegalLog net log w → IsQuiescent net w → HasClosedRoot net w
     quiet_closes log legal silent =
         let o = detection_order net is log w legal in
         let deep = depth_is_counted net is log w legal o.0 o.1 in
@@ -61,8 +61,8 @@ module _ (net : Network) (is : IsNetwork net) where
       (λ on. inl (n, omega arith, omega arith)))
       (find n f)
 
-  pub due_or_closed : (log : Log) (w : World) → IsLegalLog net log w → IsSilent net w
-      → ((x : Event) × IsDue net w x) ⊎ IsClosed net w
+  pub due_or_closed : (log : Log) (w : World) → IsLegalLog net log w → IsQuiescent net w
+      → ((x : Event) × MayTell net w x) ⊎ HasClosedRoot net w
   due_or_closed log w legal silent = let kept = legal_kept net is log w legal in ⊎_elim
       (λ t. let more = t.2 in let least = kept.heard t.0 t.1 in
       inl (Settle t.0 (acked_on net w t.0), ((t.1, least, omega arith), omega arith)))
@@ -73,8 +73,8 @@ module _ (net : Network) (is : IsNetwork net) where
       (find net.edges (λ e. may_ack (w (net.head e)).books e (w (net.head e)).passive)))
       (find net.edges (λ e. acked_on net w e - settled_on net w e))
 
-  pub not_over_yet : (log : Log) (w : World) → IsLegalLog net log w → (IsClosed net w → ⊥)
-      → ((p : ℕ) × (p < net.parts) × ((w p).passive ≡ false)) ⊎ ((e : ℕ) × May net w (Get e)) ⊎ ((x : Event) × IsDue net w x)
+  pub not_over_yet : (log : Log) (w : World) → IsLegalLog net log w → (HasClosedRoot net w → ⊥)
+      → ((p : ℕ) × (p < net.parts) × ((w p).passive ≡ false)) ⊎ ((e : ℕ) × May net w (Get e)) ⊎ ((x : Event) × MayTell net w x)
   not_over_yet log w legal not_closed = ⊎_elim
       (λ t. inl (t.0, t.1, at_work (w t.0).passive t.2))
       (λ all_passive. ⊎_elim
@@ -94,7 +94,7 @@ module _ (net : Network) (is : IsNetwork net) where
 
   -- ---- few are left
 
-  module _ (old : World) (kept : IsKept net old) (silent : IsSilent net old) (new : World) where
+  module _ (old : World) (kept : IsKept net old) (silent : IsQuiescent net old) (new : World) where
     abbrev at_edge : World → ℕ → ℕ
     at_edge w e = (sent_on net w e - acked_on net w e) + (sent_on net w e - settled_on net w e)
 
@@ -103,7 +103,7 @@ module _ (net : Network) (is : IsNetwork net) where
         (λ i m. (let a = after.sent (net.tail i) i in let b = after.acked (net.head i) i in
         let c = after.settled (net.tail i) i in omega arith)) e l lower
 
-    due_falls : (x : Event) → IsDue net old x → Happens net old x new → left net new < left net old
+    due_falls : (x : Event) → MayTell net old x → Happens net old x new → left net new < left net old
     due_falls (Ack e n) due step =
         let b = (old (net.head e)).books in
         let k = counted net old new (Ack e n) step e in
@@ -127,7 +127,7 @@ module _ (net : Network) (is : IsNetwork net) where
   leads_due w [] new same = same
   leads_due w (x ∷ xs) new (v, way, due, step) = (v, leads_due w xs v way, step)
 
-  few_left : (w : World) → IsKept net w → IsSilent net w → (xs : Log) (new : World) → LeadsDue net w xs new
+  few_left : (w : World) → IsKept net w → IsQuiescent net w → (xs : Log) (new : World) → LeadsDue net w xs new
       → length xs + left net new ≤ left net w
   few_left w kept silent [] new same = let a = ap (left net) same in omega arith
   few_left w kept silent (x ∷ xs) new (v, way, due, step) =
@@ -136,8 +136,8 @@ module _ (net : Network) (is : IsNetwork net) where
       let c = due_falls v a.kept a.silent new x due step in
       omega arith
 
-  pub few_are_left : (log : Log) (w : World) → IsLegalLog net log w → IsSilent net w → (xs : Log) (new : World)
-      → LeadsDue net w xs new → (length xs ≤ left net w) × (((x : Event) → IsDue net new x → ⊥) → IsClosed net new)
+  pub few_are_left : (log : Log) (w : World) → IsLegalLog net log w → IsQuiescent net w → (xs : Log) (new : World)
+      → LeadsDue net w xs new → (length xs ≤ left net w) × (((x : Event) → MayTell net new x → ⊥) → HasClosedRoot net new)
   few_are_left log w legal silent xs new way =
       let kept = legal_kept net is log w legal in
       let plain = leads_due w xs new way in

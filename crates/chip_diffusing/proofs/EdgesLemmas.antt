@@ -6,9 +6,9 @@ use Rattle.std.proofs.lemmas.Bool.Decides.{nat_tests}
 use mathlib.Core.Logic.{dite}
 use native.Mathlib.Decide.{ℕ_discrete}
 use Rattle.chip_diffusing.specs.Network.{Network}
-use Rattle.chip_diffusing.specs.Computation.{World, Event, Send, Get, Ack, Settle, Work, Happens, part_of}
+use Rattle.chip_diffusing.specs.Computation.{World, Event, Send, Get, Ack, Settle, Work, Happens, process_of}
 use Rattle.chip_diffusing.specs.Computation.{sent_on, got_on, acked_on, settled_on}
-use Rattle.chip_diffusing.specs.Ending.{sum_below}
+use Rattle.chip_diffusing.specs.Ending.{sum_to}
 
 -- messages sent and got on an edge, acknowledgements given and settled
 pub record Counts : Type 0 where
@@ -36,8 +36,8 @@ after (Work p) i k = k
 
 module _ (net : Network) (old new : World) where
   -- a part acts or stays as it was
-  acts_or_stays : (x : Event) → Happens net old x new → (p : ℕ) → (p ≡ part_of net x) ⊎ ((p ≢ part_of net x) × (new p ≡ old p))
-  acts_or_stays x step p = dite (ℕ_discrete p (part_of net x)) (λ z. inl z) (λ n. inr (n, step.others p n))
+  acts_or_stays : (x : Event) → Happens net old x new → (p : ℕ) → (p ≡ process_of net x) ⊎ ((p ≢ process_of net x) × (new p ≡ old p))
+  acts_or_stays x step p = dite (ℕ_discrete p (process_of net x)) (λ z. inl z) (λ n. inr (n, step.others p n))
 
   pub counted : (x : Event) → Happens net old x new → (i : ℕ) → AreEqual (counts net new i) (after x i (counts net old i))
   counted (Send e) step i = let t = acts_or_stays (Send e) step (net.tail i) in
@@ -53,12 +53,12 @@ module _ (net : Network) (old new : World) where
 
 -- ---- sums
 
-pub less_at : (n : ℕ) (f g : ℕ → ℕ) → ((i : ℕ) → i < n → g i ≤ f i) → sum_below n g ≤ sum_below n f
+pub less_at : (n : ℕ) (f g : ℕ → ℕ) → ((i : ℕ) → i < n → g i ≤ f i) → sum_to n g ≤ sum_to n f
 less_at zero f g less = omega arith
 less_at (suc n) f g less = let a = less n (omega arith) in let b = less_at n f g (λ i l. less i (omega arith)) in omega arith
 
 pub less_sum : (n : ℕ) (f g : ℕ → ℕ) → ((i : ℕ) → i < n → g i ≤ f i) → (e : ℕ) → e < n → g e < f e
-    → sum_below n g < sum_below n f
+    → sum_to n g < sum_to n f
 less_sum zero f g less e l lower = absurd (omega arith)
 less_sum (suc n) f g less e l lower = dite (ℕ_discrete e n)
     (λ z. let a = less_at n f g (λ i l. less i (omega arith)) in

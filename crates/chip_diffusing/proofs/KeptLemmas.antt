@@ -18,8 +18,8 @@ use Rattle.chip_detect.specs.Laws.{IsLastAcknowledgement}
 use Rattle.chip_detect.proofs.ChangesLemmas.{answers_total}
 use Rattle.chip_detect.proofs.SoundnessLemmas.{steps_keep_soundness, neutral_only_when_done}
 use Rattle.chip_diffusing.specs.Network.{Network, IsNetwork, AreAll, IsInto, IsOutOf}
-use Rattle.chip_diffusing.specs.Computation.{Part, World, Event, Send, Get, Ack, Settle, Work, Log, May, Notes, Happens}
-use Rattle.chip_diffusing.specs.Computation.{part_of, call_of, OpensPart, Leads, IsLegalLog, sent_on, got_on, acked_on}
+use Rattle.chip_diffusing.specs.Computation.{PartState, World, Event, Send, Get, Ack, Settle, Work, Log, May, NotesEvent, Happens}
+use Rattle.chip_diffusing.specs.Computation.{process_of, call_of, OpensPart, Leads, IsLegalLog, sent_on, got_on, acked_on}
 use Rattle.chip_diffusing.specs.Computation.{settled_on}
 use Rattle.chip_diffusing.specs.Laws.{CallsMayBeMade}
 use Rattle.chip_diffusing.proofs.EdgesLemmas.{counted}
@@ -56,7 +56,7 @@ pub record Grows (a b : Books) : Type 0 where
   pub acked : (e : ℕ) → acked_of a e ≤ acked_of b e
   pub settled : (e : ℕ) → settled_of a e ≤ settled_of b e
 
-books_grow : (a b : Books) (x : Event) → Notes a x b → Grows a b
+books_grow : (a b : Books) (x : Event) → NotesEvent a x b → Grows a b
 books_grow a b (Send i) n = search (rules, arith, nat_tests)
 books_grow a b (Get i) n = search (rules, arith, nat_tests)
 books_grow a b (Ack i k) n = search (rules, arith, nat_tests)
@@ -77,7 +77,7 @@ module _ (net : Network) where
     pub free : (w net.root).books.parent ≡ None
 
   module _ (is : IsNetwork net) where
-    pub who_inside : (w : World) (x : Event) → May net w x → part_of net x < net.parts
+    pub who_inside : (w : World) (x : Event) → May net w x → process_of net x < net.parts
     who_inside w (Send e) may = is.tails e may.0
     who_inside w (Get e) may = is.heads e may.0
     who_inside w (Ack e n) may = is.heads e may.0
@@ -92,7 +92,7 @@ module _ (net : Network) where
       pub acked_most : (e : ℕ) → e < net.edges → acked_on net w e ≤ got_on net w e
       acked_most e l = (kept.sound (net.head e) (is.heads e l)).ins.answered e
 
-      pub may_call : (x : Event) → May net w x → IfSome (call_of x) (MayBeMade (w (part_of net x)).books)
+      pub may_call : (x : Event) → May net w x → IfSome (call_of x) (MayBeMade (w (process_of net x)).books)
       may_call (Send e) may = ((kept.outs (net.tail e) (is.tails e may.0)).all e (may.0, refl), may.2)
       may_call (Get e) may = (
         (kept.ins (net.head e) (is.heads e may.0)).all e (may.0, refl),
@@ -114,18 +114,18 @@ module _ (net : Network) where
 
     module _ (old : World) (kept : IsKept old) (new : World) where
       abbrev mine : World → Event → Books
-      mine w x = (w (part_of net x)).books
+      mine w x = (w (process_of net x)).books
 
       -- what holds of the part that acts, and of a part that stays as it was, holds of each part
-      pub each : (P : Part → Part → Type 0) (x : Event) → Happens net old x new → ((s : Part) → P s s)
-          → P (old (part_of net x)) (new (part_of net x)) → (p : ℕ) → P (old p) (new p)
-      each P x step same here p = dite (ℕ_discrete p (part_of net x))
+      pub each : (P : PartState → PartState → Type 0) (x : Event) → Happens net old x new → ((s : PartState) → P s s)
+          → P (old (process_of net x)) (new (process_of net x)) → (p : ℕ) → P (old p) (new p)
+      each P x step same here p = dite (ℕ_discrete p (process_of net x))
           (λ z. subst (λ (q : ℕ). P (old q) (new q)) (sym z) here)
           (λ n. subst (P (old p)) (sym (step.others p n)) (same (old p)))
 
       -- what the part that acts has as before, all parts have as before
-      pub stays : {A : Type 0} (x : Event) → Happens net old x new → (f : Part → A)
-          → f (new (part_of net x)) ≡ f (old (part_of net x)) → (p : ℕ) → f (new p) ≡ f (old p)
+      pub stays : {A : Type 0} (x : Event) → Happens net old x new → (f : PartState → A)
+          → f (new (process_of net x)) ≡ f (old (process_of net x)) → (p : ℕ) → f (new p) ≡ f (old p)
       stays x step f same = each (λ s t. f t ≡ f s) x step (λ s. refl) same
 
       pub grows : (x : Event) → Happens net old x new → (p : ℕ) → Grows (old p).books (new p).books
@@ -138,7 +138,7 @@ module _ (net : Network) where
       was_parent x step other = each (λ s t. (q : ℕ) → t.books.parent ≡ Some q → s.books.parent ≡ Some q) x step
           (λ s q at. at) (was x step.notes other)
         where
-          was : (x : Event) → Notes (mine old x) x (mine new x) → ((e : ℕ) → x ≡ Get e → ⊥) → (q : ℕ)
+          was : (x : Event) → NotesEvent (mine old x) x (mine new x) → ((e : ℕ) → x ≡ Get e → ⊥) → (q : ℕ)
               → (mine new x).parent ≡ Some q → (mine old x).parent ≡ Some q
           was (Send e) n other q at = cc
           was (Get e) n other q at = absurd (other e refl)
@@ -157,14 +157,14 @@ module _ (net : Network) where
 
       own_by : (x : Event) (s : Step) → Happens net old x new → MayBeMade (mine old x) s → Makes (mine old x) s (mine new x)
           → in_edges (mine new x) ≡ in_edges (mine old x) → out_edges (mine new x) ≡ out_edges (mine old x)
-          → Own (part_of net x) (mine new x)
+          → Own (process_of net x) (mine new x)
       own_by x s step may makes ins outs = let l = who_inside old x step.may in record {
-        sound = steps_keep_soundness (mine old x) (mine new x) s (kept.sound (part_of net x) l) may makes;
-        ins = subst (λ (es : List ℕ). AreAll es (IsInto net (part_of net x))) (sym ins) (kept.ins (part_of net x) l);
-        outs = subst (λ (es : List ℕ). AreAll es (IsOutOf net (part_of net x))) (sym outs) (kept.outs (part_of net x) l);
+        sound = steps_keep_soundness (mine old x) (mine new x) s (kept.sound (process_of net x) l) may makes;
+        ins = subst (λ (es : List ℕ). AreAll es (IsInto net (process_of net x))) (sym ins) (kept.ins (process_of net x) l);
+        outs = subst (λ (es : List ℕ). AreAll es (IsOutOf net (process_of net x))) (sym outs) (kept.outs (process_of net x) l);
       }
 
-      own_after : (x : Event) → Happens net old x new → Own (part_of net x) (mine new x)
+      own_after : (x : Event) → Happens net old x new → Own (process_of net x) (mine new x)
       own_after (Send e) step = own_by (Send e) (Sent e) step (may_call old kept (Send e) step.may) step.notes
           (ap edges_of step.notes.ins) step.notes.outs.edges
       own_after (Get e) step = own_by (Get e) (Got e) step (may_call old kept (Get e) step.may) step.notes
@@ -176,9 +176,9 @@ module _ (net : Network) where
       own_after (Work p) step = subst (Own p) (sym step.notes) (own p step.may)
 
       owns : (x : Event) → Happens net old x new → (p : ℕ) → p < net.parts → Own p (new p).books
-      owns x step p l = dite (ℕ_discrete p (part_of net x))
+      owns x step p l = dite (ℕ_discrete p (process_of net x))
           (λ z. subst (λ (q : ℕ). Own q (new q).books) (sym z) (own_after x step))
-          (λ n. subst (λ (s : Part). Own p s.books) (sym (step.others p n)) (own p l))
+          (λ n. subst (λ (s : PartState). Own p s.books) (sym (step.others p n)) (own p l))
 
       -- ---- counts of an edge
 
@@ -206,7 +206,7 @@ module _ (net : Network) where
 
       -- ---- neutral parts
 
-      abbrev Rests : Part → Type 0
+      abbrev Rests : PartState → Type 0
       Rests s = (s.passive ≡ true) × (deficit s.books ≡ 0)
 
       -- an engaged part that is none after the event made its last acknowledgement
@@ -227,8 +227,8 @@ module _ (net : Network) where
               let more = last.refused_active in let few = step.may.1 in absurd (grind arith)
 
       mine_rests : (x : Event) → Happens net old x new
-          → ((mine old x).parent ≡ None → Rests (old (part_of net x)))
-          → (mine new x).parent ≡ None → Rests (new (part_of net x))
+          → ((mine old x).parent ≡ None → Rests (old (process_of net x)))
+          → (mine new x).parent ≡ None → Rests (new (process_of net x))
       mine_rests (Send e) step rest none =
           absurd (true≢false (sym (rest (sym step.notes.parent ∙ none)).0 ∙ step.may.1))
       mine_rests (Get e) step rest none = absurd (got_some (mine old (Get e)).parent e (sym step.notes.parent ∙ none))
@@ -258,9 +258,9 @@ module _ (net : Network) where
 
       free_after : (x : Event) → Happens net old x new → (new net.root).books.parent ≡ None
       free_after (Send e) step = stays (Send e) step (λ s. s.books.parent) step.notes.parent net.root ∙ kept.free
-      free_after (Get e) step = ap (λ (s : Part). s.books.parent)
+      free_after (Get e) step = ap (λ (s : PartState). s.books.parent)
           (step.others net.root (λ z. is.none_to_root e step.may.0 (sym z))) ∙ kept.free
-      free_after (Ack e n) step = ap (λ (s : Part). s.books.parent)
+      free_after (Ack e n) step = ap (λ (s : PartState). s.books.parent)
           (step.others net.root (λ z. is.none_to_root e step.may.0 (sym z))) ∙ kept.free
       free_after (Settle e word) step = stays (Settle e word) step (λ s. s.books.parent) step.notes.parent net.root ∙ kept.free
       free_after (Work p) step = stays (Work p) step (λ s. s.books.parent) (ap (λ (b : Books). b.parent) step.notes) net.root
@@ -310,4 +310,4 @@ module _ (net : Network) where
 pub calls_may_be_made : CallsMayBeMade
 calls_may_be_made net is log w legal x may =
     let kept = legal_kept net is log w legal in
-    (kept.sound (part_of net x) (who_inside net is w x may), may_call net is w kept x may)
+    (kept.sound (process_of net x) (who_inside net is w x may), may_call net is w kept x may)

@@ -11,9 +11,9 @@ use Rattle.chip_detect.specs.Books.{Books, in_edges, owed, deficit}
 use Rattle.chip_detect.specs.Acknowledging.{or_else}
 use Rattle.chip_detect.proofs.ChangesLemmas.{open_within_total}
 use Rattle.chip_diffusing.specs.Network.{Network, IsNetwork, IsInto}
-use Rattle.chip_diffusing.specs.Computation.{Part, World, Event, Send, Get, Ack, Settle, Work, Log, Happens, Leads}
-use Rattle.chip_diffusing.specs.Computation.{IsLegalLog, IsSilent, IsClosed, sent_on, acked_on, settled_on}
-use Rattle.chip_diffusing.specs.Ending.{IsTree, IsDetectionOrder, IsSettledUp}
+use Rattle.chip_diffusing.specs.Computation.{PartState, World, Event, Send, Get, Ack, Settle, Work, Log, Happens, Leads}
+use Rattle.chip_diffusing.specs.Computation.{IsLegalLog, IsQuiescent, HasClosedRoot, sent_on, acked_on, settled_on}
+use Rattle.chip_diffusing.specs.Ending.{IsEngagementTree, IsEngagementOrder, IsSettledUp}
 use Rattle.chip_diffusing.specs.Laws.{IsOver}
 use Rattle.chip_diffusing.proofs.KeptLemmas.{IsKept, acked_most, kept_on, legal_kept}
 use Rattle.chip_diffusing.proofs.KeptLemmas.{opens_kept, stays, was_parent}
@@ -85,7 +85,7 @@ module _ (net : Network) (is : IsNetwork net) where
           let other = no_child h e e refl step.may.0 none step.may.0 (omega arith) in
           grind (arith, nat_tests))
           (λ n.
-          let before : parents old p ≡ Some q = ap (λ (s : Part). s.books.parent) (sym (step.others p n)) ∙ at in
+          let before : parents old p ≡ Some q = ap (λ (s : PartState). s.books.parent) (sym (step.others p n)) ∙ at in
           let up = r.1 p q l before in
           let edge = parent_edge old kept p q l before in
           let other = no_child h e q refl step.may.0 none edge.0.0 edge.2 in
@@ -120,12 +120,12 @@ module _ (net : Network) (is : IsNetwork net) where
   module _ (w : World) (kept : IsKept net w) (rank : ℕ → ℕ) (rises : AreRanks w rank) where
     record Grown (ps : List ℕ) (p : ℕ) : Type 0 where
       list : List ℕ
-      tree : IsTree net w list
+      tree : IsEngagementTree net w list
       has : Contains list p
       more : (q : ℕ) → Contains ps q → Contains list q
 
     -- an engaged part and all parts above it join a tree
-    grown : (k p e : ℕ) → rank p < k → p < net.parts → parents w p ≡ Some e → (ps : List ℕ) → IsTree net w ps → Grown ps p
+    grown : (k p e : ℕ) → rank p < k → p < net.parts → parents w p ≡ Some e → (ps : List ℕ) → IsEngagementTree net w ps → Grown ps p
     grown zero p e low l at ps tree = absurd (omega arith)
     grown (suc k) p e low l at ps tree =
         let edge = parent_edge w kept p e l at in
@@ -136,7 +136,7 @@ module _ (net : Network) (is : IsNetwork net) where
         (λ some. let t = grown k (net.tail e) some.0 (omega arith) inside some.1 ps tree in put t.list t.tree (inr t.has) t.more)
         (cases_option (parents w (net.tail e)))
       where
-        put : (qs : List ℕ) → IsTree net w qs → (net.tail e ≡ net.root) ⊎ Contains qs (net.tail e)
+        put : (qs : List ℕ) → IsEngagementTree net w qs → (net.tail e ≡ net.root) ⊎ Contains qs (net.tail e)
             → ((q : ℕ) → Contains ps q → Contains qs q) → Grown ps p
         put qs tree from more = let edge = parent_edge w kept p e l at in ⊎_elim
             (λ has. record { list = qs; tree = tree; has = has; more = more })
@@ -148,7 +148,7 @@ module _ (net : Network) (is : IsNetwork net) where
             })
             (contained qs p)
 
-    all_below : (n : ℕ) → n ≤ net.parts → (ps : List ℕ) × IsTree net w ps
+    all_below : (n : ℕ) → n ≤ net.parts → (ps : List ℕ) × IsEngagementTree net w ps
         × ((p e : ℕ) → p < n → parents w p ≡ Some e → Contains ps p)
     all_below zero few = ([], tt, λ p e l at. absurd (omega arith))
     all_below (suc n) few = let t = all_below n (omega arith) in ⊎_elim
@@ -167,7 +167,7 @@ module _ (net : Network) (is : IsNetwork net) where
         (cases_option (parents w n))
 
   -- in every legal log
-  pub detection_order : (log : Log) (w : World) → IsLegalLog net log w → (ps : List ℕ) × IsDetectionOrder net w ps
+  pub detection_order : (log : Log) (w : World) → IsLegalLog net log w → (ps : List ℕ) × IsEngagementOrder net w ps
   detection_order log w legal =
       let kept = legal_kept net is log w legal in
       let r = ranks log w legal in
@@ -190,7 +190,7 @@ module _ (net : Network) (is : IsNetwork net) where
 
   -- ---- if the root is closed
 
-  module _ (log : Log) (w : World) (legal : IsLegalLog net log w) (closed : IsClosed net w) where
+  module _ (log : Log) (w : World) (legal : IsLegalLog net log w) (closed : HasClosedRoot net w) where
     abbrev kept : IsKept net w
     kept = legal_kept net is log w legal
 
@@ -228,7 +228,7 @@ module _ (net : Network) (is : IsNetwork net) where
         let a = rest.1 in let b = open_within_total (w (net.tail e)).books.outs e in omega arith) in
         record { got = omega arith; acked = omega arith; settled = omega arith }
 
-    pub closed_silent : IsSilent net w
+    pub closed_silent : IsQuiescent net w
     closed_silent = record {
       delivered = λ e l. (let a = (settled_up e l).got in omega arith);
       passive = λ p l. dite (ℕ_discrete p net.root)

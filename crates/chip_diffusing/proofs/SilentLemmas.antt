@@ -5,8 +5,8 @@ use Rattle.chip_detect.specs.Tally.{messages_on}
 use Rattle.chip_detect.specs.Books.{Books, got_of, acked_of, sent_of, settled_of, deficit, outstanding, out_edges}
 use Rattle.chip_detect.proofs.ChangesLemmas.{open_within_total}
 use Rattle.chip_diffusing.specs.Network.{Network, IsNetwork}
-use Rattle.chip_diffusing.specs.Computation.{Part, World, Event, Send, Get, Ack, Settle, Work, Log, Happens, Leads}
-use Rattle.chip_diffusing.specs.Computation.{part_of, IsLegalLog, IsSilent}
+use Rattle.chip_diffusing.specs.Computation.{PartState, World, Event, Send, Get, Ack, Settle, Work, Log, Happens, Leads}
+use Rattle.chip_diffusing.specs.Computation.{process_of, IsLegalLog, IsQuiescent}
 use Rattle.chip_diffusing.specs.Laws.{ClosedForGood}
 use Rattle.chip_diffusing.proofs.KeptLemmas.{IsKept, grows, each, was_parent, kept_after, legal_kept, sum_none}
 use Rattle.chip_diffusing.proofs.OrderLemmas.{closed_silent}
@@ -15,24 +15,24 @@ module _ (net : Network) (is : IsNetwork net) where
   -- a later world: no part sent or got any more, and a parent may be gone
   pub record IsLater (old new : World) : Type 0 where
     pub kept : IsKept net new
-    pub silent : IsSilent net new
+    pub silent : IsQuiescent net new
     pub sent : (p e : ℕ) → sent_of (new p).books e ≡ sent_of (old p).books e
     pub got : (p e : ℕ) → got_of (new p).books e ≡ got_of (old p).books e
     pub acked : (p e : ℕ) → acked_of (old p).books e ≤ acked_of (new p).books e
     pub settled : (p e : ℕ) → settled_of (old p).books e ≤ settled_of (new p).books e
     pub parent : (p e : ℕ) → (new p).books.parent ≡ Some e → (old p).books.parent ≡ Some e
 
-  module _ (old : World) (kept : IsKept net old) (silent : IsSilent net old) (new : World) where
+  module _ (old : World) (kept : IsKept net old) (silent : IsQuiescent net old) (new : World) where
     no_send : (e : ℕ) → Happens net old (Send e) new → ⊥
     no_send e step = true≢false (sym (silent.passive (net.tail e) (is.tails e step.may.0)) ∙ step.may.1)
 
     no_get : (e : ℕ) → Happens net old (Get e) new → ⊥
     no_get e step = let a = silent.delivered e step.may.0 in let b = step.may.1 in absurd (omega arith)
 
-    abbrev IsStill : Part → Part → Type 0
+    abbrev IsStill : PartState → PartState → Type 0
     IsStill s t = (e : ℕ) → (sent_of t.books e ≡ sent_of s.books e) × (got_of t.books e ≡ got_of s.books e)
 
-    still : (x : Event) → Happens net old x new → IsStill (old (part_of net x)) (new (part_of net x))
+    still : (x : Event) → Happens net old x new → IsStill (old (process_of net x)) (new (process_of net x))
     still (Send i) step e = absurd (no_send i step)
     still (Get i) step e = absurd (no_get i step)
     still (Ack i n) step e = (ap (λ ts. messages_on ts e) step.notes.outs, step.notes.ins.messages e)
@@ -42,8 +42,8 @@ module _ (net : Network) (is : IsNetwork net) where
     all_still : (x : Event) → Happens net old x new → (p : ℕ) → IsStill (old p) (new p)
     all_still x step = each net is old kept new IsStill x step (λ s e. (refl, refl)) (still x step)
 
-    mine_passive : (x : Event) → Happens net old x new → (old (part_of net x)).passive ≡ true
-        → (new (part_of net x)).passive ≡ true
+    mine_passive : (x : Event) → Happens net old x new → (old (process_of net x)).passive ≡ true
+        → (new (process_of net x)).passive ≡ true
     mine_passive (Send i) step was = step.wakes was
     mine_passive (Get i) step was = absurd (no_get i step)
     mine_passive (Ack i n) step was = step.wakes was
@@ -67,7 +67,7 @@ module _ (net : Network) (is : IsNetwork net) where
           (λ e z. no_get e (subst (λ (y : Event). Happens net old y new) z step));
     }
 
-  at_once : (w : World) → IsKept net w → IsSilent net w → IsLater w w
+  at_once : (w : World) → IsKept net w → IsQuiescent net w → IsLater w w
   at_once w kept silent = record {
     kept = kept;
     silent = silent;
@@ -89,7 +89,7 @@ module _ (net : Network) (is : IsNetwork net) where
     parent = λ p e at. ab.parent p e (bc.parent p e at);
   }
 
-  pub later : (w : World) → IsKept net w → IsSilent net w → (xs : Log) (new : World) → Leads net w xs new → IsLater w new
+  pub later : (w : World) → IsKept net w → IsQuiescent net w → (xs : Log) (new : World) → Leads net w xs new → IsLater w new
   later w kept silent [] new same = subst (IsLater w) same (at_once w kept silent)
   later w kept silent (x ∷ xs) new (v, way, step) =
       let first = later w kept silent xs v way in

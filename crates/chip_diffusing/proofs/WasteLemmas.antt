@@ -11,25 +11,25 @@ use native.Mathlib.Decide.{dec_lt}
 use Rattle.chip_diffusing.specs.Network.{Network, IsNetwork}
 use Rattle.chip_diffusing.specs.Computation.{World, Event, Send, Get, Ack, Settle, Work, Log, Happens, Leads}
 use Rattle.chip_diffusing.specs.Computation.{IsLegalLog, sent_on, got_on, acked_on, settled_on}
-use Rattle.chip_diffusing.specs.Ending.{sum_below, Tells, advances, advancing, is_send}
+use Rattle.chip_diffusing.specs.Ending.{sum_to, TellsNews, advances, advancing, is_send}
 use Rattle.chip_diffusing.specs.Laws.{NoWasteCloses}
 use Rattle.chip_diffusing.proofs.EdgesLemmas.{counted, less_at, less_sum}
 use Rattle.chip_diffusing.proofs.KeptLemmas.{IsKept, acked_most, legal_kept, grows, opens_kept, kept_on}
 use Rattle.chip_diffusing.proofs.DueLemmas.{due_or_closed}
 
-zero_sum : (n : ℕ) (f : ℕ → ℕ) → ((i : ℕ) → i < n → f i ≡ 0) → sum_below n f ≡ 0
+zero_sum : (n : ℕ) (f : ℕ → ℕ) → ((i : ℕ) → i < n → f i ≡ 0) → sum_to n f ≡ 0
 zero_sum zero f none = omega arith
 zero_sum (suc n) f none =
     let a = none n (omega arith) in let b = zero_sum n f (λ i l. none i (omega arith)) in omega arith
 
 -- where one term has at most k more
 sum_with : (n : ℕ) (f g : ℕ → ℕ) (e k : ℕ) → ((i : ℕ) → i < n → g i ≤ cond (eqb e i) (f i + k) (f i))
-    → sum_below n g ≤ sum_below n f + k
+    → sum_to n g ≤ sum_to n f + k
 sum_with zero f g e k more = omega arith
 sum_with (suc n) f g e k more =
     let here = more n (omega arith) in
     let rest = sum_with n f g e k (λ i l. more i (omega arith)) in
-    let same : e ≡ n → sum_below n g ≤ sum_below n f =
+    let same : e ≡ n → sum_to n g ≤ sum_to n f =
     (λ at. less_at n f g (λ i l. let z = more i (omega arith) in grind (arith, nat_tests))) in
     grind (arith, nat_tests)
 
@@ -54,17 +54,17 @@ module _ (net : Network) where
     -- an event that advances does so on an edge
     done_grows : (x : Event) → Happens net old x new → (e : ℕ) → e < net.edges
         → (advances net old x ≡ true → done old e < done new e)
-        → sum_below net.edges (done old) + cond (advances net old x) 1 0 ≤ sum_below net.edges (done new)
+        → sum_to net.edges (done old) + cond (advances net old x) 1 0 ≤ sum_to net.edges (done new)
     done_grows x step e l lower = by (advances net old x) lower
       where
         by : (b : Bool) → (b ≡ true → done old e < done new e)
-            → sum_below net.edges (done old) + cond b 1 0 ≤ sum_below net.edges (done new)
+            → sum_to net.edges (done old) + cond b 1 0 ≤ sum_to net.edges (done new)
         by true more =
             let a = less_sum net.edges (done new) (done old) (λ i m. grown x step i) e l (more refl) in omega arith
         by false more = let a = less_at net.edges (done new) (done old) (λ i m. grown x step i) in omega arith
 
     one_advances : (x : Event) → Happens net old x new
-        → sum_below net.edges (done old) + cond (advances net old x) 1 0 ≤ sum_below net.edges (done new)
+        → sum_to net.edges (done old) + cond (advances net old x) 1 0 ≤ sum_to net.edges (done new)
     one_advances (Send e) step = done_grows (Send e) step e step.may.0 (λ z. absurd (cc))
     one_advances (Get e) step = done_grows (Get e) step e step.may.0
         (λ z. let k = counted net old new (Get e) step e in grind (arith, nat_tests))
@@ -77,7 +77,7 @@ module _ (net : Network) where
         let a = less_at net.edges (done new) (done old) (λ i m. grown (Work p) step i) in omega arith
 
     one_sent : (x : Event) → Happens net old x new
-        → sum_below net.edges (three new) ≤ sum_below net.edges (three old) + 3 * cond (is_send x) 1 0
+        → sum_to net.edges (three new) ≤ sum_to net.edges (three old) + 3 * cond (is_send x) 1 0
     one_sent (Send e) step = sum_with net.edges (three old) (three new) e 3
         (λ i l. let k = counted net old new (Send e) step i in grind (arith, nat_tests))
     one_sent (Get e) step = let a = less_at net.edges (three old) (three new)
@@ -93,16 +93,16 @@ module _ (net : Network) where
 
   module _ (is : IsNetwork net) (first : World) (kept : IsKept net first) where
     all_advance : (log : Log) (w : World) (way : Leads net first log w)
-        → sum_below net.edges (done first) + advancing net first log w way ≤ sum_below net.edges (done w)
-    all_advance [] w way = let a = ap (λ (v : World). sum_below net.edges (done v)) way in omega arith
+        → sum_to net.edges (done first) + advancing net first log w way ≤ sum_to net.edges (done w)
+    all_advance [] w way = let a = ap (λ (v : World). sum_to net.edges (done v)) way in omega arith
     all_advance (x ∷ log) w (v, way, step) =
         let a = all_advance log v way in
         let b = one_advances is v (kept_on net is first kept log v way) w x step in
         omega arith
 
     all_sent : (log : Log) (w : World) → Leads net first log w
-        → sum_below net.edges (three w) ≤ sum_below net.edges (three first) + 3 * count_by is_send log
-    all_sent [] w way = let a = ap (λ (v : World). sum_below net.edges (three v)) way in omega arith
+        → sum_to net.edges (three w) ≤ sum_to net.edges (three first) + 3 * count_by is_send log
+    all_sent [] w way = let a = ap (λ (v : World). sum_to net.edges (three v)) way in omega arith
     all_sent (x ∷ log) w (v, way, step) =
         let a = all_sent log v way in
         let b = one_sent is v (kept_on net is first kept log v way) w x step in
@@ -133,7 +133,7 @@ no_waste net is log w legal = (
       (due_or_closed net is log w legal (record { delivered = got; passive = rest })),
 )
   where
-    told : (x : Event) → Tells net w x → advances net w x ≡ false → ⊥
+    told : (x : Event) → TellsNews net w x → advances net w x ≡ false → ⊥
     told (Ack e n) some off = true≢false (sym (lt-ltb 0 n some) ∙ off)
     told (Settle e word) some off = true≢false (sym (lt-ltb (settled_on net w e) word some) ∙ off)
     told (Send e) some off = some

@@ -4,19 +4,19 @@
 use Rattle.std.specs.Prelude.{◌≡◌, ◌≢◌, ℕ, ◌-◌, ◌<◌, ◌≤◌, Bool, true, false, List, [], ◌∷◌, Option, Some, None}
 use Rattle.std.specs.Option.{MatchOption}
 use Rattle.chip_detect.specs.Tally.{message_limit}
-use Rattle.chip_detect.specs.Books.{Books, IsSound, IsFresh, got_of, acked_of, sent_of, settled_of, deficit}
+use Rattle.chip_detect.specs.Books.{Books, IsSound, AreFreshBooks, got_of, acked_of, sent_of, settled_of, deficit}
 use Rattle.chip_detect.specs.Acknowledging.{may_ack}
 use Rattle.chip_detect.specs.Steps.{Step, Got, Acked, Sent, Settled, Makes}
 use Rattle.chip_diffusing.specs.Network.{Network, IsInto, IsOutOf, AreAll}
 
 -- a part: its books, and whether it has nothing to do until a message comes. The root is passive once it sends no more
-pub record Part : Type 0 where
+pub record PartState : Type 0 where
   pub books : Books
   pub passive : Bool
 
 -- all parts, by their numbers
 abbrev pub World : Type 0
-World = ℕ → Part
+World = ℕ → PartState
 
 -- messages sent on an edge and messages got there, as its tail and its head count them
 abbrev pub sent_on : Network → World → ℕ → ℕ
@@ -33,8 +33,8 @@ abbrev pub settled_on : Network → World → ℕ → ℕ
 settled_on net w e = settled_of (w (net.tail e)).books e
 
 -- the number of messages on their way
-abbrev pub in_flight : Network → World → ℕ → ℕ
-in_flight net w e = sent_on net w e - got_on net w e
+abbrev pub in_transit : Network → World → ℕ → ℕ
+in_transit net w e = sent_on net w e - got_on net w e
 
 -- a message is sent or got on an edge; a number of its messages is acknowledged; the tail hears that `word` are
 -- acknowledged so far; or a part does something of its own
@@ -46,12 +46,12 @@ pub data Event : Type 0 where
   Work : ℕ → Event
 
 -- who does it
-abbrev pub part_of : Network → Event → ℕ
-part_of net (Send e) = net.tail e
-part_of net (Get e) = net.head e
-part_of net (Ack e n) = net.head e
-part_of net (Settle e word) = net.tail e
-part_of net (Work p) = p
+abbrev pub process_of : Network → Event → ℕ
+process_of net (Send e) = net.tail e
+process_of net (Get e) = net.head e
+process_of net (Ack e n) = net.head e
+process_of net (Settle e word) = net.tail e
+process_of net (Work p) = p
 
 -- when it may be done: no passive part sends; what is got was sent; no more is acknowledged than the books allow; and
 -- what is heard was acknowledged, now or earlier
@@ -73,8 +73,8 @@ call_of (Settle e word) = Some (Settled e word)
 call_of (Work p) = None
 
 -- what the books note of it: what that call ensures, or nothing
-abbrev pub Notes : Books → Event → Books → Type 0
-Notes old x new = MatchOption (call_of x) (new ≡ old) (λ s. Makes old s new)
+abbrev pub NotesEvent : Books → Event → Books → Type 0
+NotesEvent old x new = MatchOption (call_of x) (new ≡ old) (λ s. Makes old s new)
 
 -- only a message wakes a passive part. It may be passive again at once, or later, by itself
 abbrev pub Wakes : Bool → Event → Bool → Type 0
@@ -84,17 +84,17 @@ Wakes old _ new = old ≡ true → new ≡ true
 -- the event may be done and is done, and all other parts stay as they were
 pub record Happens (net : Network) (old : World) (x : Event) (new : World) : Type 0 where
   pub may : May net old x
-  pub notes : Notes (old (part_of net x)).books x (new (part_of net x)).books
-  pub wakes : Wakes (old (part_of net x)).passive x (new (part_of net x)).passive
-  pub others : (p : ℕ) → p ≢ part_of net x → new p ≡ old p
+  pub notes : NotesEvent (old (process_of net x)).books x (new (process_of net x)).books
+  pub wakes : Wakes (old (process_of net x)).passive x (new (process_of net x)).passive
+  pub others : (p : ℕ) → p ≢ process_of net x → new p ≡ old p
 
 -- a part before all events: nothing got or sent on its edges, and passive unless it is the root
-pub record OpensPart (net : Network) (p : ℕ) (s : Part) : Type 0 where
+pub record OpensPart (net : Network) (p : ℕ) (s : PartState) : Type 0 where
   pub ins : List ℕ
   pub outs : List ℕ
   pub all_ins : AreAll ins (IsInto net p)
   pub all_outs : AreAll outs (IsOutOf net p)
-  pub fresh : IsFresh s.books ins outs
+  pub fresh : AreFreshBooks s.books ins outs
   pub sound : IsSound s.books
   pub passive : p ≢ net.root → s.passive ≡ true
 
@@ -116,11 +116,11 @@ pub record IsLegalLog (net : Network) (log : Log) (w : World) : Type 0 where
 -- ---- the end
 
 -- it is over: nothing is on its way, and every part is passive
-pub record IsSilent (net : Network) (w : World) : Type 0 where
-  pub delivered : (e : ℕ) → e < net.edges → in_flight net w e ≡ 0
+pub record IsQuiescent (net : Network) (w : World) : Type 0 where
+  pub delivered : (e : ℕ) → e < net.edges → in_transit net w e ≡ 0
   pub passive : (p : ℕ) → p < net.parts → (w p).passive ≡ true
 
 -- the root says so: it sends no more, and waits for no acknowledgement. It reads its own books alone
-pub record IsClosed (net : Network) (w : World) : Type 0 where
+pub record HasClosedRoot (net : Network) (w : World) : Type 0 where
   pub ended : (w net.root).passive ≡ true
   pub settled : deficit (w net.root).books ≡ 0

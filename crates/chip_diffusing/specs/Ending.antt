@@ -4,56 +4,56 @@ use Rattle.std.specs.Prelude.{List, [], ◌∷◌, Contains, Some, None}
 use Rattle.chip_detect.specs.Books.{owed, all_owed, deficit}
 use Rattle.chip_detect.specs.Acknowledging.{may_ack}
 use Rattle.chip_diffusing.specs.Network.{Network, IsInto, IsOutOf}
-use Rattle.chip_diffusing.specs.Computation.{Part, World, Event, Send, Get, Ack, Settle, Log, May, Leads, Happens}
+use Rattle.chip_diffusing.specs.Computation.{PartState, World, Event, Send, Get, Ack, Settle, Log, May, Leads, Happens}
 use Rattle.chip_diffusing.specs.Computation.{sent_on, got_on, acked_on, settled_on}
 
 -- the edge e engaged p: it comes from the root or from one of these parts, and p owes something on it
-pub record IsParentFrom (net : Network) (w : World) (ps : List ℕ) (p e : ℕ) : Type 0 where
+pub record IsEngagedFrom (net : Network) (w : World) (ps : List ℕ) (p e : ℕ) : Type 0 where
   pub parent : (w p).books.parent ≡ Some e
   pub into : IsInto net p e
   pub from_earlier : (net.tail e ≡ net.root) ⊎ Contains ps (net.tail e)
   pub owes : 0 < owed (w p).books e
 
 -- engaged parts, each once, the latest first; the root stands before all of them and isn't written
-abbrev pub IsTree : Network → World → List ℕ → Type 0
-IsTree net w [] = Unit {0}
-IsTree net w (p ∷ ps) = IsTree net w ps × (Contains ps p → ⊥) × ((e : ℕ) × IsParentFrom net w ps p e)
+abbrev pub IsEngagementTree : Network → World → List ℕ → Type 0
+IsEngagementTree net w [] = Unit {0}
+IsEngagementTree net w (p ∷ ps) = IsEngagementTree net w ps × (Contains ps p → ⊥) × ((e : ℕ) × IsEngagedFrom net w ps p e)
 
 -- a part that the detector leaves out
-pub record IsNeutral (s : Part) : Type 0 where
+pub record IsNeutralPart (s : PartState) : Type 0 where
   pub no_parent : s.books.parent ≡ None
   pub passive : s.passive ≡ true
   pub nothing_owed : all_owed s.books ≡ 0
   pub no_deficit : deficit s.books ≡ 0
 
 -- a tree of engaged parts, and every other part but the root is neutral
-pub record IsDetectionOrder (net : Network) (w : World) (ps : List ℕ) : Type 0 where
-  pub tree : IsTree net w ps
-  pub others : (p : ℕ) → p < net.parts → (p ≡ net.root → ⊥) → (Contains ps p → ⊥) → IsNeutral (w p)
+pub record IsEngagementOrder (net : Network) (w : World) (ps : List ℕ) : Type 0 where
+  pub tree : IsEngagementTree net w ps
+  pub others : (p : ℕ) → p < net.parts → (p ≡ net.root → ⊥) → (Contains ps p → ⊥) → IsNeutralPart (w p)
 
 -- an acknowledgement of one message or more, or a settle that hears of a new one
-abbrev pub Tells : Network → World → Event → Type 0
-Tells net w (Ack e n) = 0 < n
-Tells net w (Settle e word) = settled_on net w e < word
-Tells net w _ = ⊥
+abbrev pub TellsNews : Network → World → Event → Type 0
+TellsNews net w (Ack e n) = 0 < n
+TellsNews net w (Settle e word) = settled_on net w e < word
+TellsNews net w _ = ⊥
 
 -- the event may be done, and tells
-abbrev pub IsDue : Network → World → Event → Type 0
-IsDue net w x = May net w x × Tells net w x
+abbrev pub MayTell : Network → World → Event → Type 0
+MayTell net w x = May net w x × TellsNews net w x
 
 -- f 0 + .. + f (n - 1)
-abbrev pub sum_below : ℕ → (ℕ → ℕ) → ℕ
-sum_below zero f = 0
-sum_below (suc n) f = sum_below n f + f n
+abbrev pub sum_to : ℕ → (ℕ → ℕ) → ℕ
+sum_to zero f = 0
+sum_to (suc n) f = sum_to n f + f n
 
 -- the acknowledgements that are still to be given and to be heard of
 abbrev pub left : Network → World → ℕ
-left net w = sum_below net.edges (λ e. (sent_on net w e - acked_on net w e) + (sent_on net w e - settled_on net w e))
+left net w = sum_to net.edges (λ e. (sent_on net w e - acked_on net w e) + (sent_on net w e - settled_on net w e))
 
 -- events lead from the one world to the other, and each of them is due
 abbrev pub LeadsDue : Network → World → Log → World → Type 0
 LeadsDue net old [] new = old ≡ new
-LeadsDue net old (x ∷ log) new = (w : World) × LeadsDue net old log w × IsDue net w x × Happens net w x new
+LeadsDue net old (x ∷ log) new = (w : World) × LeadsDue net old log w × MayTell net w x × Happens net w x new
 
 -- what was sent on an edge was got and acknowledged, and its tail has heard of that
 pub record IsSettledUp (net : Network) (w : World) (e : ℕ) : Type 0 where
@@ -86,7 +86,7 @@ abbrev pub Goes : Network → World → World → Type 0
 Goes net old new = (log : Log) × Leads net old log new
 
 -- on the way p has a moment at which it has heard of every acknowledgement that was given before, and may give none more
-pub record HasTurn (net : Network) (old new : World) (p : ℕ) : Type 0 where
+pub record HasMoment (net : Network) (old new : World) (p : ℕ) : Type 0 where
   pub moment : World
   pub before : Goes net old moment
   pub after : Goes net moment new
@@ -94,14 +94,14 @@ pub record HasTurn (net : Network) (old new : World) (p : ℕ) : Type 0 where
   pub given : (e : ℕ) → IsInto net p e → may_ack (moment p).books e (moment p).passive ≡ 0
 
 -- and so each part but the root
-pub record HasRound (net : Network) (old new : World) : Type 0 where
+pub record HasMomentRound (net : Network) (old new : World) : Type 0 where
   pub goes : Goes net old new
-  pub turns : (p : ℕ) → p < net.parts → (p ≡ net.root → ⊥) → HasTurn net old new p
+  pub turns : (p : ℕ) → p < net.parts → (p ≡ net.root → ⊥) → HasMoment net old new p
 
 -- n rounds, one after another
-abbrev pub HasRounds : Network → ℕ → World → World → Type 0
-HasRounds net zero old new = old ≡ new
-HasRounds net (suc n) old new = (w : World) × HasRounds net n old w × HasRound net w new
+abbrev pub HasMomentRounds : Network → ℕ → World → World → Type 0
+HasMomentRounds net zero old new = old ≡ new
+HasMomentRounds net (suc n) old new = (w : World) × HasMomentRounds net n old w × HasMomentRound net w new
 
 -- the tree is at most `depth` deep: each engaged part has a level of at most `depth`, and the tail of its parent edge
 -- has a lower one, be it a part or the root

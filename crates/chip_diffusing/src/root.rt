@@ -1,7 +1,7 @@
 ghost use Rattle.std.specs.Prelude.{◌≡◌, ◌↔◌, Contains, IsTrue};
 ghost use Rattle.chip_detect.specs.Books.{in_edges, deficit};
 ghost use Rattle.chip_detect.specs.Acknowledging.{may_ack};
-ghost use Rattle.chip_diffusing.specs.Computation.{Ack, Notes};
+ghost use Rattle.chip_diffusing.specs.Computation.{Ack, NotesEvent};
 ghost use Rattle.chip_diffusing.specs.Laws.{IsOver};
 
 use chip_detect::Detect;
@@ -10,7 +10,7 @@ use chip_detect::Detect;
 pub fn acknowledge(books: &mut Detect, edge: u64, passive: bool) -> u64
     requires { Contains (in_edges books.old) edge }
     ensures allowed { result ≡ may_ack books.old edge passive }
-    ensures notes { Notes books.old (Ack edge result) books.new }
+    ensures notes { NotesEvent books.old (Ack edge result) books.new }
 {
     let count = books.may_ack(edge, passive);
     books.acked(edge, count);

@@ -13,7 +13,7 @@ use Rattle.chip_sequence.specs.declared.resumed.Resumed.{Resumed}
 use Rattle.chip_report.specs.ReportText.{is_empty, report_text}
 use Rattle.chip_report.specs.ReportTwo.{SittingContent, sitting_content, report_two_text, IsAnyReportOf}
 use Rattle.chip_report.proofs.ReportTwoLemmas.{one_sitting, not_both}
-use Rattle.chip_command.specs.Inputs.{Reads}
+use Rattle.chip_command.specs.Inputs.{ReadsWithin}
 use Rattle.chip_engine.specs.ResumeCommand.{LeadsToTheEnd, ReportsOn}
 use Rattle.chip_command.specs.Sitting.{TellsPlayFrom}
 use Rattle.chip_command.proofs.SittingLemmas.{first_tells, report_tells}
@@ -62,7 +62,7 @@ read_again report s fits spelled r (inl first) =
 read_again report s fits spelled r (inr two) = one_sitting s r fits two.reportable (sym spelled ∙ two.spelled)
 
 module _ (limits : SizeLimits) (graph_text : List ℕ) (G : Multigraph)
-    (reads : Reads limits graph_text (MeansGraph limits graph_text G)) (x : ℕ → ℕ) where
+    (reads : ReadsWithin limits graph_text (MeansGraph limits graph_text G)) (x : ℕ → ℕ) where
   -- a report that `resume` wrote on one that tells a play tells the play that goes on
   goes_on : (before : List ℕ) → TellsPlayFrom G x before → (report : List ℕ) → IsResumedTo graph_text before report
       → (r : Resumed) → IsAnyReportOf report r → LeadsToTheEnd G x r

@@ -20,7 +20,7 @@ use Rattle.chip_engine.specs.DropRows.{LeavesRows, EndsAt}
 use Rattle.chip_report.specs.ReportText.{is_closed}
 use Rattle.chip_command.proofs.InputLemmas.{none_parts}
 use Rattle.chip_command.proofs.RoundTripLemmas.{given}
-use Rattle.chip_engine.specs.AvalanchesCommand.{TellsDrops, ComesTo}
+use Rattle.chip_engine.specs.AvalanchesCommand.{TellsDrops, DropsComeTo}
 
 rows_vertices : (n : ℕ) (before rows : List Row) → first_row_fault (by_index (vertex_row_fault n)) before rows ≡ None
     → All (λ (d : ℕ × ℕ). d.0 < n) (map drop_in rows)
@@ -69,7 +69,7 @@ module _ (g : ChipGame) (o : Outcome) (played : IsPlayed g o) (p : Pile) (game :
 
   pub comes_to : (ds : List (ℕ × ℕ)) (n : ℕ) (text : List ℕ) (left p' : Pile) (all : Bool)
       → LeavesRows p (take n ds) left text → EndsAt p ds n left p' all
-      → (end : Outcome) → IsPlayed p'.game end → ComesTo g ds text p'.game end
+      → (end : Outcome) → IsPlayed p'.game end → DropsComeTo g ds text p'.game end
   comes_to ds n text left p' true leaves (whole, same) end is =
       let rows = rw whole at leaves in inl (tells ds left text rows, rw (same, ← game) rows.game)
   comes_to ds n text left p' false leaves (inside, pile, more, legal) end is =

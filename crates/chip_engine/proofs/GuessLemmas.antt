@@ -9,9 +9,9 @@ use Rattle.chip_graph.specs.Limits.{SizeLimits}
 use Rattle.chip_report.specs.ReportTwo.{IsNoReportAtAllWithin}
 use Rattle.chip_report.specs.declared.fault.ReportFault.{ReportFault}
 use Rattle.chip_report.specs.declared.fault.ReportFault.TheVariants as report_fault
-use Rattle.chip_command.specs.CommandAnswers.{Meets}
+use Rattle.chip_command.specs.CommandAnswers.{MeetsSpec}
 use Rattle.chip_command.specs.Faults.{fault_of_report}
-use Rattle.chip_command.specs.Inputs.{Reads}
+use Rattle.chip_command.specs.Inputs.{ReadsWithin}
 use Rattle.chip_command.specs.declared.fault.Fault.{Fault}
 use Rattle.chip_command.specs.PlainCommand.{PlainReports}
 use Rattle.chip_command.specs.declared.ended.Ended.{Ended}
@@ -27,7 +27,7 @@ no_report limits vertices text f (inr nothing) = inl (inl (nothing.1, ap fault_o
 -- what is so of the bytes that were read is so of the text
 pub at_text : (limits : SizeLimits) (guess : Option (List ℕ)) (bytes : List ℕ)
     → ((text : List ℕ) → guess ≡ Some text → (length text ≤ limits.bytes) × (bytes ≡ text))
-    → (P : List ℕ → Type 0) → P bytes → ForSome guess (λ text. Reads limits text (P text))
+    → (P : List ℕ → Type 0) → P bytes → ForSome guess (λ text. ReadsWithin limits text (P text))
 at_text limits guess bytes read P holds text is = let (short, same) = read text is in (short, subst P same holds)
 
 -- the counts of a report, or why it gives none
@@ -35,7 +35,7 @@ pub told_guess : (limits : SizeLimits) (vertices : ℕ) (guess : Option (List �
     → ((text : List ℕ) → guess ≡ Some text → (length text ≤ limits.bytes) × (bytes ≡ text))
     → has_brace bytes ≡ true → (result : Result (Vec ℕ) Fault)
     → MatchResult result (λ counts. TellsCounts limits vertices bytes counts.items) (RefusesTold limits vertices bytes)
-    → Meets (reading_guess limits vertices guess) result
+    → MeetsSpec (reading_guess limits vertices guess) result
 told_guess limits vertices guess bytes read brace (Ok counts) tells = at_text limits guess bytes read
     (λ text. MeansGuess limits vertices text counts.items) (record { report = λ _. tells; rows = λ rows. absurd (cc) })
 told_guess limits vertices guess bytes read brace (Err fault) refuses = λ text is. inr (at_text limits guess bytes read

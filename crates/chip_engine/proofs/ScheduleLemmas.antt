@@ -8,7 +8,7 @@ use Rattle.chip_part.specs.Setting.{Setting}
 use Rattle.chip_core.specs.Core.{Log, step, log_after, replies_to}
 use Rattle.chip_core.proofs.ReplyLemmas.{log_after-append}
 use Rattle.chip_world.specs.World.{WorldState, StandsForLog, WhateverLog, Steps}
-use Rattle.chip_world.specs.Run.{Runs}
+use Rattle.chip_world.specs.Run.{RunsEvents}
 use Rattle.chip_world.specs.declared.world.running.Record.{Record}
 use Rattle.chip_engine.specs.Board.{board_text}
 use Rattle.chip_engine.specs.SimulateCommand.{reply_text, answer_text, answers_text}
@@ -46,7 +46,7 @@ one_answer_more g done x old new reply text middle text' (stands, text_is) steps
 
 -- a stretch of events more, and its replies
 pub one_stretch_more : (g : Setting) (done stretch : List Event) (old new : WorldState) (r : Record)
-    (text text' : List ℕ) → HasRun false g done old text → WhateverLog old (λ h log. Runs h log stretch new r)
+    (text text' : List ℕ) → HasRun false g done old text → WhateverLog old (λ h log. RunsEvents h log stretch new r)
     → text' ≡ text ++ flat_map reply_text r.replies.items → HasRun false g (done ++ stretch) new text'
 one_stretch_more g done stretch old new r text text' (stands, text_is) runs wrote =
     let made = runs g (log_after g [] done) stands in

@@ -46,22 +46,22 @@ TellsDrops g ds text = Closes g ds × (outcome : Outcome) × IsPlayed g outcome
 -- what the drops come to: a text with a row for each, and the game with all their chips; or the limit stopped the play of
 -- the drop at i, the text has the rows before it, and the game the chips up to it; or the limit stopped the game itself,
 -- and the text is the first line
-abbrev pub ComesTo : ChipGame → List (ℕ × ℕ) → List ℕ → ChipGame → Outcome → Type 0
-ComesTo g ds text g' outcome =
+abbrev pub DropsComeTo : ChipGame → List (ℕ × ℕ) → List ℕ → ChipGame → Outcome → Type 0
+DropsComeTo g ds text g' outcome =
     (TellsDrops g ds text × HasMore g ds g')
     ⊎ ((i : ℕ) × (i < length ds) × TellsDrops g (take i ds) text × HasMore g (take (i + 1) ds) g'
     × (is_closed outcome ≡ false))
     ⊎ ((text ≡ rows_text []) × (g' ≡ g) × (is_closed outcome ≡ false))
 
 -- what two outputs hold: that of the rows, and that of the report if there is one
-pub record Outputs : Type 0 where
+pub record RowOutputs : Type 0 where
   pub rows : Option (List ℕ)
   pub report : Option (Option (List ℕ))
 
 -- what playing the game and then the drops answers: the outcome of the game with the chips that were dropped; or there
 -- was no memory for the play, or a fault came after a front of the first line, or of the rows of some drops
 abbrev pub PlaysDrops : ChipGame → List (ℕ × ℕ) → Option (List ℕ) → Option (List ℕ) → Result Outcome Fault → Type 0
-PlaysDrops g ds old new (Ok outcome) = (text : List ℕ) × (g' : ChipGame) × ComesTo g ds text g' outcome
+PlaysDrops g ds old new (Ok outcome) = (text : List ℕ) × (g' : ChipGame) × DropsComeTo g ds text g' outcome
     × IsPlayed g' outcome × Appends old new text
 PlaysDrops g ds old new (Err fault) =
     ((fault ≡ NoMemory) × Keeps old new)
@@ -82,7 +82,7 @@ ReportAnswer (Some old) (Some new) outcome (Err NoMemory) = Keeps old new
 ReportAnswer _ _ outcome result = ⊥
 
 -- what dropping chips on a game answers: the rows went out, and then the report is written; or the rows failed
-abbrev pub DropsAnswer : ChipGame → List (ℕ × ℕ) → Outputs → Outputs → Result Ended Fault → Type 0
+abbrev pub DropsAnswer : ChipGame → List (ℕ × ℕ) → RowOutputs → RowOutputs → Result Ended Fault → Type 0
 DropsAnswer g ds old new result =
     ((outcome : Outcome) × PlaysDrops g ds old.rows new.rows (Ok outcome)
     × ReportAnswer old.report new.report outcome result)
@@ -90,7 +90,7 @@ DropsAnswer g ds old new result =
 
 -- what `avalanches` answers by these limits: the inputs make no game, or the drops have a fault, or there are too many
 -- chips with them, and nothing went out; or else what dropping them answers
-abbrev pub AvalanchesAnswers : SizeLimits → (graph chips drops : Option (List ℕ)) → ℕ → Outputs → Outputs
+abbrev pub AvalanchesAnswers : SizeLimits → (graph chips drops : Option (List ℕ)) → ℕ → RowOutputs → RowOutputs
     → Result Ended Fault → Type 0
 AvalanchesAnswers limits graph chips drops limit old new result =
     IsErrAnd result (λ fault. (bind (reading_game limits graph chips limit) (reading_drops limits drops)).refuses fault

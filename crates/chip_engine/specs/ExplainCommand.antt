@@ -26,8 +26,8 @@ table_text what table =
     ++ codes "\n`chipfire explain N` says more of fault N, and `chipfire explain rule N` of rule N.\n"
 
 -- the rows that a table refers to
-abbrev pub rows_of : List (Bor Explanation) → List Explanation
-rows_of table = map (λ row. row.now) table
+abbrev pub table_rows : List (Bor Explanation) → List Explanation
+table_rows table = map (λ row. row.now) table
 
 -- the row of a table with this number, if there is one
 abbrev pub row_with : List Explanation → ℕ → Option Explanation

@@ -10,7 +10,7 @@ use Rattle.chip_sequence.specs.declared.resumed.Resumed.{Resumed}
 use Rattle.chip_sequence.specs.declared.resumed.ResumeFault.TheVariants.{Mismatch}
 use Rattle.chip_report.specs.ReportTwo.{IsAnyReportWithin, IsNoReportAtAllWithin}
 use Rattle.chip_command.specs.CommandAnswers.{Spec, bind, CommandAnswers, OrMemory}
-use Rattle.chip_command.specs.Inputs.{Reads, RefusesText, reading_game}
+use Rattle.chip_command.specs.Inputs.{ReadsWithin, RefusesText, reading_game}
 use Rattle.chip_command.specs.PlainCommand.{playing}
 use Rattle.chip_command.specs.declared.ended.Ended.{Ended}
 use Rattle.chip_command.specs.declared.fault.Fault.{Fault}
@@ -49,12 +49,12 @@ RefusesTold limits vertices text = OrMemory (λ fault. (IsNoReportAtAllWithin li
 abbrev pub RefusesGuess : SizeLimits → ℕ → List ℕ → Fault → Type 0
 RefusesGuess limits vertices text fault =
     RefusesText limits text (λ f. (has_brace text ≡ false) × (guess_text_fault vertices text ≡ Some f)) fault
-    ⊎ Reads limits text ((has_brace text ≡ true) × RefusesTold limits vertices text fault)
+    ⊎ ReadsWithin limits text ((has_brace text ≡ true) × RefusesTold limits vertices text fault)
 
 -- what reading a guess for `vertices` vertices may give
 abbrev pub reading_guess : SizeLimits → ℕ → Option (List ℕ) → Spec (Vec ℕ)
 reading_guess limits vertices guess = record {
-  gives = λ counts. ForSome guess (λ text. Reads limits text (MeansGuess limits vertices text counts.items));
+  gives = λ counts. ForSome guess (λ text. ReadsWithin limits text (MeansGuess limits vertices text counts.items));
   refuses = λ fault. ForSome guess (λ text. RefusesGuess limits vertices text fault);
 }
 

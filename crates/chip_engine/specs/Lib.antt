@@ -13,3 +13,5 @@ pub mod Board
 pub mod ReplayCommand
 pub mod SimulateCommand
 pub mod SimulateReport
+pub mod JudgeCommand
+pub mod JudgeLaws

@@ -41,7 +41,7 @@ abbrev pub told_left : Bool → ChipGame → List (List TraceRow) → List Left
 told_left complete g traces = if complete then left_after g (trace_of traces) else []
 
 -- a text and a status tell of the traces the firings of some interleaving, and what is left if it is asked for
-pub record Replays (complete : Bool) (g : ChipGame) (traces : List (List TraceRow)) (text : List ℕ)
+pub record ReplaysTraces (complete : Bool) (g : ChipGame) (traces : List (List TraceRow)) (text : List ℕ)
     (status : ℕ) : Type 0 where
   pub fired : List (ℕ × ℕ)
   pub are_firings : AreFirings g traces fired
@@ -51,7 +51,7 @@ pub record Replays (complete : Bool) (g : ChipGame) (traces : List (List TraceRo
 -- replaying traces tells what they come to; or they have no interleaving, or there is no memory
 abbrev pub replaying : Bool → ChipGame → List (List TraceRow) → Spec (List ℕ × ℕ)
 replaying complete g traces = record {
-  gives = λ (text, status). Replays complete g traces text status;
+  gives = λ (text, status). ReplaysTraces complete g traces text status;
   refuses = OrMemory (λ fault. (vertex : ℕ) × (row : ℕ) × (fault ≡ Stuck vertex row) × IsStuck g traces vertex row);
 }
 

@@ -12,7 +12,7 @@ use Rattle.chip_report.specs.ReportText.{is_closed}
 use Rattle.chip_report.specs.ReportTwo.{report_two_text, IsAnyReportWithin, IsNoReportAtAllWithin}
 use Rattle.chip_command.specs.CommandAnswers.{Spec, bind, CommandAnswers, OrMemory}
 use Rattle.chip_command.specs.Faults.{fault_of_resume}
-use Rattle.chip_command.specs.Inputs.{Reads, RefusesText, reading_graph}
+use Rattle.chip_command.specs.Inputs.{ReadsWithin, RefusesText, reading_graph}
 use Rattle.chip_command.specs.Reports.{plain_status}
 use Rattle.chip_command.specs.declared.ended.Ended.{Ended}
 use Rattle.chip_command.specs.declared.fault.Fault.{Fault}
@@ -47,12 +47,12 @@ pub record ReportsOn (G : Multigraph) (earlier : Resumed) (limit : ℕ) (text : 
 -- reading a report failed by this fault: the input could not be taken whole, or it is no report of either version
 abbrev pub RefusesReport : SizeLimits → List ℕ → Fault → Type 0
 RefusesReport limits text fault =
-    RefusesText limits text (λ f. ⊥) fault ⊎ (Reads limits text (IsNoReportAtAllWithin limits text) × (fault ≡ NotReport))
+    RefusesText limits text (λ f. ⊥) fault ⊎ (ReadsWithin limits text (IsNoReportAtAllWithin limits text) × (fault ≡ NotReport))
 
 -- what reading a report may give: the first sitting of a play, or one that went on itself
 abbrev pub reading_sitting : SizeLimits → Option (List ℕ) → Spec Resumed
 reading_sitting limits report = record {
-  gives = λ told. ForSome report (λ text. Reads limits text (IsAnyReportWithin limits text told)) × IsResumed told;
+  gives = λ told. ForSome report (λ text. ReadsWithin limits text (IsAnyReportWithin limits text told)) × IsResumed told;
   refuses = λ fault. ForSome report (λ text. RefusesReport limits text fault);
 }
 

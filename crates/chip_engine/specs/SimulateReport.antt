@@ -4,7 +4,7 @@ use Rattle.std.specs.Prelude.{IfOk}
 use Rattle.std.specs.Option.{ForSome}
 use Rattle.std.specs.Io.KnownBytes.{Appends}
 use Rattle.chip_graph.specs.ChipGame.{ChipGame}
-use Rattle.chip_graph.specs.Edges.{graph_edges}
+use Rattle.chip_graph.specs.Edges.{own_edges}
 use Rattle.chip_graph.specs.More.{HasMore}
 use Rattle.chip_link.specs.declared.event.Event.{Event}
 use Rattle.chip_link.specs.declared.event.Event.TheVariants.{Feed}
@@ -22,7 +22,7 @@ use Rattle.chip_engine.specs.declared.simulate.SimulateOptions.{SimulateOptions}
 
 -- the vertex and the chips of a feed that was sent
 abbrev pub fed_by_reply : ChipGame → Event → Reply → List (ℕ × ℕ)
-fed_by_reply game (Feed edge count) (Sent message) = (edge - graph_edges game.graph, count) ∷ []
+fed_by_reply game (Feed edge count) (Sent message) = (edge - own_edges game.graph, count) ∷ []
 fed_by_reply game _ _ = []
 
 -- all that a schedule fed, by the replies to its events

@@ -9,7 +9,7 @@ use Rattle.chip_report.specs.ReportTwo.{IsAnyReportOf}
 use Rattle.chip_part.specs.Setting.{Setting}
 use Rattle.chip_core.specs.Core.{Log}
 use Rattle.chip_core.specs.Positions.{chips_given}
-use Rattle.chip_command.specs.Inputs.{Reads, MeansGame}
+use Rattle.chip_command.specs.Inputs.{ReadsWithin, MeansGame}
 use Rattle.chip_command.specs.OneReport.{PlainWrote}
 use Rattle.chip_command.specs.Sitting.{TellsPlayFrom}
 use Rattle.chip_engine.specs.ResumeCommand.{LeadsToTheEnd, ResumeAnswers}
@@ -45,7 +45,7 @@ SimulateTellsPlay =
 -- of the play that was never stopped
 abbrev pub ResumedPlaysAddUp : Type 0
 ResumedPlaysAddUp =
-    (limits : SizeLimits) (graph_text : List ℕ) (G : Multigraph) → Reads limits graph_text (MeansGraph limits graph_text G)
+    (limits : SizeLimits) (graph_text : List ℕ) (G : Multigraph) → ReadsWithin limits graph_text (MeansGraph limits graph_text G)
     → (x : ℕ → ℕ) (first : List ℕ) → TellsPlayFrom G x first
     → (reports : List (List ℕ)) (before last : List ℕ) → AreResumed graph_text first reports before
     → IsResumedTo graph_text before last → (r : Resumed) → IsAnyReportOf last r → LeadsToTheEnd G x r

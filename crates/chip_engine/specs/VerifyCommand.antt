@@ -15,17 +15,17 @@ use Rattle.chip_command.specs.declared.fault.Fault.TheVariants.{Resume, Differs}
 use Rattle.chip_engine.specs.ResumeCommand.{reading_sitting}
 
 -- a sitting and an outcome tell the same of v: how often it fired in all, its chips, and whether a limit or a seal halted it
-pub record AgreesAt (told : Resumed) (o : Outcome) (v : ℕ) : Type 0 where
+pub record SittingAgreesAt (told : Resumed) (o : Outcome) (v : ℕ) : Type 0 where
   pub fired : fired_in_all told v ≡ slice_index o.fired.items v
   pub chips : slice_index told.outcome.chips.items v ≡ slice_index o.chips.items v
   pub over : Contains told.outcome.over.items v ↔ Contains o.over.items v
   pub sealed : Contains told.outcome.sealed.items v ↔ Contains o.sealed.items v
 
 -- v is the least vertex of which they do not tell the same
-pub record IsDifference (told : Resumed) (o : Outcome) (v : ℕ) : Type 0 where
+pub record IsFirstDisagreement (told : Resumed) (o : Outcome) (v : ℕ) : Type 0 where
   pub is_vertex : v < length o.fired.items
-  pub differs : AgreesAt told o v → ⊥
-  pub agrees_below : (u : ℕ) → u < v → AgreesAt told o u
+  pub differs : SittingAgreesAt told o v → ⊥
+  pub agrees_below : (u : ℕ) → u < v → SittingAgreesAt told o u
 
 -- verifying a sitting says that it tells the outcome of the game, whatever was fired before it; or it has another
 -- number of vertices than the game, or it tells another outcome, and this is the least vertex that differs, or there is
@@ -33,10 +33,10 @@ pub record IsDifference (told : Resumed) (o : Outcome) (v : ℕ) : Type 0 where
 abbrev pub verifying : ChipGame → Resumed → Spec (List ℕ × ℕ)
 verifying g told = record {
   gives = λ (text, status). (o : Outcome) × IsPlayed g o × (length told.outcome.fired.items ≡ g.graph.vertices)
-      × ((v : ℕ) → v < g.graph.vertices → AgreesAt told o v) × (text ≡ codes "verified\n") × (status ≡ 0);
+      × ((v : ℕ) → v < g.graph.vertices → SittingAgreesAt told o v) × (text ≡ codes "verified\n") × (status ≡ 0);
   refuses = OrMemory (λ fault. ((length told.outcome.fired.items ≢ g.graph.vertices) × (fault ≡ Resume Mismatch))
       ⊎ ((o : Outcome) × IsPlayed g o × (length told.outcome.fired.items ≡ g.graph.vertices)
-      × (v : ℕ) × (fault ≡ Differs v) × IsDifference told o v));
+      × (v : ℕ) × (fault ≡ Differs v) × IsFirstDisagreement told o v));
 }
 
 -- what `verify` answers by these limits

@@ -19,7 +19,7 @@ use Rattle.chip_sequence.specs.declared.resumed.ResumeFault.TheVariants.{Mismatc
 use Rattle.chip_report.specs.ReportTwo.{report_two_text}
 use Rattle.chip_command.specs.declared.table.Explanation.{Explanation}
 use Rattle.chip_command.specs.Faults.{fault_of_resume}
-use Rattle.chip_command.specs.FaultNumbers.{number_of, location_of}
+use Rattle.chip_command.specs.FaultNumbers.{command_fault_number, location_of}
 use Rattle.chip_command.specs.Reports.{plain_status}
 use Rattle.chip_command.specs.Statuses.{number_of_status}
 use Rattle.chip_engine.specs.ReplayCommand.{left_text, status_of_left, told_left}
@@ -58,10 +58,10 @@ TriangleGoesOn = (r : Resumed) → WentOn r → IsToldAsWentOn r
 -- the refusals of going on, by their numbers and where they are
 abbrev pub RefusalsAreNumbered : Type 0
 RefusalsAreNumbered =
-    (number_of NotReport ≡ 50)
-    × (number_of (fault_of_resume (Prior 3)) ≡ 51) × (location_of (fault_of_resume (Prior 3)) ≡ At 3)
-    × (number_of (fault_of_resume Mismatch) ≡ 52) × (location_of (fault_of_resume Mismatch) ≡ Nowhere)
-    × (number_of (fault_of_resume Total) ≡ 10) × (number_of (fault_of_resume Limit) ≡ 11)
+    (command_fault_number NotReport ≡ 50)
+    × (command_fault_number (fault_of_resume (Prior 3)) ≡ 51) × (location_of (fault_of_resume (Prior 3)) ≡ At 3)
+    × (command_fault_number (fault_of_resume Mismatch) ≡ 52) × (location_of (fault_of_resume Mismatch) ≡ Nowhere)
+    × (command_fault_number (fault_of_resume Total) ≡ 10) × (command_fault_number (fault_of_resume Limit) ≡ 11)
 
 -- a row that says what fault 6 is, and what to do
 pub record SaysLoop (row : Explanation) : Type 0 where

@@ -3,7 +3,7 @@
 ghost use Rattle.std.specs.Prelude.{◌≡◌, MatchResult, option_map};
 ghost use Rattle.chip_graph.specs.Limits.{standard};
 ghost use Rattle.chip_graph.specs.ChipGame.{IsGame};
-ghost use Rattle.chip_graph.specs.More.{AreOfVertices, HasRoom};
+ghost use Rattle.chip_graph.specs.More.{AreOfVertices, HasRoomForChips};
 ghost use Rattle.chip_sequence.specs.Play.{IsPlayed};
 ghost use Rattle.chip_engine.specs.AvalanchesCommand.{AvalanchesAnswers, PlaysDrops, ReportAnswer};
 ghost use Rattle.chip_engine.specs.AvalanchesCommand.{reading_drops};
@@ -103,7 +103,7 @@ fn play_drops<P: Watch, W: Write>(
     requires game { IsGame game }
     requires played { IsPlayed game rest }
     requires vertices { AreOfVertices game drops.now }
-    requires few { HasRoom game drops.now }
+    requires few { HasRoomForChips game drops.now }
     ensures { PlaysDrops game drops.now (W.contents output.old) (W.contents output.new) result }
 {
     if !is_closed(&rest) {

@@ -1,9 +1,9 @@
 //! `explain`: what a fault or a rule means, how to read its numbers and what to do, from a table of such.
 
 ghost use Rattle.std.specs.Prelude.{◌≡◌, ◌++◌, IfOk, option_map, string_bytes};
-ghost use Rattle.chip_command.specs.CommandAnswers.{Gives};
+ghost use Rattle.chip_command.specs.CommandAnswers.{GivesAnswer};
 ghost use Rattle.chip_engine.specs.ExplainCommand.{ExplainAnswers, telling, explanation, line_text};
-ghost use Rattle.chip_engine.specs.ExplainCommand.{row_text, row_with, rows_of, table_text};
+ghost use Rattle.chip_engine.specs.ExplainCommand.{row_text, row_with, table_rows, table_text};
 
 use chip_command::{Answer, Ended, Explanation, Fault, deliver};
 use std::alloc::{AllocError, Global};
@@ -20,7 +20,7 @@ pub fn explain_engine<W: Write>(
     number: Option<u64>,
     output: &mut W,
 ) -> Result<Ended, Fault>
-    ensures { ExplainAnswers (explanation what.now (rows_of table.now) number) (W.contents output.old)
+    ensures { ExplainAnswers (explanation what.now (table_rows table.now) number) (W.contents output.old)
         (W.contents output.new) result }
 {
     let answer = tell(alloc, what, table, number)?;
@@ -34,7 +34,7 @@ fn tell(
     table: &[&Explanation],
     number: Option<u64>,
 ) -> Result<Answer, Fault>
-    ensures { Gives (telling (explanation what.now (rows_of table.now) number)) result }
+    ensures { GivesAnswer (telling (explanation what.now (table_rows table.now) number)) result }
 {
     let Some(number) = number else {
         return Ok(Answer::of_lines(list_all(alloc, what, table)?));
@@ -45,7 +45,7 @@ fn tell(
 
 /// The row of a table with this number, if there is one.
 fn row_of<'a>(table: &[&'a Explanation], number: u64) -> Option<&'a Explanation>
-    ensures { option_map (λ row. row.now) result ≡ row_with (rows_of table.now) number }
+    ensures { option_map (λ row. row.now) result ≡ row_with (table_rows table.now) number }
 {
     for row in table {
         if row.number == number {
@@ -67,7 +67,7 @@ fn explain(alloc: Global, what: &str, row: &Explanation) -> Result<String, Alloc
 
 /// A line for each row of a table, and the command that says more.
 fn list_all(alloc: Global, what: &str, table: &[&Explanation]) -> Result<String, AllocError>
-    ensures { IfOk result (λ text. string_bytes text ≡ table_text what.now (rows_of table.now)) }
+    ensures { IfOk result (λ text. string_bytes text ≡ table_text what.now (table_rows table.now)) }
 {
     let mut text = String::new(alloc);
     for row in table {

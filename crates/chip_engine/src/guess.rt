@@ -2,7 +2,7 @@
 
 ghost use Rattle.std.specs.Prelude.{◌≡◌, ℕ, ◌<◌, IfOk, MatchResult, length, slice_index};
 ghost use Rattle.chip_sequence.specs.Sittings.{IsResumed, fired_in_all};
-ghost use Rattle.chip_command.specs.CommandAnswers.{Meets};
+ghost use Rattle.chip_command.specs.CommandAnswers.{MeetsSpec};
 ghost use Rattle.chip_engine.specs.GuessCommand.{RefusesTold, TellsCounts, has_brace, reading_guess};
 
 use chip_command::Fault;
@@ -20,7 +20,7 @@ pub(crate) fn read_guess<R: Read>(
     guess: &mut R,
     vertices: u64,
 ) -> Result<Vec<u64>, Fault>
-    ensures { Meets (reading_guess limits vertices (R.remaining guess.old)) result }
+    ensures { MeetsSpec (reading_guess limits vertices (R.remaining guess.old)) result }
 {
     let text = read_whole_within(alloc, limits, guess)?;
     if has_brace(&text) {

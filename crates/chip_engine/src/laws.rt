@@ -3,6 +3,9 @@
 ghost use Rattle.chip_engine.specs.Worked.{TriangleGoesOn, TriangleLeaves, OneFeedIsSent, RefusalsAreNumbered, LoopIsExplained};
 ghost use Rattle.chip_engine.specs.SimulatedBytes.{SimulatedBytes};
 ghost use Rattle.chip_engine.specs.Sittings.{PlainTellsPlay, SimulateTellsPlay, ResumedPlaysAddUp};
+ghost use Rattle.chip_engine.specs.JudgeLaws.{OneAnswer, SameTexts};
+
+use chip_log::laws::{one_absent, one_first, one_judgment, same_first, same_judgment};
 
 /// A sitting that went on, and the refusals of going on, as the definitions compute them.
 pub fn worked_sitting()
@@ -38,3 +41,21 @@ pub fn sittings()
 pub fn simulated_bytes()
     ensures { SimulatedBytes }
 {}
+
+/// Logs with the same rows of each process have the same text and status, however these are mixed.
+pub fn one_answer()
+    ensures { OneAnswer }
+{
+    same_judgment();
+    one_judgment();
+    same_first();
+    one_first();
+}
+
+/// So have texts of such logs.
+pub fn same_texts()
+    ensures { SameTexts }
+{
+    one_answer();
+    one_absent();
+}

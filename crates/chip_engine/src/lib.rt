@@ -7,8 +7,10 @@
 pub use avalanches::{avalanches_engine, avalanches_engine_with};
 pub use check::{check_engine, check_engine_with};
 pub use chip_command::PlayOptions;
+pub use chip_log::{ClaimWatch, Waits};
 pub use drop_rows::write_rows;
 pub use explain::explain_engine;
+pub use judge::{JudgeOptions, judge_engine_with};
 pub use plain::{plain_engine, plain_engine_with, plain_guess_engine_with};
 pub use recurrent::{identity_engine, recurrent_engine};
 pub use replay::{ReplayOptions, replay_engine, replay_engine_with};
@@ -22,6 +24,7 @@ mod check;
 pub mod drop_rows;
 mod explain;
 mod guess;
+mod judge;
 pub mod laws;
 mod lines;
 mod plain;

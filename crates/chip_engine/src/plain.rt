@@ -1,7 +1,7 @@
 //! `plain`: the report of a game played on one thread.
 
 ghost use Rattle.chip_graph.specs.Limits.{standard};
-ghost use Rattle.chip_command.specs.CommandAnswers.{Gives};
+ghost use Rattle.chip_command.specs.CommandAnswers.{GivesAnswer};
 ghost use Rattle.chip_command.specs.PlainCommand.{PlainAnswers, PlainReports, playing};
 ghost use Rattle.chip_engine.specs.GuessCommand.{GuessAnswers};
 
@@ -82,7 +82,7 @@ pub fn plain_guess_engine_with<G: Read, C: Read, Q: Read, P: Watch, W: Write>(
 
 /// The report of a game, which is played from given counts.
 fn play<P: Watch>(alloc: Global, game: &Game, given: &[u64], watch: &mut P) -> Result<Answer, Fault>
-    ensures { Gives (playing game.now) result }
+    ensures { GivesAnswer (playing game.now) result }
 {
     watch.plays(game);
     let outcome = plain_given(alloc, game, given, watch)?;

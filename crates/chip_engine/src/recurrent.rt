@@ -3,7 +3,7 @@
 ghost use Rattle.std.specs.Prelude.{◌≡◌, length, slice_index, IfOk};
 ghost use Rattle.chip_file.specs.ChipsText.{text_of_chips};
 ghost use Rattle.chip_group.specs.Recurrent.{AgreeOffSink};
-ghost use Rattle.chip_command.specs.CommandAnswers.{Gives};
+ghost use Rattle.chip_command.specs.CommandAnswers.{GivesAnswer};
 ghost use Rattle.chip_command.specs.Statuses.{number_of_status};
 ghost use Rattle.chip_engine.specs.RecurrentCommand.{RecurrentAnswers, IdentityAnswers, TellsWhether};
 ghost use Rattle.chip_engine.specs.RecurrentCommand.{representing, identifying, fault_of_row};
@@ -48,7 +48,7 @@ pub fn identity_engine<G: Read, W: Write>(
 
 /// The recurrent representative of the chips of a game, and whether these are recurrent.
 fn represent(alloc: Global, game: Game) -> Result<Answer, Fault>
-    ensures { Gives (representing game) result }
+    ensures { GivesAnswer (representing game) result }
 {
     let chips = Vec::from_slice(alloc, game.start())?;
     match representative_of(alloc, game.into_graph(), Form::Recurrent, &chips) {
@@ -76,7 +76,7 @@ fn compare(alloc: Global, found: &Represented, chips: &[u64]) -> Result<Answer, 
 
 /// The identity of the sandpile group.
 fn identify(alloc: Global, graph: Graph) -> Result<Answer, Fault>
-    ensures { Gives (identifying graph) result }
+    ensures { GivesAnswer (identifying graph) result }
 {
     match identity(alloc, graph) {
         Ok(chips) => Ok(Answer::of_lines(text_of_chips(alloc, &chips)?)),

@@ -2,7 +2,7 @@
 
 ghost use Rattle.std.specs.Prelude.{◌≡◌, ◌++◌, false, IfOk, flat_map, string_bytes, if◌then◌else◌, []};
 ghost use Rattle.chip_graph.specs.Limits.{standard};
-ghost use Rattle.chip_command.specs.CommandAnswers.{Gives};
+ghost use Rattle.chip_command.specs.CommandAnswers.{GivesAnswer};
 ghost use Rattle.chip_engine.specs.ReplayCommand.{ReplayAnswers, replaying_from, firing_text, left_text, status_of_left};
 
 use crate::lines::{end_by_number, push_number};
@@ -69,7 +69,7 @@ fn replay_traces<T: Read>(
     game: &Game,
     trace: &mut T,
 ) -> Result<Answer, Fault>
-    ensures { Gives (replaying_from options (T.remaining trace.old) game.now) result }
+    ensures { GivesAnswer (replaying_from options (T.remaining trace.old) game.now) result }
 {
     let traces = read_trace_within(alloc, options.play.limits, trace, game.graph())?;
     let replayed = replay_complete(alloc, game, &traces)?;

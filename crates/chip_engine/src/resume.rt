@@ -2,7 +2,7 @@
 
 ghost use Rattle.chip_graph.specs.Limits.{standard};
 ghost use Rattle.chip_sequence.specs.Sittings.{IsResumed};
-ghost use Rattle.chip_command.specs.CommandAnswers.{Gives, Meets};
+ghost use Rattle.chip_command.specs.CommandAnswers.{GivesAnswer, MeetsSpec};
 ghost use Rattle.chip_engine.specs.ResumeCommand.{ResumeAnswers, going_on, reading_sitting};
 
 use chip_command::{Answer, Ended, Fault, PlayOptions, deliver, status_of};
@@ -63,7 +63,7 @@ pub(crate) fn read_sitting<R: Read>(
     limits: Limits,
     report: &mut R,
 ) -> Result<Resumed, Fault>
-    ensures { Meets (reading_sitting limits (R.remaining report.old)) result }
+    ensures { MeetsSpec (reading_sitting limits (R.remaining report.old)) result }
 {
     let text = read_whole_within(alloc, limits, report)?;
     Ok(read_any_within(alloc, limits, &text)?)
@@ -78,7 +78,7 @@ fn go_on<P: Watch>(
     watch: &mut P,
 ) -> Result<Answer, Fault>
     requires { IsResumed earlier.now }
-    ensures { Gives (going_on graph limit earlier.now) result }
+    ensures { GivesAnswer (going_on graph limit earlier.now) result }
 {
     let resumed = resume_watched(alloc, graph, earlier, limit, watch)?;
     let text = report_two(alloc, &resumed)?;

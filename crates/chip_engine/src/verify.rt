@@ -5,8 +5,8 @@ ghost use Rattle.std.specs.List.Sorted.{IsStrictlyIncreasing};
 ghost use Rattle.chip_graph.specs.Limits.{standard};
 ghost use Rattle.chip_sequence.specs.Outcomes.{IsOutcome};
 ghost use Rattle.chip_sequence.specs.Sittings.{IsResumed, fired_in_all};
-ghost use Rattle.chip_command.specs.CommandAnswers.{Gives};
-ghost use Rattle.chip_engine.specs.VerifyCommand.{AgreesAt, IsDifference, VerifyAnswers, verifying};
+ghost use Rattle.chip_command.specs.CommandAnswers.{GivesAnswer};
+ghost use Rattle.chip_engine.specs.VerifyCommand.{SittingAgreesAt, IsFirstDisagreement, VerifyAnswers, verifying};
 
 use crate::guess::counts_in_all;
 use crate::resume::read_sitting;
@@ -72,7 +72,7 @@ fn verify<P: Watch>(
     watch: &mut P,
 ) -> Result<Answer, Fault>
     requires { IsResumed told.now }
-    ensures { Gives (verifying game.now told.now) result }
+    ensures { GivesAnswer (verifying game.now told.now) result }
 {
     if told.outcome.fired.len() as u64 != game.graph().vertices() {
         return Err(Fault::Resume(ResumeFault::Mismatch));
@@ -91,8 +91,8 @@ fn first_difference(told: &Resumed, outcome: &Outcome) -> Option<u64>
     requires in_range { IsResumed told.now }
     requires is_outcome { IsOutcome outcome.now }
     requires as_many { length told.now.outcome.fired.items ≡ length outcome.now.fired.items }
-    ensures { MatchOption result ((v : ℕ) → v < length outcome.now.fired.items → AgreesAt told.now outcome.now v)
-        (IsDifference told.now outcome.now) }
+    ensures { MatchOption result ((v : ℕ) → v < length outcome.now.fired.items → SittingAgreesAt told.now outcome.now v)
+        (IsFirstDisagreement told.now outcome.now) }
 {
     for vertex in 0..outcome.fired.len() as u64 {
         if !agrees_at(told, outcome, vertex) {
@@ -108,7 +108,7 @@ fn agrees_at(told: &Resumed, outcome: &Outcome, vertex: u64) -> bool
     requires is_outcome { IsOutcome outcome.now }
     requires as_many { length told.now.outcome.fired.items ≡ length outcome.now.fired.items }
     requires is_vertex { vertex < length outcome.now.fired.items }
-    ensures { (result ≡ true) ↔ AgreesAt told.now outcome.now vertex }
+    ensures { (result ≡ true) ↔ SittingAgreesAt told.now outcome.now vertex }
 {
     let last = &told.outcome;
     if !has_numbers(told, outcome, vertex) {

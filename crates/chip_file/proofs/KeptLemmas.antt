@@ -3,11 +3,11 @@
 use Rattle.chip_file.proofs.Names.{◌≡◌, ℕ, ◌<◌, ◌≤◌, ◌⊎◌, List, length, Option, Some, None, Ok, Err, refl, sym, ap, ◌∙◌}
 use Rattle.chip_file.proofs.Names.{subst, arith, inl, inr, lt-leb, option_and_then, Result, nat_lt, nat_le, ◌&&◌}
 use Rattle.chip_file.proofs.Names.{IsErrAnd, Edge, GraphFault, SizeLimits, Multigraph, IsGraphWithin, IsGraphFault}
-use Rattle.chip_file.proofs.Names.{MakesGraph, first_of_faults, fault_unless, fault_of_edges, rows_few, JsonFault}
-use Rattle.chip_file.proofs.Names.{GraphFile, file_of_value, Keeps, FileFault, Gives, of_graph_fault, of_json_fault}
+use Rattle.chip_file.proofs.Names.{MakesGraph, first_of_faults, fault_unless, fault_of_edges, rows_few}
+use Rattle.chip_file.proofs.Names.{GraphFile, file_of_value, KeepsEdges, FileFault, Gives, of_graph_fault}
 use Rattle.chip_file.proofs.Names.{file_of_text, graph_of_file, graph_of_text, IsKeptText, MeansGraph, IsGraphTextFault}
-use Rattle.chip_json.specs.declared.file.GraphFile.{GraphFile as Kept}
-use Rattle.chip_json.specs.Parts.{KeepsGraph, KeepsFile, GivesFile}
+use Rattle.chip_file.specs.declared.graph_text.file.GraphFile.{GraphFile as Kept}
+use Rattle.chip_file.specs.JsonParts.{KeepsGraph, KeepsFile, GivesFile}
 use Rattle.chip_graph.specs.declared.fault.GraphFault.TheVariants as graph_fault
 use Rattle.chip_file.specs.declared.fault.FileFault.TheVariants as fault
 
@@ -20,9 +20,9 @@ refused IsMeant IsFault (Err e) f is why = subst (λ (g : FileFault). (g ≡ fau
 
 -- ---- the file of a text
 
-pub json_fault : (limits : SizeLimits) (most : ℕ) (text : List ℕ) (f : JsonFault) → GivesFile most text (Err f)
-    → (of_json_fault f ≡ fault.NoMemory) ⊎ IsGraphTextFault limits text (of_json_fault f)
-json_fault limits most text f (inl e) = inl (ap of_json_fault e)
+pub json_fault : (limits : SizeLimits) (most : ℕ) (text : List ℕ) (f : FileFault) → GivesFile most text (Err f)
+    → (f ≡ fault.NoMemory) ⊎ IsGraphTextFault limits text f
+json_fault limits most text f (inl e) = inl e
 json_fault limits most text f (inr (inl (e, none))) = inr (rw e none)
 json_fault limits most text f (inr (inr (e, d, is, none))) = inr (rw e (d, is, none))
 
@@ -71,7 +71,7 @@ fault_of_many limits v s all kept f many more (inr h) =
     absurd (omega arith)
 
 fault_of_rows_by : (limits : SizeLimits) (v s : ℕ) (all kept : List Edge) (f : GraphFault)
-    → Keeps limits.edges all kept
+    → KeepsEdges limits.edges all kept
     → IsGraphFault limits (record { vertices = v; sink = s; edges = kept }) f
     → IsGraphFault limits (record { vertices = v; sink = s; edges = all }) f
 fault_of_rows_by limits v s all kept f (inl is) h =

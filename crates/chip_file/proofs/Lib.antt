@@ -1,5 +1,15 @@
 mod Names
 pub mod NumberLemmas
+mod JsonNames
+mod Turns
+mod Known
+mod Shapes
+mod Rowed
+mod Standing
+mod Texts
+mod Digits
+mod Lexemes
+mod Plainly
 mod KeptLemmas
 pub mod VertexRowLemmas
 mod ChipsLemmas

@@ -9,8 +9,8 @@ use Rattle.chip_file.proofs.Names.{strip_bom, is_bom, default_config, SizeLimits
 use Rattle.chip_file.proofs.Names.{LogRow, Stream, Step, Out, In, Active, steps_of, sends}
 use Rattle.chip_file.proofs.Names.{gets, active_after, begins_active, AreSent, IsWellFormed, may_send, Fits}
 use Rattle.chip_file.proofs.Names.{FitsRow, steps_of-append, active_after-append, same_stream_is, count_no, FileFault}
-use Rattle.chip_file.proofs.Names.{Row, records_of, rows_under_header, Notes, end_number, activity, active_behind}
-use Rattle.chip_file.proofs.Names.{AreHolders, AreActive, IsPlaced, uses, MayMake, AreMade, IsSound, IsSoFar}
+use Rattle.chip_file.proofs.Names.{Row, records_of, rows_under_header, NotesAt, end_number, activity, active_behind}
+use Rattle.chip_file.proofs.Names.{AreHolders, AreActive, IsFaultless, uses, MayMake, AreAllowed, IsSoundLog, IsSoFar}
 use Rattle.chip_file.specs.declared.log.LogSoFar.{LogSoFar}
 use Rattle.chip_file.specs.LogText.{channels_to, processes_of, channels_of, sizes_of, same_end, holder, may_hold}
 use Rattle.chip_file.specs.LogText.{may_begin, lone_row_fault, placed_fault, log_row_fault, log_row_in}
@@ -23,7 +23,7 @@ pub first_none : (first later : Option FileFault) → first_of_faults first late
 first_none None later e = (refl, e)
 first_none (Some f) later e = cc e
 
-pub is_placed : (index : ℕ) (log : List LogRow) (x : LogRow) → placed_fault index log x ≡ None → IsPlaced log x
+pub is_placed : (index : ℕ) (log : List LogRow) (x : LogRow) → placed_fault index log x ≡ None → IsFaultless log x
 is_placed index log x e =
     record { holds = grind (arith, common_steps); sends = grind (arith, common_steps); begins = grind (arith, common_steps) }
 
@@ -127,7 +127,7 @@ is_held : (log : List LogRow) (x : LogRow) (step : Step) → may_hold (holder x.
 is_held log x step free same = rw (same_end_is step x.step same) free
 
 pub holders_noted : (log : List LogRow) (x : LogRow) (end : ℕ) (old new : List (Option ℕ)) → AreHolders log old
-    → end_number x.step ≡ Some end → Notes end x.process old new → may_hold (holder x.step log) x.process ≡ true
+    → end_number x.step ≡ Some end → NotesAt end x.process old new → may_hold (holder x.step log) x.process ≡ true
     → AreHolders (log ++ x ∷ []) new
 holders_noted log x end old new are at noted free step e is =
     noted e ∙ rw (number_of_end step x.step e end is at, are step e is)
@@ -181,7 +181,7 @@ active_by false was step steps h same now = rw append-nil same
 
 pub active_noted : (log : List LogRow) (x : LogRow) (now : Bool) (old new : List (Option Bool)) → AreActive log old
     → may_begin (steps_of x.process log) x.step ≡ true
-    → now ≡ active_behind (slice_index_or old x.process None) x.step → Notes x.process now old new
+    → now ≡ active_behind (slice_index_or old x.process None) x.step → NotesAt x.process now old new
     → AreActive (log ++ x ∷ []) new
 active_noted log x now old new are may behind noted p =
     noted p ∙ active_by (x.process == p) now x.step (steps_of p log) _ (are p)
@@ -214,8 +214,8 @@ unused_by true false end step steps at none never =
     let no = count_no (same_end end step) (sym at) in omega arith
 unused_by false at_end end step steps at none never = rw append-nil none
 
-made_push : (before steps : List Step) (step : Step) → AreMade before steps → MayMake (before ++ steps) step
-    → AreMade before (steps ++ step ∷ [])
+made_push : (before steps : List Step) (step : Step) → AreAllowed before steps → MayMake (before ++ steps) step
+    → AreAllowed before (steps ++ step ∷ [])
 made_push before [] step made may = (rw append-nil at may, tt)
 made_push before (first ∷ steps) step made may = (
   made.0,
@@ -223,15 +223,15 @@ made_push before (first ∷ steps) step made may = (
       (subst (λ (xs : List Step). MayMake xs step) (sym (append_assoc before (first ∷ []) steps)) may),
 )
 
-made_by : (own : Bool) (steps : List Step) (step : Step) → AreMade [] steps → (own ≡ true → MayMake steps step)
-    → AreMade [] (steps ++ (if own then step ∷ [] else []))
+made_by : (own : Bool) (steps : List Step) (step : Step) → AreAllowed [] steps → (own ≡ true → MayMake steps step)
+    → AreAllowed [] (steps ++ (if own then step ∷ [] else []))
 made_by true steps step made may = made_push [] steps step made (may refl)
 made_by false steps step made may = rw append-nil made
 
-pub sound_none : IsSound []
+pub sound_none : IsSoundLog []
 sound_none = record { unused = λ end p other. refl; made = λ p. tt }
 
-pub sound_push : (log : List LogRow) (x : LogRow) → IsSound log → IsPlaced log x → IsSound (log ++ x ∷ [])
+pub sound_push : (log : List LogRow) (x : LogRow) → IsSoundLog log → IsFaultless log x → IsSoundLog (log ++ x ∷ [])
 sound_push log x sound placed = record {
   unused = λ end p other. ap (uses end) (steps_of-append p log (x ∷ []))
       ∙ unused_by (x.process == p) (same_end end x.step) end x.step (steps_of p log) refl
@@ -253,7 +253,7 @@ none_so_far s rows sizes holders active = record {
   sound = sound_none;
 }
 
-pub one_more : (log : List LogRow) (x : LogRow) (old new : LogSoFar) → IsSoFar log old → IsPlaced log x
+pub one_more : (log : List LogRow) (x : LogRow) (old new : LogSoFar) → IsSoFar log old → IsFaultless log x
     → new.log.rows.items ≡ old.log.rows.items ++ x ∷ []
     → new.log.sizes.processes ≡ max old.log.sizes.processes (x.process + 1)
     → new.log.sizes.channels ≡ max old.log.sizes.channels (channels_to x.step)
@@ -298,7 +298,7 @@ first_sent : (first : Step) (rest : List Step) → may_send false first ≡ true
 first_sent (Out s) rest may = may
 first_sent first rest may = refl
 
-later_sent : (first : Step) (before steps : List Step) → AreMade (first ∷ before) steps
+later_sent : (first : Step) (before steps : List Step) → AreAllowed (first ∷ before) steps
     → AreSent (active_after (begins_active (first ∷ before)) (first ∷ before)) steps
 later_sent first before [] made = tt
 later_sent first before (step ∷ steps) made = (
@@ -309,7 +309,7 @@ later_sent first before (step ∷ steps) made = (
       (later_sent first (before ++ step ∷ []) steps made.1),
 )
 
-made_sent : (steps : List Step) → AreMade [] steps → AreSent (begins_active steps) steps
+made_sent : (steps : List Step) → AreAllowed [] steps → AreSent (begins_active steps) steps
 made_sent [] made = tt
 made_sent (first ∷ rest) made = (
   first_sent first rest made.0.0,

@@ -7,7 +7,7 @@ use Rattle.chip_file.proofs.Names.{eqb-false, map_push, map-append, All-nil, All
 use Rattle.chip_file.proofs.Names.{All-filter, SizeLimits, first_of_faults, fault_unless, LogRow, Step, Out, In}
 use Rattle.chip_file.proofs.Names.{steps_of, steps_of-append}
 use Rattle.chip_file.proofs.Names.{count_yes, same_self, FileFault, kind_at, number_at, number_in, Row, first_row_fault}
-use Rattle.chip_file.proofs.Names.{IsPlaced, MayMake, AreMade, IsSound, uses, MixedLogs}
+use Rattle.chip_file.proofs.Names.{IsFaultless, MayMake, AreAllowed, IsSoundLog, uses, MixedLogs}
 use Rattle.chip_file.specs.LogText.{same_end, holder, may_hold, lone_row_fault, placed_fault, log_row_fault}
 use Rattle.chip_file.specs.LogText.{log_row_in, log_kinds, most_processes, most_channels, channels_to}
 use Rattle.chip_file.specs.declared.fault.FileFault.TheVariants as fault
@@ -38,7 +38,7 @@ lone_anywhere limits i row e j =
 
 -- ---- what each process did, by its own steps
 
-made_at : (before steps later : List Step) (step : Step) → AreMade before (steps ++ step ∷ later)
+made_at : (before steps later : List Step) (step : Step) → AreAllowed before (steps ++ step ∷ later)
     → MayMake (before ++ steps) step
 made_at before [] later step made = rw append-nil made.0
 made_at before (first ∷ steps) later step made =
@@ -48,22 +48,22 @@ made_at before (first ∷ steps) later step made =
 -- one process is at each end, and each makes its steps where it may
 record IsWhole (log : List LogRow) : Type 0 where
   one : (end : Step) (p q : ℕ) → 0 < uses end (steps_of p log) → 0 < uses end (steps_of q log) → p ≡ q
-  made : (p : ℕ) → AreMade [] (steps_of p log)
+  made : (p : ℕ) → AreAllowed [] (steps_of p log)
 
 -- ---- from the rows to the processes
 
-forth : (limits : SizeLimits) (before rows : List Row) → IsSound (map log_row_in before)
+forth : (limits : SizeLimits) (before rows : List Row) → IsSoundLog (map log_row_in before)
     → first_row_fault (log_row_fault limits) before rows ≡ None
-    → IsSound (map log_row_in (before ++ rows)) × All (IsLone limits) rows
+    → IsSoundLog (map log_row_in (before ++ rows)) × All (IsLone limits) rows
 forth limits before [] held e = (rw append-nil held, All-nil (IsLone limits))
 forth limits before (row ∷ rows) held e =
     let all = first_none (log_row_fault limits before row) (first_row_fault (log_row_fault limits) (before ++ row ∷ []) rows) e in
     let this = first_none (lone_row_fault limits (length before) row)
     (placed_fault (length before) (map log_row_in before) (log_row_in row)) all.0 in
-    let more : IsSound (map log_row_in (before ++ row ∷ [])) = rw (map_push log_row_in before row)
+    let more : IsSoundLog (map log_row_in (before ++ row ∷ [])) = rw (map_push log_row_in before row)
     (sound_push _ _ held (is_placed (length before) _ _ this.1)) in
     let rest = forth limits (before ++ row ∷ []) rows more all.1 in (
-      subst (λ (xs : List Row). IsSound (map log_row_in xs)) (append_assoc before (row ∷ []) rows) rest.0,
+      subst (λ (xs : List Row). IsSoundLog (map log_row_in xs)) (append_assoc before (row ∷ []) rows) rest.0,
       All-cons (IsLone limits) row rows (lone_anywhere limits (length before) row this.0) rest.1,
     )
 
@@ -79,7 +79,7 @@ one_by (Some r) p q m n a b some other = sym (is_it p m a some) ∙ is_it q n b 
         by false e =
             let none : m ≡ 0 = a (λ is. eqb-false r p e (cc is)) in absurd (omega arith)
 
-whole_of : (log : List LogRow) → IsSound log → IsWhole log
+whole_of : (log : List LogRow) → IsSoundLog log → IsWhole log
 whole_of log held = record {
   one = λ end p q. one_by (holder end log) p q (uses end (steps_of p log)) (uses end (steps_of q log)) (held.unused end p)
       (held.unused end q);
@@ -118,13 +118,13 @@ holds_by : (end : Step) (p : ℕ) (h : Option ℕ) → ((q : ℕ) → h ≡ Some
 holds_by end p None same = refl
 holds_by end p (Some q) same = eq-eqb q p (same q refl)
 
-placed_at : (above later : List LogRow) (x : LogRow) → IsWhole (above ++ x ∷ later) → IsPlaced above x
+placed_at : (above later : List LogRow) (x : LogRow) → IsWhole (above ++ x ∷ later) → IsFaultless above x
 placed_at above later x whole =
     let own : steps_of x.process (above ++ x ∷ later) ≡ steps_of x.process above ++ x.step ∷ steps_of x.process later =
     steps_of-append x.process above (x ∷ later) ∙ ap (λ b. steps_of x.process above
     ++ (if b then x.step ∷ steps_of x.process later else steps_of x.process later)) (eq-eqb x.process x.process refl) in
     let may = made_at [] (steps_of x.process above) (steps_of x.process later) x.step
-    (subst (λ (xs : List Step). AreMade [] xs) own (whole.made x.process)) in record {
+    (subst (λ (xs : List Step). AreAllowed [] xs) own (whole.made x.process)) in record {
       holds = holds_by x.step x.process (holder x.step above) (λ q e.
           let here = holder_uses x.step above q e in
           let all = uses-append x.step (steps_of q above) (steps_of q (x ∷ later)) in
@@ -135,7 +135,7 @@ placed_at above later x whole =
       begins = may.1;
     }
 
-placed_none : (index : ℕ) (log : List LogRow) (x : LogRow) → IsPlaced log x → placed_fault index log x ≡ None
+placed_none : (index : ℕ) (log : List LogRow) (x : LogRow) → IsFaultless log x → placed_fault index log x ≡ None
 placed_none index log x placed = rw (placed.holds, placed.sends, placed.begins) refl
 
 back : (limits : SizeLimits) (before rows : List Row) → IsWhole (map log_row_in (before ++ rows))

@@ -59,23 +59,22 @@ pub use Rattle.chip_log.specs.declared.row.LogRow.{LogRow}
 pub use Rattle.chip_log.specs.declared.row.Step.{Step}
 pub use Rattle.chip_log.specs.declared.row.Step.TheVariants.{Out, In, Passive, Active, Over}
 pub use Rattle.chip_log.specs.declared.row.Stream.{Stream}
-pub use Rattle.chip_json.specs.GraphFile.{GraphFile, file_of_value, json_of}
-pub use Rattle.chip_json.specs.Rows.{Keeps}
-pub use Rattle.chip_json.specs.declared.fault.JsonFault.{JsonFault}
-pub use Rattle.chip_file.specs.Answer.{Gives, Answers, IsOfMachine, ReadsWhole, TakesAtMost, max_chunk}
+pub use Rattle.chip_file.specs.GraphFile.{GraphFile, file_of_value, json_of}
+pub use Rattle.chip_file.specs.JsonRows.{KeepsEdges}
+pub use Rattle.chip_file.specs.Answer.{Gives, AnswersInput, IsOfMachine, ReadsWhole, TakesAtMost, max_chunk}
 pub use Rattle.chip_file.specs.ChipsText.{chips_header, chips_text_fault, chips_of_rows, chips_of_text}
 pub use Rattle.chip_file.specs.DropsText.{drops_of_text, drops_text_fault, drop_in}
-pub use Rattle.chip_file.specs.GraphFaults.{of_graph_fault, of_json_fault}
+pub use Rattle.chip_file.specs.GraphFaults.{of_graph_fault}
 pub use Rattle.chip_file.specs.GraphText.{file_of_text, graph_of_file, graph_of_text, IsKeptText, MeansGraph}
 pub use Rattle.chip_file.specs.GraphText.{IsGraphTextFault}
 pub use Rattle.chip_file.specs.Kinds.{kind_at, kind_named, named_kinds}
 pub use Rattle.chip_file.specs.LogLaws.{AreMixed, MixedLogs}
-pub use Rattle.chip_file.specs.LogSoFar.{Notes, end_number, activity, active_behind, AreHolders, AreActive, IsPlaced}
-pub use Rattle.chip_file.specs.LogSoFar.{uses, MayMake, AreMade, IsSound, IsSoFar}
+pub use Rattle.chip_file.specs.LogSoFar.{NotesAt, end_number, activity, active_behind, AreHolders, AreActive, IsFaultless}
+pub use Rattle.chip_file.specs.LogSoFar.{uses, MayMake, AreAllowed, IsSoundLog, IsSoFar}
 pub use Rattle.chip_file.specs.Numbers.{number_at, number_in, number_of}
 pub use Rattle.chip_file.specs.Rows.{Row, records_of, rows_under_header, first_row_fault, has_header, records_fault}
 pub use Rattle.chip_file.specs.Rows.{by_index, RowFault, has_fields}
-pub use Rattle.chip_file.specs.Source.{ReadsSource, Tells, bytes_left, last_of_whole, last_read, reads, goes_on}
+pub use Rattle.chip_file.specs.Source.{ReadsSource, TellsRead, bytes_left, last_of_whole, last_read, reads, may_read_on}
 pub use Rattle.chip_file.specs.TraceText.{trace_text_fault, trace_row_fault, trace_row_in, trace_in, traces_of_text}
 pub use Rattle.chip_file.specs.VertexRows.{numbers_text_fault, new_row_fault, IsByVertex, vertex_row_fault}
 pub use Rattle.chip_file.specs.VertexRows.{number_named, vertex_in, given_in, numbers_of_rows}

@@ -6,8 +6,8 @@ use Rattle.chip_file.proofs.Names.{Result, Ok, Err, refl, sym, subst, inl, inr, 
 use Rattle.chip_file.proofs.Names.{map, Consumes-trans, Consumes-kept, common_steps, ReadsAtMost, Consumes}
 use Rattle.chip_file.proofs.Names.{ReadConsumes, ◌==◌, nat_le, nat_lt, ◌&&◌, is_some, sum, IfSome, Vec, IsErrAnd}
 use Rattle.chip_file.proofs.Names.{SizeLimits, max_total, first_of_faults, fault_unless, Multigraph, FileFault}
-use Rattle.chip_file.proofs.Names.{LastRead, Source, Answers, Gives, IsOfMachine, ReadsWhole, TakesAtMost, max_chunk}
-use Rattle.chip_file.proofs.Names.{ReadsSource, Tells, bytes_left, last_of_whole, last_read, reads, Row, records_of}
+use Rattle.chip_file.proofs.Names.{LastRead, Source, AnswersInput, Gives, IsOfMachine, ReadsWhole, TakesAtMost, max_chunk}
+use Rattle.chip_file.proofs.Names.{ReadsSource, TellsRead, bytes_left, last_of_whole, last_read, reads, Row, records_of}
 use Rattle.chip_file.proofs.Names.{has_header, rows_under_header, first_row_fault, records_fault, by_index}
 use Rattle.chip_file.proofs.Names.{chips_text_fault, chips_of_rows, new_row_fault, IsGraphTextFault, kind_at, number_at}
 use Rattle.chip_file.proofs.Names.{number_in, trace_text_fault, trace_row_fault, LogRow}
@@ -121,14 +121,14 @@ graph_of_text_alone limits text f wrong = refl
 
 -- ---- what a text answers, once its bytes were read
 
-tells_end : (T : Type 0) (f : FileFault) → is_of_source f ≡ false → Tells {T = T} (Err f) last.End
+tells_end : (T : Type 0) (f : FileFault) → is_of_source f ≡ false → TellsRead {T = T} (Err f) last.End
 tells_end T fault.Read other = cc other
 tells_end T fault.TooLong other = cc other
 tells_end T fault.NoMemory other = inr refl
 tells_end T f other = refl
 
 tells_failed : (T : Type 0) (f : FileFault) (kind : LastRead) → IsOfMachine f ⊎ (f ≡ fault.TooLong)
-    → kind ≡ last_of_whole {T = Vec ℕ} (Err f) → Tells {T = T} (Err f) kind
+    → kind ≡ last_of_whole {T = Vec ℕ} (Err f) → TellsRead {T = T} (Err f) kind
 tells_failed T f kind (inl (inl e)) = rw e (λ is. is)
 tells_failed T f kind (inl (inr e)) = rw e (λ is. inl is)
 tells_failed T f kind (inr e) = rw e (λ is. is)
@@ -142,9 +142,9 @@ other_fault IsFault f (inr bad) alone = alone f bad
 module _ {R T : Type 0} (remaining : R → Option (List ℕ)) (limits : SizeLimits) (IsMeant : List ℕ → T → Type 0)
     (IsFault : List ℕ → FileFault → Type 0) (old new : Source R) where
   means_text : (input : Option (List ℕ)) (bytes : Vec ℕ) (result : Result T FileFault)
-      → IfSome input (λ text. Answers limits text (λ (bytes : Vec ℕ). bytes.items ≡ text) (λ _. ⊥) (Ok bytes))
+      → IfSome input (λ text. AnswersInput limits text (λ (bytes : Vec ℕ). bytes.items ≡ text) (λ _. ⊥) (Ok bytes))
       → Gives (IsMeant bytes.items) (IsFault bytes.items) result
-      → IfSome input (λ text. Answers limits text (IsMeant text) (IsFault text) result)
+      → IfSome input (λ text. AnswersInput limits text (IsMeant text) (IsFault text) result)
   means_text None bytes result h gives = tt
   means_text (Some text) bytes (Ok value) h gives = (h.0, rw h.1 at gives)
   means_text (Some text) bytes (Err f) h (inl memory) = inl (inr memory)
@@ -187,5 +187,5 @@ module _ {R T : Type 0} (remaining : R → Option (List ℕ)) (limits : SizeLimi
           taken = whole.taken;
         };
         few_reads = few;
-        told = subst (λ (kind : LastRead). Tells {T = T} (Err f) kind) (sym told) (tells_end T f other);
+        told = subst (λ (kind : LastRead). TellsRead {T = T} (Err f) kind) (sym told) (tells_end T f other);
       }

@@ -5,7 +5,7 @@ use Rattle.chip_file.proofs.Names.{length, Option, None, Some, refl, ap, sym, �
 use Rattle.chip_file.proofs.Names.{unwrap_or, if◌then◌else◌, Config, State, Read, next_record, step, is_end}
 use Rattle.chip_file.proofs.Names.{ends_at_end, fields_after, field_after, records_from, records_next, ReadsNext}
 use Rattle.chip_file.proofs.Names.{NextIs, ReadRecord, default_config, took_first, is_flexible, Row}
-use Rattle.chip_file.specs.Standing.{IsOpen, Records, TakesRow, rows_left, source}
+use Rattle.chip_file.specs.Standing.{IsOpen, RecordReader, TakesRow, records_left, source}
 use Rattle.csv.specs.declared.parser.State.TheVariants as st
 
 -- ---- a record takes at least one byte, but for one that the end of a text ends
@@ -90,10 +90,10 @@ takes_from cfg s s2 (Some xs) (Some ys) found fields some h = (
 )
 
 -- what a read of an open reader does to the rows that are left
-pub takes : (old new : Records) (found : Bool) (fields : Row) → IsOpen old
+pub takes : (old new : RecordReader) (found : Bool) (fields : Row) → IsOpen old
     → ReadRecord (λ s. Some s.now) old new found fields
     → took_first new ≡ true → is_flexible new ≡ is_flexible old
-    → IsOpen new × TakesRow found fields (rows_left old) (rows_left new)
+    → IsOpen new × TakesRow found fields (records_left old) (records_left new)
 takes old new found fields was r first flexible =
     let t = takes_from default_config old.state new.state (source old) (source new) found fields was.source
     (rw r.1 (rw was.config at r.0)) in

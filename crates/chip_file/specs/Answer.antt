@@ -22,10 +22,10 @@ Gives IsMeant IsFault (Err f) = (f ≡ fault.NoMemory) ⊎ IsFault f
 
 -- what reading an input answers: a value that it means or its fault, if it is short enough, else `TooLong`; the machine
 -- may fail at any input
-abbrev pub Answers : {T : Type 0} → SizeLimits → List ℕ → (T → Type 0) → (FileFault → Type 0) → Result T FileFault
+abbrev pub AnswersInput : {T : Type 0} → SizeLimits → List ℕ → (T → Type 0) → (FileFault → Type 0) → Result T FileFault
     → Type 0
-Answers limits input IsMeant IsFault (Ok value) = (length input ≤ limits.bytes) × IsMeant value
-Answers limits input IsMeant IsFault (Err f) =
+AnswersInput limits input IsMeant IsFault (Ok value) = (length input ≤ limits.bytes) × IsMeant value
+AnswersInput limits input IsMeant IsFault (Err f) =
     IsOfMachine f
     ⊎ ((limits.bytes < length input) × (f ≡ fault.TooLong))
     ⊎ ((length input ≤ limits.bytes) × IsFault f)
@@ -41,13 +41,13 @@ FailsInTime limits old new result = IfErr result (λ f. f ≡ fault.Read → Tak
 -- what reading an input answers, by what its text means and by the faults of a text, and what it takes of it
 pub record ReadsText {T : Type 0} (limits : SizeLimits) (IsMeant : List ℕ → T → Type 0)
     (IsFault : List ℕ → FileFault → Type 0) (old new : Option (List ℕ)) (result : Result T FileFault) : Type 0 where
-  pub means : IfSome old (λ text. Answers limits text (IsMeant text) (IsFault text) result)
+  pub means : IfSome old (λ text. AnswersInput limits text (IsMeant text) (IsFault text) result)
   pub read : FailsInTime limits old new result
   pub taken : TakesAtMost (limits.bytes + max_chunk) old new
 
 -- what reading the bytes of an input answers, and what it takes of it; memory runs out only for bytes that came
 pub record ReadsWhole (limits : SizeLimits) (old new : Option (List ℕ)) (result : Result (Vec ℕ) FileFault) : Type 0 where
-  pub known : IfSome old (λ input. Answers limits input (λ bytes. bytes.items ≡ input) (λ _. ⊥) result)
+  pub known : IfSome old (λ input. AnswersInput limits input (λ bytes. bytes.items ≡ input) (λ _. ⊥) result)
   pub end : OnOk result (IsAtEnd new)
   pub read : FailsInTime limits old new result
   pub taken : TakesAtMost (limits.bytes + max_chunk) old new

@@ -2,17 +2,15 @@
 use Rattle.std.specs.Prelude.{ℕ, Option, Some, None}
 use Rattle.chip_graph.specs.declared.fault.GameFault.TheVariants as game
 use Rattle.chip_graph.specs.FaultNumbers.{graph_fault_number, graph_fault_place, game_fault_number}
-use Rattle.chip_json.specs.declared.fault.JsonFault.TheVariants as json
-use Rattle.chip_json.specs.FaultNumbers.{json_fault_number}
 use Rattle.chip_file.specs.declared.fault.FileFault.{FileFault}
 use Rattle.chip_file.specs.declared.fault.FileFault.TheVariants as file
 
--- the number of a fault of a file; that of a graph, of its JSON and of a total are those that they have by themselves
+-- the number of a fault of a file; that of a graph and of a total are those that they have by themselves
 abbrev pub file_fault_number : FileFault → ℕ
 file_fault_number (file.Graph f) = graph_fault_number f
 file_fault_number file.Total = game_fault_number game.Total
-file_fault_number file.NotJson = json_fault_number json.NotJson
-file_fault_number file.Shape = json_fault_number json.Shape
+file_fault_number file.NotJson = 20
+file_fault_number file.Shape = 21
 file_fault_number file.Version = 22
 file_fault_number file.Header = 23
 file_fault_number (file.Row row) = 24

@@ -4,9 +4,9 @@ use Rattle.serde_json.specs.Data.{Data}
 use Rattle.chip_graph.specs.Limits.{SizeLimits}
 use Rattle.chip_graph.specs.Multigraph.{Multigraph, IsGraphWithin}
 use Rattle.chip_graph.specs.Faults.{IsGraphFault}
-use Rattle.chip_json.specs.GraphFile.{GraphFile, json_of, file_of_value}
-use Rattle.chip_json.specs.Parts.{KeepsGraph}
-use Rattle.chip_json.specs.declared.file.GraphFile.{GraphFile as Kept}
+use Rattle.chip_file.specs.GraphFile.{GraphFile, json_of, file_of_value}
+use Rattle.chip_file.specs.JsonParts.{KeepsGraph}
+use Rattle.chip_file.specs.declared.graph_text.file.GraphFile.{GraphFile as Kept}
 use Rattle.chip_file.specs.declared.fault.FileFault.{FileFault}
 use Rattle.chip_file.specs.declared.fault.FileFault.TheVariants as fault
 

@@ -1,6 +1,10 @@
 pub use Rattle.chip_graph.specs.Multigraph
 pub use Rattle.chip_graph.specs.Faults
-pub use Rattle.chip_json.specs.GraphFile
+pub mod GraphFile
+pub mod JsonValues
+pub mod JsonRows
+pub mod JsonParts
+pub mod JsonPlain
 pub mod Answer
 pub mod GraphFaults
 pub mod FaultNumbers

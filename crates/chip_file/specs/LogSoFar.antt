@@ -10,8 +10,8 @@ use Rattle.chip_file.specs.declared.log.LogSoFar.{LogSoFar}
 use Rattle.chip_file.specs.LogText.{same_end, holder, may_hold, may_begin, sizes_of}
 
 -- a list of numbers or marks, of which one is changed or new
-abbrev pub Notes : {T : Type 0} → ℕ → T → List (Option T) → List (Option T) → Type 0
-Notes place value old new =
+abbrev pub NotesAt : {T : Type 0} → ℕ → T → List (Option T) → List (Option T) → Type 0
+NotesAt place value old new =
     (i : ℕ) → slice_index_or new i None ≡ (if place == i then Some value else slice_index_or old i None)
 
 -- the number of the end of a stream at which a step is
@@ -42,7 +42,7 @@ abbrev pub AreActive : List LogRow → List (Option Bool) → Type 0
 AreActive log active = (p : ℕ) → slice_index_or active p None ≡ activity (steps_of p log)
 
 -- a row without a fault by the rows above it
-pub record IsPlaced (log : List LogRow) (x : LogRow) : Type 0 where
+pub record IsFaultless (log : List LogRow) (x : LogRow) : Type 0 where
   pub holds : may_hold (holder x.step log) x.process ≡ true
   pub sends : may_send (is_active log log x.process) x.step ≡ true
   pub begins : may_begin (steps_of x.process log) x.step ≡ true
@@ -57,15 +57,15 @@ abbrev pub MayMake : List Step → Step → Type 0
 MayMake before step = (may_send (active_after (begins_active before) before) step ≡ true) × (may_begin before step ≡ true)
 
 -- each of these steps may be, below those before
-abbrev pub AreMade : List Step → List Step → Type 0
-AreMade before [] = Unit {0}
-AreMade before (step ∷ steps) = MayMake before step × AreMade (before ++ step ∷ []) steps
+abbrev pub AreAllowed : List Step → List Step → Type 0
+AreAllowed before [] = Unit {0}
+AreAllowed before (step ∷ steps) = MayMake before step × AreAllowed (before ++ step ∷ []) steps
 
 -- what holds of rows without a fault: at each end is only the process that has it, and each makes only steps that it
 -- may make
-pub record IsSound (log : List LogRow) : Type 0 where
+pub record IsSoundLog (log : List LogRow) : Type 0 where
   pub unused : (end : Step) (p : ℕ) → (holder end log ≡ Some p → ⊥) → uses end (steps_of p log) ≡ 0
-  pub made : (p : ℕ) → AreMade [] (steps_of p log)
+  pub made : (p : ℕ) → AreAllowed [] (steps_of p log)
 
 -- what is known of these rows
 pub record IsSoFar (log : List LogRow) (s : LogSoFar) : Type 0 where
@@ -73,4 +73,4 @@ pub record IsSoFar (log : List LogRow) (s : LogSoFar) : Type 0 where
   pub sizes : s.log.sizes ≡ sizes_of log
   pub holders : AreHolders log s.holders.items
   pub active : AreActive log s.active.items
-  pub sound : IsSound log
+  pub sound : IsSoundLog log

@@ -2,7 +2,7 @@
 use Rattle.std.specs.Prelude.{ℕ, Bool, true, ◌==◌, nat_lt, ◌&&◌, if◌then◌else◌, List, [], ◌∷◌, codes, length}
 use Rattle.std.specs.Prelude.{map, Option, None, Some, is_some, is_none, unwrap_or}
 use Rattle.chip_graph.specs.Multigraph.{Multigraph}
-use Rattle.chip_graph.specs.Edges.{all_edges}
+use Rattle.chip_graph.specs.Edges.{edges_and_roots}
 use Rattle.chip_graph.specs.Faults.{first_of_faults, fault_unless}
 use Rattle.chip_link.specs.declared.event.Event.{Event}
 use Rattle.chip_link.specs.declared.event.Event.TheVariants as event
@@ -37,7 +37,7 @@ may_be_at G kind.Fire at = nat_lt at G.vertices
 may_be_at G kind.Halt at = nat_lt at G.vertices
 may_be_at G kind.Read at = nat_lt at G.vertices
 may_be_at G kind.End at = true
-may_be_at G _ at = nat_lt at (all_edges G)
+may_be_at G _ at = nat_lt at (edges_and_roots G)
 
 -- the event of this kind at a vertex or an edge; only a firing and a feed have a count
 abbrev pub event_of_kind : EventKind → ℕ → ℕ → Event

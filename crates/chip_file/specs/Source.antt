@@ -31,11 +31,11 @@ pub record IsFresh {R : Type 0} (source : Source R) : Type 0 where
   pub first : last_read source ≡ last.NotYet
 
 -- a further read may be made: the last one neither failed nor found the end
-abbrev pub goes_on : LastRead → Bool
-goes_on last.NotYet = true
-goes_on last.Bytes = true
-goes_on last.End = false
-goes_on last.Failure = false
+abbrev pub may_read_on : LastRead → Bool
+may_read_on last.NotYet = true
+may_read_on last.Bytes = true
+may_read_on last.End = false
+may_read_on last.Failure = false
 
 -- how a read went that has room for a byte
 abbrev pub last_by : {E : Type 0} → Result ℕ E → LastRead
@@ -50,12 +50,12 @@ last_of_whole (Err fault.Read) = last.Failure
 last_of_whole (Err f) = last.Bytes
 
 -- how the last read went, by what reading a text of an input answers; if memory ran out the end may have been found
-abbrev pub Tells : {T : Type 0} → Result T FileFault → LastRead → Type 0
-Tells (Ok value) read = read ≡ last.End
-Tells (Err fault.Read) read = read ≡ last.Failure
-Tells (Err fault.TooLong) read = read ≡ last.Bytes
-Tells (Err fault.NoMemory) read = (read ≡ last.Bytes) ⊎ (read ≡ last.End)
-Tells (Err f) read = read ≡ last.End
+abbrev pub TellsRead : {T : Type 0} → Result T FileFault → LastRead → Type 0
+TellsRead (Ok value) read = read ≡ last.End
+TellsRead (Err fault.Read) read = read ≡ last.Failure
+TellsRead (Err fault.TooLong) read = read ≡ last.Bytes
+TellsRead (Err fault.NoMemory) read = (read ≡ last.Bytes) ⊎ (read ≡ last.End)
+TellsRead (Err f) read = read ≡ last.End
 
 -- what reading a text from a source answers, how few reads were made, and how the last one went
 pub record ReadsSource {R T : Type 0} (remaining : R → Option (List ℕ)) (limits : SizeLimits)
@@ -63,4 +63,4 @@ pub record ReadsSource {R T : Type 0} (remaining : R → Option (List ℕ)) (lim
     (result : Result T FileFault) : Type 0 where
   pub text : ReadsText limits IsMeant IsFault (bytes_left remaining old) (bytes_left remaining new) result
   pub few_reads : reads new ≤ limits.bytes + 1
-  pub told : Tells result (last_read new)
+  pub told : TellsRead result (last_read new)

@@ -11,20 +11,20 @@ use Rattle.chip_file.specs.Answer.{Gives}
 use Rattle.chip_file.specs.Rows.{Row, RowFault, records_fault, rows_under_header}
 
 -- csv's reader of a text
-abbrev pub Records : Type 0
-Records = Reader (Bor (List ℕ))
+abbrev pub RecordReader : Type 0
+RecordReader = Reader (Bor (List ℕ))
 
 -- the bytes that it has left, if it hasn't failed
-abbrev pub source : Records → Option (List ℕ)
+abbrev pub source : RecordReader → Option (List ℕ)
 source reader = source_of (λ s. Some s.now) reader
 
 -- the records that it has left
-abbrev pub rows_left : Records → List Row
-rows_left reader = records_from default_config (length (unwrap_or (source reader) []) + 1) (reader_state reader)
+abbrev pub records_left : RecordReader → List Row
+records_left reader = records_from default_config (length (unwrap_or (source reader) []) + 1) (reader_state reader)
     (unwrap_or (source reader) [])
 
 -- it reads as the files of rows are read, and hasn't failed
-pub record IsOpen (reader : Records) : Type 0 where
+pub record IsOpen (reader : RecordReader) : Type 0 where
   pub config : reader_config reader ≡ default_config
   pub trim : reader_trim reader ≡ trim.None
   pub flexible : is_flexible reader ≡ true

@@ -4,7 +4,7 @@ use Rattle.std.specs.Prelude.{length, map, Option, None, Some, is_some, is_none,
 use Rattle.std.specs.Global.{Vec}
 use Rattle.std.specs.List.{filter, range_with_len}
 use Rattle.chip_graph.specs.Multigraph.{Multigraph}
-use Rattle.chip_graph.specs.Edges.{all_edges}
+use Rattle.chip_graph.specs.Edges.{edges_and_roots}
 use Rattle.chip_graph.specs.Limits.{SizeLimits}
 use Rattle.chip_graph.specs.Faults.{first_of_faults, fault_unless}
 use Rattle.chip_link.specs.declared.trace.TraceRow.{TraceRow}
@@ -13,7 +13,7 @@ use Rattle.chip_file.specs.declared.trace.TraceKind.{TraceKind}
 use Rattle.chip_file.specs.declared.trace.TraceKind.TheVariants as kind
 use Rattle.chip_file.specs.declared.fault.FileFault.{FileFault}
 use Rattle.chip_file.specs.declared.fault.FileFault.TheVariants as fault
-use Rattle.chip_file.specs.Answer.{Answers, FailsInTime, TakesAtMost, max_chunk}
+use Rattle.chip_file.specs.Answer.{AnswersInput, FailsInTime, TakesAtMost, max_chunk}
 use Rattle.chip_file.specs.Kinds.{kind_at}
 use Rattle.chip_file.specs.Numbers.{number_at, number_in}
 use Rattle.chip_file.specs.Rows.{Row, records_of, rows_under_header, by_index, records_fault}
@@ -41,7 +41,7 @@ trace_row_in row = row_of_kind (kind_in row) (number_in 2 row) (number_in 3 row)
 
 -- whether a recorded row names an edge that is there, a root edge among them; a firing names none
 abbrev pub names_edge : Multigraph → TraceRow → Bool
-names_edge G (Take edge count) = nat_lt edge (all_edges G)
+names_edge G (Take edge count) = nat_lt edge (edges_and_roots G)
 names_edge G (Fire k) = true
 
 -- the first thing wrong with the row at an index
@@ -71,7 +71,7 @@ traces_of_text G text =
 -- what reading recorded runs of a graph answers, and what it takes of the input; of any reader come as many as vertices
 pub record ReadsTraces (limits : SizeLimits) (G : Multigraph) (old new : Option (List ℕ))
     (result : Result (Vec (Vec TraceRow)) FileFault) : Type 0 where
-  pub means : IfSome old (λ text. Answers limits text
+  pub means : IfSome old (λ text. AnswersInput limits text
       (λ traces. traces_of_text G text ≡ Some (map (λ trace. trace.items) traces.items))
       (λ f. trace_text_fault G text ≡ Some f) result)
   pub each : IfOk result (λ traces. length traces.items ≡ G.vertices)

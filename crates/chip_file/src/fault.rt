@@ -1,5 +1,4 @@
 use chip_graph::{GameFault, GraphFault};
-use chip_json::JsonFault;
 use std::alloc::{AllocError, AllocFailed};
 use thiserror::Error;
 
@@ -57,8 +56,8 @@ impl FileFault {
         match self {
             FileFault::Graph(fault) => fault.number(),
             FileFault::Total => GameFault::Total.number(),
-            FileFault::NotJson => JsonFault::NotJson.number(),
-            FileFault::Shape => JsonFault::Shape.number(),
+            FileFault::NotJson => 20,
+            FileFault::Shape => 21,
             FileFault::Version => 22,
             FileFault::Header => 23,
             FileFault::Row(_) => 24,
@@ -126,21 +125,6 @@ impl From<GraphFault> for FileFault {
         match fault {
             GraphFault::NoMemory => FileFault::NoMemory,
             fault => FileFault::Graph(fault),
-        }
-    }
-}
-
-impl From<JsonFault> for FileFault {
-    ghost use Rattle.std.specs.Prelude.{◌≡◌};
-    ghost use Rattle.chip_file.specs.GraphFaults.{of_json_fault};
-
-    ghost from_gives = { λ json_fault fault. fault ≡ of_json_fault json_fault };
-
-    fn from(fault: JsonFault) -> FileFault {
-        match fault {
-            JsonFault::NotJson => FileFault::NotJson,
-            JsonFault::Shape => FileFault::Shape,
-            JsonFault::NoMemory => FileFault::NoMemory,
         }
     }
 }

@@ -4,10 +4,11 @@ ghost use Rattle.chip_file.specs.GraphText.{IsKeptText, MeansGraph, IsGraphTextF
 ghost use Rattle.chip_file.specs.Source.{IsFresh, ReadsSource};
 
 use crate::fault::FileFault;
+use crate::graph_text;
+use crate::graph_text::GraphFile;
 use crate::source::Source;
 use crate::whole::read_source;
 use chip_graph::{Graph, Limits};
-use chip_json::GraphFile;
 use std::alloc::Global;
 use std::io::Read;
 
@@ -55,7 +56,7 @@ pub fn graph_of_text(alloc: Global, limits: Limits, text: &[u8]) -> Result<Graph
 fn file_of_text(alloc: Global, limits: Limits, text: &[u8]) -> Result<GraphFile, FileFault>
     ensures { Gives (IsKeptText limits text.now) (IsGraphTextFault limits text.now) result }
 {
-    let file = chip_json::file_of_text(alloc, text, limits.edges())?;
+    let file = graph_text::file_of_text(alloc, text, limits.edges())?;
     if file.version != VERSION {
         return Err(FileFault::Version);
     }

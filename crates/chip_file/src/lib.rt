@@ -24,6 +24,7 @@ mod chips;
 mod drops;
 mod fault;
 mod graph;
+mod graph_text;
 mod guess;
 mod kind;
 pub mod laws;

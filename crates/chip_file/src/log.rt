@@ -11,7 +11,7 @@ ghost use Rattle.chip_file.specs.Answer.{Gives, ReadsText};
 ghost use Rattle.chip_file.specs.LogText.{stream, step_of_kind, log_row_in, channels_to, most_processes, most_channels};
 ghost use Rattle.chip_file.specs.LogText.{lone_row_fault, placed_fault, log_row_fault, log_text_fault, log_of_text};
 ghost use Rattle.chip_file.specs.LogText.{holder, may_hold, may_begin};
-ghost use Rattle.chip_file.specs.LogSoFar.{Notes, end_number, active_behind, AreHolders, AreActive, IsPlaced, IsSoFar};
+ghost use Rattle.chip_file.specs.LogSoFar.{NotesAt, end_number, active_behind, AreHolders, AreActive, IsFaultless, IsSoFar};
 ghost use Rattle.chip_file.specs.Source.{IsFresh, ReadsSource};
 
 use crate::fault::FileFault;
@@ -169,7 +169,7 @@ impl LogSoFar {
     fn add(&mut self, row: LogRow) -> Result<(), AllocError>
         requires process { row.process + 1 < 2 ^ 32 }
         requires channel { channels_to row.step < 2 ^ 32 }
-        ensures { IfOk result (λ _. (log : List LogRow) → IsSoFar log self.old → IsPlaced log row
+        ensures { IfOk result (λ _. (log : List LogRow) → IsSoFar log self.old → IsFaultless log row
             → IsSoFar (log ++ row ∷ []) self.new) }
     {
         hold(&mut self.holders, row)?;
@@ -230,7 +230,7 @@ fn known<T: Copy>(list: &[Option<T>], place: usize) -> Option<T>
 /// Writes into a list, which becomes as long as that asks.
 fn note<T: Copy>(list: &mut Vec<Option<T>>, place: usize, value: T) -> Result<(), AllocError>
     requires { place < 2 ^ 40 }
-    ensures { IfOk result (λ _. Notes place value list.old.items list.new.items) }
+    ensures { IfOk result (λ _. NotesAt place value list.old.items list.new.items) }
 {
     if list.len() <= place {
         list.resize(place + 1, None)?;

@@ -4,7 +4,7 @@ ghost use Rattle.std.specs.Prelude.{◌≡◌};
 ghost use Rattle.csv.specs.Records.{fields_of};
 ghost use Rattle.chip_file.specs.Numbers.{number_at, number_of};
 
-use chip_json::leading_number;
+use crate::graph_text::leading_number;
 use csv::ByteRecord;
 
 /// The most digits that a number has, leading zeros among them.

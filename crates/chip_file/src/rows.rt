@@ -4,7 +4,7 @@ ghost use Rattle.std.specs.Prelude.{◌≡◌, ◌∷◌, [], ◌++◌, List, le
 ghost use Rattle.csv.specs.Records.{fields_of};
 ghost use Rattle.chip_file.specs.Answer.{Gives};
 ghost use Rattle.chip_file.specs.Rows.{Row, RowFault, records_of, has_fields};
-ghost use Rattle.chip_file.specs.Standing.{IsOpen, TakesRow, VisitsRecords, rows_left};
+ghost use Rattle.chip_file.specs.Standing.{IsOpen, TakesRow, VisitsRecords, records_left};
 
 use crate::fault::FileFault;
 use csv::{ByteRecord, Reader, ReaderBuilder};
@@ -66,7 +66,7 @@ fn visit_records<V: RowVisitor>(
 ) -> Result<V, FileFault>
     requires { IsOpen records.old }
     ensures { VisitsRecords (V.row_fault context.now) (V.HasVisited context.now)
-        (map (λ name. name.now) header.now) (rows_left records.old) visitor result }
+        (map (λ name. name.now) header.now) (records_left records.old) visitor result }
 {
     if !read_record(records, row)? || !has_fields(row, header) {
         return Err(FileFault::Header);
@@ -86,7 +86,7 @@ fn visit_records<V: RowVisitor>(
 fn read_record(records: &mut Reader<&[u8]>, row: &mut ByteRecord) -> Result<bool, AllocError>
     requires { IsOpen records.old }
     ensures { IfOk result (λ found. IsOpen records.new
-        × TakesRow found (fields_of row.new) (rows_left records.old) (rows_left records.new)) }
+        × TakesRow found (fields_of row.new) (records_left records.old) (records_left records.new)) }
 {
     let Ok(found) = records.read_byte_record(row) else {
         return Err(AllocError);

@@ -3,7 +3,7 @@
 ghost use Rattle.std.specs.Prelude.{◌≡◌, ◌+◌, ◌<◌, true, length};
 ghost use Rattle.std.specs.Io.{ReadsAtMost};
 ghost use Rattle.std.specs.Io.KnownBytes.{ReadConsumes};
-ghost use Rattle.chip_file.specs.Source.{IsFresh, goes_on, last_by, last_read, bytes_left, max_reads, reads};
+ghost use Rattle.chip_file.specs.Source.{IsFresh, may_read_on, last_by, last_read, bytes_left, max_reads, reads};
 
 use std::io;
 use std::io::Read;
@@ -59,7 +59,7 @@ impl<'r, R: Read> Source<'r, R> {
 
     /// Makes one read, of at least one byte if the input has more.
     pub(crate) fn read(&mut self, buf: &mut [u8]) -> io::Result<usize>
-        requires more { goes_on (last_read self.old) ≡ true }
+        requires more { may_read_on (last_read self.old) ≡ true }
         requires few { reads self.old < max_reads }
         requires room { 0 < length buf.old }
         ensures lent { self.new.reader.ghost_name ≡ self.old.reader.ghost_name }

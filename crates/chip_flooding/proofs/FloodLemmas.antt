@@ -3,9 +3,9 @@
 use Rattle.chip_flooding.proofs.Names.{◌≡◌, ◌≢◌, ℕ, ◌+◌, ◌<◌, ◌≤◌, Bool, true, false, cond, List, [], ◌∷◌, get_or, set}
 use Rattle.chip_flooding.proofs.Names.{replicate, sym, ap, ◌∙◌, arith, rules, length-set, nat_tests, length-replicate}
 use Rattle.chip_flooding.proofs.Names.{get_or-replicate, get_or_past, get_or_read, dite, dec_lt, ℕ_discrete}
-use Rattle.chip_flooding.proofs.Names.{quiet_closes, counted, World, Send, Get, Ack, Settle, Work, Happens, IsSilent}
-use Rattle.chip_flooding.proofs.Names.{IsClosed, Network, IsPath, is_marked, MarksReached, Marking, IsFlooding}
-use Rattle.chip_flooding.proofs.Names.{IsFlooded, due_on, net, world, State, IsTopology, AreOpening, IsRun, allowed}
+use Rattle.chip_flooding.proofs.Names.{quiet_closes, counted, World, Send, Get, Ack, Settle, Work, Happens, IsQuiescent}
+use Rattle.chip_flooding.proofs.Names.{HasClosedRoot, Network, IsPath, is_marked, MarksReached, Marking, IsFlooding}
+use Rattle.chip_flooding.proofs.Names.{IsFlooded, due_on, net, world, State, IsTopology, AreOpeningProcesses, IsLegalState, allowed}
 use Rattle.chip_flooding.proofs.RunLemmas.{set_at}
 
 -- p looks at an edge that is another part's
@@ -46,7 +46,7 @@ module _ (net : Network) (old new : World) (marked : List Bool) (done : List ℕ
       let all = length-set done e 2 in search (rules, arith, nat_tests)
 
 -- at the end
-pub marks_reached : (m : Marking) → let n = net m.run in IsFlooded m → IsSilent n (world m.run) → MarksReached n m.marked.items
+pub marks_reached : (m : Marking) → let n = net m.run in IsFlooded m → IsQuiescent n (world m.run) → MarksReached n m.marked.items
 marks_reached m was silent = record { count_is = was.all_marked; each = λ p l. (was.reached p, λ way. along way.0 p way.1) }
   where
     along : (es : List ℕ) (p : ℕ) → IsPath (net m.run) es p → is_marked m.marked.items p ≡ true
@@ -56,7 +56,7 @@ marks_reached m was silent = record { count_is = was.all_marked; each = λ p l. 
 
 -- ---- the beginning
 
-pub starts : (s : State) → let n = net s in IsTopology s.topology → AreOpening s.topology n.parts s.processes
+pub starts : (s : State) → let n = net s in IsTopology s.topology → AreOpeningProcesses s.topology n.parts s.processes
     → IsFlooding n (world s) (set (replicate n.parts false) n.root true) (replicate n.edges 0) n.root 0
 starts s is opening = let n = net s in let none = replicate n.parts false in
     let off : (q : ℕ) → is_marked none q ≡ false = λ q. dite (dec_lt q n.parts) (get_or-replicate n.parts q false false)
@@ -81,7 +81,7 @@ one_due m e d l some was done got = let b = was.edges e l in let all = was.all_d
     let is = get_or_read m.done.items e d (omega arith) done 0 in search (rules, arith, nat_tests)
 
 -- where nothing is due on any edge the root is closed
-pub idle_is_closed : (m : Marking) → IsRun m.run → IsFlooded m → ((e : ℕ) → e < (net m.run).edges → due_on m e ≡ 0)
-    → IsClosed (net m.run) (world m.run)
+pub idle_is_closed : (m : Marking) → IsLegalState m.run → IsFlooded m → ((e : ℕ) → e < (net m.run).edges → due_on m e ≡ 0)
+    → HasClosedRoot (net m.run) (world m.run)
 idle_is_closed m is was idle = quiet_closes (net m.run) is.topology.network
     (world m.run) (search (rules, arith, nat_tests)) is.log is.legal (search (rules, arith, nat_tests))

@@ -16,10 +16,10 @@ pub use Rattle.chip_detect.specs.Steps.{MayBeMade}
 pub use Rattle.chip_diffusing.proofs.DueLemmas.{quiet_closes}
 pub use Rattle.chip_diffusing.proofs.EdgesLemmas.{counted}
 pub use Rattle.chip_diffusing.proofs.KeptLemmas.{legal_kept, who_inside, may_call}
-pub use Rattle.chip_diffusing.specs.Computation.{World, Event, Send, Get, Ack, Settle, Work, May, Notes, Wakes, Happens}
-pub use Rattle.chip_diffusing.specs.Computation.{part_of, call_of, IsSilent, IsClosed}
+pub use Rattle.chip_diffusing.specs.Computation.{World, Event, Send, Get, Ack, Settle, Work, May, NotesEvent, Wakes, Happens}
+pub use Rattle.chip_diffusing.specs.Computation.{process_of, call_of, IsQuiescent, HasClosedRoot}
 pub use Rattle.chip_diffusing.specs.Network.{Network, AreAll}
 pub use Rattle.chip_flooding.specs.Flooding.{IsPath, is_marked, MarksReached, Marking, IsFlooding, IsFlooded, due_on}
 pub use Rattle.chip_flooding.specs.Flooding.{unfinished}
 pub use Rattle.chip_flooding.specs.Running.{Topology, Process, State, nobody, shown, net, world, allowed, IsTopology}
-pub use Rattle.chip_flooding.specs.Running.{Opens, AreOpening, IsRun, Runs}
+pub use Rattle.chip_flooding.specs.Running.{OpensProcess, AreOpeningProcesses, IsLegalState, Runs}

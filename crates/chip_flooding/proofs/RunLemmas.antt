@@ -4,9 +4,9 @@ use Rattle.chip_flooding.proofs.Names.{◌≡◌, ◌<◌, ℕ, List, ◌∷◌,
 use Rattle.chip_flooding.proofs.Names.{get_or-set_same, get_or-set_other, length-set, ◌≢◌, ◌+◌, [], ◌++◌, rules}
 use Rattle.chip_flooding.proofs.Names.{cases_eq, nat_tests, get_or_read, length_push, get_or_push, get_or_append_left}
 use Rattle.chip_flooding.proofs.Names.{Contains-append_left, Contains-push, Contains-push_cases, IfSome, dite}
-use Rattle.chip_flooding.proofs.Names.{ℕ_discrete, MayBeMade, legal_kept, who_inside, may_call, Event, May, Notes}
-use Rattle.chip_flooding.proofs.Names.{Wakes, part_of, call_of, AreAll, net, world, Process, State, shown, nobody}
-use Rattle.chip_flooding.proofs.Names.{IsRun, Runs, Topology, Opens, AreOpening}
+use Rattle.chip_flooding.proofs.Names.{ℕ_discrete, MayBeMade, legal_kept, who_inside, may_call, Event, May, NotesEvent}
+use Rattle.chip_flooding.proofs.Names.{Wakes, process_of, call_of, AreAll, net, world, Process, State, shown, nobody}
+use Rattle.chip_flooding.proofs.Names.{IsLegalState, Runs, Topology, OpensProcess, AreOpeningProcesses}
 use Rattle.chip_flooding.specs.declared.run.Run.TheInside.{Inside}
 
 -- a list after one was written
@@ -37,8 +37,8 @@ passed ends es part n all here = record {
 }
 
 -- one more part opens
-pub opened : (t : Topology) (n : ℕ) (ps : List Process) (s : Process) → AreOpening t n ps → Opens t n s
-    → AreOpening t (n + 1) (ps ++ s ∷ [])
+pub opened : (t : Topology) (n : ℕ) (ps : List Process) (s : Process) → AreOpeningProcesses t n ps → OpensProcess t n s
+    → AreOpeningProcesses t (n + 1) (ps ++ s ∷ [])
 opened t n ps s was opens = let all = was.count_is in record {
   count_is = let long = length_push ps s in omega arith;
   each = λ p l. dite (ℕ_discrete p n) (λ z. rw (z, get_or_push ps s nobody n all) opens)
@@ -52,9 +52,9 @@ state_of r = record { topology = r.topology; processes = r.processes.items }
 
 -- a process is about to do what it may
 pub record Acting (r : Inside) (x : Event) (p : ℕ) (was : Process) : Type 0 where
-  pub is : IsRun (state_of r)
+  pub is : IsLegalState (state_of r)
   pub may : May (net (state_of r)) (world (state_of r)) x
-  pub at : p ≡ part_of (net (state_of r)) x
+  pub at : p ≡ process_of (net (state_of r)) x
   pub read : was ≡ get_or r.processes.items p was
 
 module _ {r : Inside} {x : Event} {p : ℕ} {was : Process} (a : Acting r x p was) where
@@ -75,7 +75,7 @@ module _ {r : Inside} {x : Event} {p : ℕ} {was : Process} (a : Acting r x p wa
       (may_call (net s) is (world s) (legal_kept (net s) is a.is.log (world s) a.is.legal) x a.may)
 
   -- it does it: one event of a legal log
-  pub runs : (now : Process) → Notes was.books x now.books → Wakes was.passive x now.passive → Runs s x (left now)
+  pub runs : (now : Process) → NotesEvent was.books x now.books → Wakes was.passive x now.passive → Runs s x (left now)
   runs now notes wakes = let at = a.at in let same = get_or-set_same s.processes p now nobody inside in record {
     topology = refl;
     happens = record {
@@ -86,7 +86,7 @@ module _ {r : Inside} {x : Event} {p : ℕ} {was : Process} (a : Acting r x p wa
     };
   }
 
-  pub goes_on : (now : Process) → Notes was.books x now.books → Wakes was.passive x now.passive → IsRun (left now)
+  pub goes_on : (now : Process) → NotesEvent was.books x now.books → Wakes was.passive x now.passive → IsLegalState (left now)
   goes_on now notes wakes = let was = a.is.legal in record {
     topology = a.is.topology;
     all_processes = length-set s.processes p now ∙ a.is.all_processes;

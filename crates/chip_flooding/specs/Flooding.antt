@@ -3,7 +3,7 @@ use Rattle.std.specs.Prelude.{◌≡◌, ◌≢◌, ◌↔◌, ℕ, ◌-◌, ◌
 use Rattle.std.specs.Prelude.{if◌then◌else◌, List, [], ◌∷◌, length, slice_index, slice_index_or, sum_by, replicate}
 use Rattle.chip_diffusing.specs.Network.{Network}
 use Rattle.chip_diffusing.specs.Computation.{World, sent_on, got_on, acked_on, settled_on}
-use Rattle.chip_flooding.specs.Running.{net, world, allowed, IsTopology, AreOpening}
+use Rattle.chip_flooding.specs.Running.{net, world, allowed, IsTopology, AreOpeningProcesses}
 pub use Rattle.chip_flooding.specs.declared.flooding.Marking.{Marking}
 
 -- these edges, the last one first, lead from the root to p
@@ -11,8 +11,8 @@ abbrev pub IsPath : Network → List ℕ → ℕ → Type 0
 IsPath n [] p = p ≡ n.root
 IsPath n (e ∷ es) p = (e < n.edges) × (n.head e ≡ p) × IsPath n es (n.tail e)
 
-abbrev pub IsReached : Network → ℕ → Type 0
-IsReached n p = (es : List ℕ) × IsPath n es p
+abbrev pub IsReachable : Network → ℕ → Type 0
+IsReachable n p = (es : List ℕ) × IsPath n es p
 
 abbrev pub is_marked : List Bool → ℕ → Bool
 is_marked marked p = slice_index_or marked p false
@@ -20,7 +20,7 @@ is_marked marked p = slice_index_or marked p false
 -- exactly the parts that can be reached are marked
 pub record MarksReached (n : Network) (marked : List Bool) : Type 0 where
   pub count_is : length marked ≡ n.parts
-  pub each : (p : ℕ) → p < n.parts → (is_marked marked p ≡ true) ↔ IsReached n p
+  pub each : (p : ℕ) → p < n.parts → (is_marked marked p ≡ true) ↔ IsReachable n p
 
 -- ---- on the way
 
@@ -42,14 +42,14 @@ pub record IsFlooding (n : Network) (w : World) (marked : List Bool) (done : Lis
   pub all_marked : length marked ≡ n.parts
   pub all_done : length done ≡ n.edges
   pub root : is_marked marked n.root ≡ true
-  pub reached : (q : ℕ) → is_marked marked q ≡ true → IsReached n q
+  pub reached : (q : ℕ) → is_marked marked q ≡ true → IsReachable n q
   pub passive : (q : ℕ) → q < n.parts → q ≢ p → (w q).passive ≡ true
   pub edges : (e : ℕ) → e < n.edges → IsFloodedOn n w marked done p first e
 
 -- no message was sent, and no part is marked
-pub record IsOpened (m : Marking) : Type 0 where
+pub record IsUnmarked (m : Marking) : Type 0 where
   pub topology : IsTopology m.run.topology
-  pub opens : AreOpening m.run.topology m.run.topology.parts m.run.processes
+  pub opens : AreOpeningProcesses m.run.topology m.run.topology.parts m.run.processes
   pub unmarked : m.marked.items ≡ replicate m.run.topology.parts false
   pub undone : m.done.items ≡ replicate (length m.run.topology.tails.items) 0
 

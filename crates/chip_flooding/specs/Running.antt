@@ -3,13 +3,13 @@ use Rattle.std.specs.Prelude.{◌≡◌, ℕ, ◌<◌, ◌≤◌, true, false, L
 use Rattle.chip_detect.specs.Acknowledging.{may_ack}
 use Rattle.chip_detect.specs.Tally.{edge_limit}
 use Rattle.chip_diffusing.specs.Network.{Network, IsNetwork}
-use Rattle.chip_diffusing.specs.Computation.{Part, World, Event, Log, OpensPart, IsLegalLog, Happens}
+use Rattle.chip_diffusing.specs.Computation.{PartState, World, Event, Log, OpensPart, IsLegalLog, Happens}
 pub use Rattle.chip_flooding.specs.declared.process.Topology.{Topology}
 pub use Rattle.chip_flooding.specs.declared.process.Process.{Process}
 
 -- the parts and edges as chip_diffusing sees them
-abbrev pub network_of : Topology → Network
-network_of t = record {
+abbrev pub flood_network : Topology → Network
+flood_network t = record {
   parts = t.parts;
   edges = length t.tails.items;
   tail = slice_index t.tails.items;
@@ -21,10 +21,10 @@ network_of t = record {
 pub record IsTopology (t : Topology) : Type 0 where
   pub both_ends : length t.heads.items ≡ length t.tails.items
   pub few : length t.tails.items ≤ edge_limit
-  pub network : IsNetwork (network_of t)
+  pub network : IsNetwork (flood_network t)
 
 -- a part as chip_diffusing sees it
-abbrev pub shown : Process → Part
+abbrev pub shown : Process → PartState
 shown s = record { books = s.books; passive = s.passive }
 
 -- what stands for numbers that are no parts
@@ -37,7 +37,7 @@ pub record State : Type 0 where
   pub processes : List Process
 
 abbrev pub net : State → Network
-net s = network_of s.topology
+net s = flood_network s.topology
 
 abbrev pub world : State → World
 world s p = shown (slice_index_or s.processes p nobody)
@@ -47,21 +47,21 @@ abbrev pub allowed : State → ℕ → ℕ
 allowed s e = let head = world s ((net s).head e) in may_ack head.books e head.passive
 
 -- a legal log leaves the processes
-pub record IsRun (s : State) : Type 0 where
+pub record IsLegalState (s : State) : Type 0 where
   pub topology : IsTopology s.topology
   pub all_processes : length s.processes ≡ s.topology.parts
   pub log : Log
   pub legal : IsLegalLog (net s) log (world s)
 
 -- a process before all events: only the root is at work
-pub record Opens (t : Topology) (p : ℕ) (s : Process) : Type 0 where
-  pub part : OpensPart (network_of t) p (shown s)
+pub record OpensProcess (t : Topology) (p : ℕ) (s : Process) : Type 0 where
+  pub part : OpensPart (flood_network t) p (shown s)
   pub at_work : p ≡ t.root → s.passive ≡ false
 
 -- so are the first of them
-pub record AreOpening (t : Topology) (count : ℕ) (processes : List Process) : Type 0 where
+pub record AreOpeningProcesses (t : Topology) (count : ℕ) (processes : List Process) : Type 0 where
   pub count_is : length processes ≡ count
-  pub each : (p : ℕ) → p < count → Opens t p (slice_index_or processes p nobody)
+  pub each : (p : ℕ) → p < count → OpensProcess t p (slice_index_or processes p nobody)
 
 -- one event was done
 pub record Runs (old : State) (x : Event) (new : State) : Type 0 where

@@ -1,5 +1,5 @@
 ghost use Rattle.std.specs.Prelude.{◌≡◌, ◌<◌, ◌≤◌, ℕ, true, false, Some, None, IfOk, IsTrue, replicate, slice_set, ◌↔◌};
-ghost use Rattle.chip_flooding.specs.Running.{IsTopology, network_of, net, world};
+ghost use Rattle.chip_flooding.specs.Running.{IsTopology, flood_network, net, world};
 ghost use Rattle.chip_flooding.specs.Flooding.{MarksReached, IsFlooding, IsFlooded, due_on, unfinished};
 
 use crate::process::Topology;
@@ -18,13 +18,13 @@ pub struct Flood {
 
 impl Model for Flood {
     ghost use Rattle.chip_flooding.specs.Running.{Topology};
-    ghost use Rattle.chip_flooding.specs.Flooding.{IsOpened};
+    ghost use Rattle.chip_flooding.specs.Flooding.{IsUnmarked};
 
     ghost Value = { Topology };
 
     ghost view = { λ flood. flood.marking.run.topology };
 
-    ghost invariant = { λ flood. IsOpened flood.marking };
+    ghost invariant = { λ flood. IsUnmarked flood.marking };
 }
 
 impl Flood {
@@ -42,7 +42,7 @@ impl Flood {
 
     /// Floods, and says of each part whether it can be reached from the root over edges from tail to head.
     pub fn finish(self) -> Vec<bool>
-        ensures { MarksReached (network_of self) result.items }
+        ensures { MarksReached (flood_network self) result.items }
     {
         let mut marking = self.marking;
         let root = marking.run.topology().root;

@@ -1,6 +1,6 @@
 ghost use Rattle.std.specs.Prelude.{◌≡◌, ◌<◌, ◌≤◌, length, slice_index, IfOk};
 ghost use Rattle.chip_diffusing.specs.Network.{AreAll};
-ghost use Rattle.chip_flooding.specs.Running.{IsTopology, Opens};
+ghost use Rattle.chip_flooding.specs.Running.{IsTopology, OpensProcess};
 
 use chip_detect::Detect;
 use std::alloc::{AllocError, Global};
@@ -28,7 +28,7 @@ pub struct Process {
 /// A part before anything is sent. Only the root is at work.
 pub fn opening(alloc: Global, topology: &Topology, part: usize) -> Result<Process, AllocError>
     requires { IsTopology topology.now }
-    ensures { IfOk result (Opens topology.now part) }
+    ensures { IfOk result (OpensProcess topology.now part) }
 {
     let ins = edges_at(alloc, &topology.heads, part)?;
     let outs = edges_at(alloc, &topology.tails, part)?;

@@ -15,24 +15,24 @@ pub struct Run {
 }
 
 impl Model for Run {
-    ghost use Rattle.chip_flooding.specs.Running.{State, IsRun};
+    ghost use Rattle.chip_flooding.specs.Running.{State, IsLegalState};
 
     ghost Value = { State };
 
     ghost view = { λ a. record { topology = a.topology; processes = a.processes.items } };
 
-    ghost invariant = { λ a. IsRun (record { topology = a.topology; processes = a.processes.items }) };
+    ghost invariant = { λ a. IsLegalState (record { topology = a.topology; processes = a.processes.items }) };
 }
 
 impl Run {
-    ghost use Rattle.chip_diffusing.specs.Computation.{Send, Get, Ack, Settle, Work, May, IsClosed, IsSilent};
-    ghost use Rattle.chip_flooding.specs.Running.{IsTopology, IsRun, AreOpening, Runs, net, world, allowed};
+    ghost use Rattle.chip_diffusing.specs.Computation.{Send, Get, Ack, Settle, Work, May, HasClosedRoot, IsQuiescent};
+    ghost use Rattle.chip_flooding.specs.Running.{IsTopology, IsLegalState, AreOpeningProcesses, Runs, net, world, allowed};
 
     /// A computation before anything is sent. Only the root is at work.
     pub fn new(alloc: Global, topology: Topology) -> Result<Run, AllocError>
         requires { IsTopology topology }
         ensures same { IfOk result (λ run. run.topology ≡ topology) }
-        ensures opens { IfOk result (λ run. AreOpening topology topology.parts run.processes) }
+        ensures opens { IfOk result (λ run. AreOpeningProcesses topology topology.parts run.processes) }
     {
         let mut processes = Vec::new(alloc);
         for part in 0..topology.parts {
@@ -114,9 +114,9 @@ impl Run {
 
     /// Whether the root may say that the computation is over.
     pub fn is_over(&self) -> bool
-        ensures closed { IsTrue result ↔ IsClosed (net self.now) (world self.now) }
-        ensures silent { IsTrue result → IsSilent (net self.now) (world self.now) }
-        ensures run { IsRun self.now }
+        ensures closed { IsTrue result ↔ HasClosedRoot (net self.now) (world self.now) }
+        ensures silent { IsTrue result → IsQuiescent (net self.now) (world self.now) }
+        ensures run { IsLegalState self.now }
     {
         let root = &self.processes[self.topology.root];
         is_over(&root.books, root.passive)

@@ -5,7 +5,7 @@ use Rattle.chip_graph.proofs.Names.{Ok, Err, ap, arith, add-one, rules, nat_test
 use Rattle.chip_graph.proofs.Names.{SizeLimits, max_vertices, Multigraph, IsEdge, IsGraphWithin, ReachesSink, edge_at}
 use Rattle.chip_graph.proofs.Names.{fault_of_edge, fault_of_edges, fault_of_sizes, fault_of_rows, GraphFault}
 use Rattle.std.proofs.Math.Seq.{drop-cons}
-use Rattle.chip_graph.specs.Ends.{IsShort}
+use Rattle.chip_graph.specs.Ends.{FitsWords}
 use Rattle.chip_graph.specs.Limits.{AreLimits}
 use Rattle.chip_graph.specs.Faults.{first_of_faults, refusal}
 
@@ -70,5 +70,5 @@ edges_end G are end e l = let is = are e l in grind arith
 
 -- and its numbers fit 32 bits
 pub edges_short : (G : Multigraph) → AreEdges G → G.vertices ≤ max_vertices → (e : ℕ) → e < length G.edges
-    → IsShort (edge_at G e)
+    → FitsWords (edge_at G e)
 edges_short G are few e l = let is = are e l in search (rules, arith)

@@ -4,10 +4,10 @@ use Rattle.chip_graph.specs.declared.game.Game.TheInside.{Inside}
 use Rattle.chip_graph.specs.ChipGame.{ChipGame, IsGame}
 
 -- the game without its total
-abbrev pub game_of : Inside → ChipGame
-game_of a = record { graph = a.graph; start = a.start.items; limit = a.limit }
+abbrev pub game_inside : Inside → ChipGame
+game_inside a = record { graph = a.graph; start = a.start.items; limit = a.limit }
 
 -- the game is within the limits, and the total is that of its start
 pub record IsCounted (a : Inside) : Type 0 where
-  pub game : IsGame (game_of a)
+  pub game : IsGame (game_inside a)
   pub counted : a.total ≡ sum a.start.items

@@ -7,8 +7,8 @@ use Rattle.chip_graph.specs.Multigraph.{Multigraph, IsGraph, edge_at, link_of, e
 use Rattle.chip_graph.specs.Distances.{AreDistances}
 
 -- the graph without what follows from its edges
-abbrev pub graph_of : Inside → Multigraph
-graph_of a = record { vertices = a.vertices; sink = a.sink; edges = a.edges.items }
+abbrev pub graph_inside : Inside → Multigraph
+graph_inside a = record { vertices = a.vertices; sink = a.sink; edges = a.edges.items }
 
 -- degrees, distances and lists are those of the graph, and the links are the edges out of each vertex in turn
 pub record IsIndex (G : Multigraph) (degree_of : List ℕ) (distance_of : List ℕ) (outs_of ins_of : List (List ℕ))
@@ -25,4 +25,4 @@ pub record IsIndex (G : Multigraph) (degree_of : List ℕ) (distance_of : List �
 
 -- what stands beside the edges follows from them
 abbrev pub IsIndexed : Inside → Type 0
-IsIndexed a = IsIndex (graph_of a) a.degrees.items a.distances.items a.outs a.ins a.links.items
+IsIndexed a = IsIndex (graph_inside a) a.degrees.items a.distances.items a.outs a.ins a.links.items

@@ -46,8 +46,8 @@ pub record AreLimits (limits : SizeLimits) : Type 0 where
   pub few_bytes : limits.bytes ≤ max_text
 
 -- these limits, if none is above the greatest
-abbrev pub limits_of : ℕ → ℕ → ℕ → Option SizeLimits
-limits_of vertices edges bytes =
+abbrev pub checked_limits : ℕ → ℕ → ℕ → Option SizeLimits
+checked_limits vertices edges bytes =
     if nat_le vertices max_vertices && nat_le edges max_edges && nat_le bytes max_text
     then Some (record { vertices = vertices; edges = edges; bytes = bytes })
     else None

@@ -17,8 +17,8 @@ abbrev pub AreOfVertices : ChipGame → List (ℕ × ℕ) → Type 0
 AreOfVertices g more = All (λ pair. pair.0 < g.graph.vertices) more
 
 -- with these chips more the total stays within the limit
-abbrev pub HasRoom : ChipGame → List (ℕ × ℕ) → Type 0
-HasRoom g more = sum g.start + all_brought more ≤ max_total
+abbrev pub HasRoomForChips : ChipGame → List (ℕ × ℕ) → Type 0
+HasRoomForChips g more = sum g.start + all_brought more ≤ max_total
 
 -- the game with these chips more at the start, and all else as it was
 pub record HasMore (old : ChipGame) (more : List (ℕ × ℕ)) (new : ChipGame) : Type 0 where
@@ -30,5 +30,5 @@ pub record HasMore (old : ChipGame) (more : List (ℕ × ℕ)) (new : ChipGame) 
 
 -- what adding chips answers: the game with more if the total stays within the limit, else the game as it was
 abbrev pub AddsChips : ChipGame → List (ℕ × ℕ) → Result ChipGame ChipGame → Type 0
-AddsChips g more (Ok game) = HasRoom g more × HasMore g more game
+AddsChips g more (Ok game) = HasRoomForChips g more × HasMore g more game
 AddsChips g more (Err game) = (max_total < sum g.start + all_brought more) × (game ≡ g)

@@ -1,6 +1,6 @@
 ghost use Rattle.std.specs.Prelude.{◌≡◌, ◌<◌, ◌≤◌, ℕ, [], length, map, replicate, IfOk, All, None, vec_len};
 ghost use Rattle.chip_graph.specs.Limits.{max_vertices, max_edges};
-ghost use Rattle.chip_graph.specs.Ends.{edge_of, AreCounts, AreEdgesBy};
+ghost use Rattle.chip_graph.specs.Ends.{edge_of, AreEndCounts, AreEdgesBy};
 ghost use Rattle.chip_graph.specs.Multigraph.{IsEdge};
 ghost use Rattle.chip_graph.specs.declared.edge.End.TheVariants.{Head};
 ghost use Rattle.chip_graph.specs.Distances.{AreDistances};
@@ -84,7 +84,7 @@ pub(crate) fn ins_and_distances(
     requires few_vertices { vertices ≤ max_vertices }
     requires few_edges { length edges.now ≤ max_edges }
     requires edges { (e : ℕ) → e < length edges.now → IsEdge vertices sink (edge_of edges.now e) }
-    requires counted { AreCounts Head edges.now vertices (length edges.now) counts.items }
+    requires counted { AreEndCounts Head edges.now vertices (length edges.now) counts.items }
     ensures ins { IfOk result (λ r. AreEdgesBy Head edges.now vertices r.0) }
     ensures distances { IfOk result (λ r.
         AreDistances (record { vertices = vertices; sink = sink; edges = edges.now }) (map noted r.1.items)) }

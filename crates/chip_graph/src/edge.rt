@@ -60,13 +60,13 @@ impl Edge {
 /// What of an edge lies beside its number, in a list of edges.
 pub(crate) trait Part: Copy {
     ghost use Rattle.chip_graph.specs.declared.edge.Edge.{Edge};
-    ghost use Rattle.chip_graph.specs.Ends.{IsShort};
+    ghost use Rattle.chip_graph.specs.Ends.{FitsWords};
 
     ghost part_of: { Edge → Self };
 
     /// This part of an edge.
     fn part(edge: &Edge) -> Self
-        requires { IsShort edge.now }
+        requires { FitsWords edge.now }
         ensures { result ≡ part_of edge.now };
 }
 

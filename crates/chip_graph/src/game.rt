@@ -28,9 +28,9 @@ impl Model for Game {
 
     ghost Value = { ChipGame };
 
-    ghost use Rattle.chip_graph.specs.GameFields.{game_of, IsCounted};
+    ghost use Rattle.chip_graph.specs.GameFields.{game_inside, IsCounted};
 
-    ghost view = { game_of };
+    ghost view = { game_inside };
 
     ghost invariant = { IsCounted };
 }
@@ -39,7 +39,7 @@ impl Game {
     ghost use Rattle.std.specs.Prelude.{◌≡◌, ◌↔◌, IsTrue, sum};
     ghost use Rattle.chip_graph.specs.ChipGame.{IsGame};
     ghost use Rattle.chip_graph.specs.Faults.{MakesGame};
-    ghost use Rattle.chip_graph.specs.More.{AreOfVertices, HasRoom, AddsChips};
+    ghost use Rattle.chip_graph.specs.More.{AreOfVertices, HasRoomForChips, AddsChips};
 
     /// A game, or the first reason why it is none. `start` has the chips of each vertex.
     pub fn new(graph: Graph, start: Vec<u64>, limit: u64) -> Result<Game, GameFault>
@@ -101,7 +101,7 @@ impl Game {
     /// Whether these chips and those of the start are at most `MAX_TOTAL`. Each pair is a vertex and how many chips it
     /// would get.
     pub fn has_room(&self, more: &[(u64, u64)]) -> bool
-        ensures { IsTrue result ↔ HasRoom self.now more.now }
+        ensures { IsTrue result ↔ HasRoomForChips self.now more.now }
     {
         total_with(self.total, more).is_some()
     }

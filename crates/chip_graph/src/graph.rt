@@ -58,9 +58,9 @@ impl Model for Rows {
 
     ghost Value = { Multigraph };
 
-    ghost use Rattle.chip_graph.specs.Index.{graph_of, IsIndexed};
+    ghost use Rattle.chip_graph.specs.Index.{graph_inside, IsIndexed};
 
-    ghost view = { graph_of };
+    ghost view = { graph_inside };
 
     ghost invariant = { IsIndexed };
 }
@@ -70,7 +70,7 @@ impl Graph {
     ghost use Rattle.chip_graph.specs.Limits.{standard};
     ghost use Rattle.chip_graph.specs.Multigraph.{Multigraph, IsGraph, IsDistance};
     ghost use Rattle.chip_graph.specs.Multigraph.{edge_at, link_of, edges_out, edges_in, degree};
-    ghost use Rattle.chip_graph.specs.Edges.{all_edges, root_edge, IsNumbered};
+    ghost use Rattle.chip_graph.specs.Edges.{edges_and_roots, root_edge_to, IsNumbered};
     ghost use Rattle.chip_graph.specs.Faults.{MakesGraph};
 
     /// A graph of these edges within the standard limits, or the first reason why they are none, in time linear in
@@ -158,7 +158,7 @@ impl Graph {
 
     /// How many edges a running game has: the graph's own, and then a root edge for each vertex.
     pub fn all_edges(&self) -> u64
-        ensures value { result ≡ all_edges self.now }
+        ensures value { result ≡ edges_and_roots self.now }
         ensures graph { IsGraph self.now }
     {
         let rows: &Rows = &self.rows;
@@ -168,7 +168,7 @@ impl Graph {
     /// The number of the root edge into this vertex.
     pub fn root_edge(&self, vertex: u64) -> u64
         requires { vertex < self.now.vertices }
-        ensures value { result ≡ root_edge self.now vertex }
+        ensures value { result ≡ root_edge_to self.now vertex }
         ensures graph { IsGraph self.now }
     {
         let rows: &Rows = &self.rows;

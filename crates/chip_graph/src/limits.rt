@@ -32,11 +32,11 @@ impl Model for Limits {
 }
 
 impl Limits {
-    ghost use Rattle.chip_graph.specs.Limits.{limits_of, standard, large, AreLimits};
+    ghost use Rattle.chip_graph.specs.Limits.{checked_limits, standard, large, AreLimits};
 
     /// These limits, or `None` if one of them is above the greatest.
     pub fn new(vertices: u64, edges: u64, bytes: u64) -> Option<Limits>
-        ensures { result ≡ limits_of vertices edges bytes }
+        ensures { result ≡ checked_limits vertices edges bytes }
     {
         if vertices > MAX_VERTICES || edges > MAX_EDGES || bytes > MAX_TEXT {
             return None;

@@ -30,8 +30,7 @@ pub(crate) struct Vertex {
 /// the burning test in reverse: each vertex that fires takes a firing back, and then those that have the chips for it
 /// fire again, one after the other: they burn. Those that do not burn are lower by one firing from then on.
 #[derive(Drop)]
-pub(crate) struct Burning<'a> {
-    hierarchy: &'a Hierarchy,
+pub(crate) struct Burning {
     vertices: Vec<Vertex>,
     /// The first vertex that fires or into which something comes, and where such vertices end.
     first: usize,
@@ -64,11 +63,10 @@ impl Vertex {
     }
 }
 
-impl<'a> Burning<'a> {
+impl Burning {
     /// Nothing to burn yet.
-    pub(crate) fn new(alloc: Global, hierarchy: &'a Hierarchy) -> Burning<'a> {
+    pub(crate) fn new(alloc: Global) -> Burning {
         Burning {
-            hierarchy,
             vertices: Vec::new(alloc),
             first: 0,
             end: 0,
@@ -85,11 +83,12 @@ impl<'a> Burning<'a> {
     pub(crate) fn begin(
         &mut self,
         alloc: Global,
+        hierarchy: &Hierarchy,
         target: Target<'_>,
         counts: &[f64],
     ) -> Result<bool, AllocError> {
         self.end(alloc);
-        let finest = &self.hierarchy.finest;
+        let finest = &hierarchy.finest;
         self.vertices = vec![in alloc; Vertex::default(); finest.rows.len()]?;
         let (chips, fired) = (target.game.start(), target.fired);
         for (vertex, own) in self.vertices.iter_mut().enumerate() {
@@ -102,7 +101,7 @@ impl<'a> Burning<'a> {
                 own.slack = slack;
             }
         }
-        self.begin_steps();
+        self.begin_steps(hierarchy);
         Ok(true)
     }
 
@@ -112,7 +111,7 @@ impl<'a> Burning<'a> {
     }
 
     /// Finds what comes in from all that fire, of which none is unburnt.
-    fn begin_steps(&mut self) {
+    fn begin_steps(&mut self, hierarchy: &Hierarchy) {
         self.steps = 0;
         self.stalled = 0;
         self.end = 0;
@@ -120,7 +119,7 @@ impl<'a> Burning<'a> {
         let mut looks = 0u64;
         for vertex in 0..self.vertices.len() {
             let mut comes = 0i64;
-            for link in self.hierarchy.finest.links_of(vertex) {
+            for link in hierarchy.finest.links_of(vertex) {
                 if self.at(link.vertex as usize).fires > 0 {
                     comes = comes.wrapping_add(i64::from(link.mult));
                 }
@@ -133,7 +132,7 @@ impl<'a> Burning<'a> {
                 self.first = vertex;
                 looks = 0;
             }
-            let links = self.hierarchy.outs().links_of(vertex).len() as u64;
+            let links = hierarchy.outs().links_of(vertex).len() as u64;
             looks = looks.saturating_add(links).saturating_add(2);
             if is_needed {
                 self.end = vertex.saturating_add(1);
@@ -152,17 +151,17 @@ impl<'a> Burning<'a> {
     }
 
     /// Lowers the counts once, if they do not pass the test.
-    pub(crate) fn step(&mut self) -> Progress {
+    pub(crate) fn step(&mut self, hierarchy: &Hierarchy) -> Progress {
         self.steps = self.steps.saturating_add(1);
-        if self.hierarchy.kind == Kind::General {
+        if hierarchy.kind == Kind::General {
             self.looked = self.looks;
-            return if self.earn_all() {
+            return if self.earn_all(hierarchy) {
                 Progress::Going
             } else {
                 Progress::Converged
             };
         }
-        self.burn();
+        self.burn(hierarchy);
         self.stalled = if self.unburnt == self.unfired {
             self.stalled.saturating_add(1)
         } else {
@@ -180,8 +179,8 @@ impl<'a> Burning<'a> {
     /// Has each vertex that fires take a firing back. One that was unburnt loses the firing that it took back before.
     /// As soon as a vertex and all before it have taken theirs back, those of them burn that may, so that what burns
     /// lies near.
-    fn burn(&mut self) {
-        let outs = self.hierarchy.outs();
+    fn burn(&mut self, hierarchy: &Hierarchy) {
+        let outs = hierarchy.outs();
         // (what is reached through `self` is read anew at each link)
         let vertices = self.vertices.as_mut_slice();
         let (mut unfired, mut unburnt) = (0u64, 0u64);
@@ -191,7 +190,7 @@ impl<'a> Burning<'a> {
             looked = looked.wrapping_add(1);
             let own = &mut vertices[vertex];
             if own.is_unburnt() {
-                own.slack = own.slack.wrapping_add(self.hierarchy.finest.degree(vertex));
+                own.slack = own.slack.wrapping_add(hierarchy.finest.degree(vertex));
                 own.fires = own.fires.wrapping_sub(1);
                 if own.fires == 0 {
                     stop(vertices, outs.links_of(vertex), vertex, &mut next);
@@ -227,13 +226,13 @@ impl<'a> Burning<'a> {
     }
 
     /// Fires a vertex `k` times, or takes `-k` firings back if `k` is negative.
-    fn fire(&mut self, vertex: usize, k: i64) {
-        let sent = self.hierarchy.finest.degree(vertex).wrapping_mul(k);
+    fn fire(&mut self, hierarchy: &Hierarchy, vertex: usize, k: i64) {
+        let sent = hierarchy.finest.degree(vertex).wrapping_mul(k);
         if let Some(own) = self.vertices.get_mut(vertex) {
             own.fires = own.fires.wrapping_add(k);
             own.slack = own.slack.wrapping_sub(sent);
         }
-        for link in self.hierarchy.outs().links_of(vertex) {
+        for link in hierarchy.outs().links_of(vertex) {
             if let Some(head) = self.vertices.get_mut(link.vertex as usize) {
                 let comes = i64::from(link.mult).wrapping_mul(k);
                 head.slack = head.slack.wrapping_add(comes);
@@ -242,15 +241,18 @@ impl<'a> Burning<'a> {
     }
 
     /// Takes firings back from each vertex that fires and lacks more than a chip to fire once more; whether it did.
-    fn earn_all(&mut self) -> bool {
+    fn earn_all(&mut self, hierarchy: &Hierarchy) -> bool {
         let mut any = false;
         for vertex in self.first..self.end {
-            let degree = self.hierarchy.finest.degree(vertex);
+            let degree = hierarchy.finest.degree(vertex);
             let own = self.at(vertex);
-            let (fires, lacks) = (own.fires, self.needed(vertex).wrapping_sub(own.slack));
+            let (fires, lacks) = (
+                own.fires,
+                self.needed(hierarchy, vertex).wrapping_sub(own.slack),
+            );
             if fires > 0 && lacks > 0 && degree > 0 {
                 let firings = ((lacks - 1) / degree).wrapping_add(1);
-                self.fire(vertex, firings.min(fires).wrapping_neg());
+                self.fire(hierarchy, vertex, firings.min(fires).wrapping_neg());
                 any = true;
             }
         }
@@ -258,23 +260,26 @@ impl<'a> Burning<'a> {
     }
 
     /// Pins walls: the vertices at whose distance from the sink, divided by `WALL_SPACING`, this rest is left.
-    pub(crate) fn pin(&mut self, graph: &Graph, rest: u64) {
+    pub(crate) fn pin(&mut self, hierarchy: &Hierarchy, graph: &Graph, rest: u64) {
         for (vertex, own) in self.vertices.iter_mut().enumerate() {
             let vertex = vertex as u64;
             if vertex < graph.vertices() && graph.distance(vertex) % WALL_SPACING == rest {
                 own.fires = 0;
             }
         }
-        self.begin_steps();
+        self.begin_steps(hierarchy);
     }
 
     /// The chips that vertices that fire lack to pass the test, up to 2^64 - 1; before the first step those that they
     /// lack to have none below 0.
-    pub(crate) fn lacking_chips(&self) -> u64 {
+    pub(crate) fn lacking_chips(&self, hierarchy: &Hierarchy) -> u64 {
         let mut chips = 0u64;
         for (vertex, own) in self.vertices.iter().enumerate() {
             if own.fires > 0 {
-                let lacks = self.needed(vertex).saturating_sub(own.slack).max(0);
+                let lacks = self
+                    .needed(hierarchy, vertex)
+                    .saturating_sub(own.slack)
+                    .max(0);
                 chips = chips.saturating_add(lacks.cast_unsigned());
             }
         }
@@ -282,17 +287,17 @@ impl<'a> Burning<'a> {
     }
 
     /// The slack with which a vertex passes the test.
-    fn needed(&self, vertex: usize) -> i64 {
-        match self.hierarchy.kind {
-            Kind::General => self.hierarchy.finest.degree(vertex).wrapping_sub(1),
+    fn needed(&self, hierarchy: &Hierarchy, vertex: usize) -> i64 {
+        match hierarchy.kind {
+            Kind::General => hierarchy.finest.degree(vertex).wrapping_sub(1),
             Kind::Symmetric | Kind::Balanced => 0,
         }
     }
 
     /// Whether a vertex is legal, once a test is passed.
-    pub(crate) fn leaves_some_legal(&self) -> bool {
+    pub(crate) fn leaves_some_legal(&self, hierarchy: &Hierarchy) -> bool {
         for (vertex, own) in self.vertices.iter().enumerate() {
-            let degree = self.hierarchy.finest.degree(vertex);
+            let degree = hierarchy.finest.degree(vertex);
             if degree > 0 && own.slack >= degree {
                 return true;
             }
@@ -301,14 +306,18 @@ impl<'a> Burning<'a> {
     }
 
     /// Fires each vertex `k` times more, once a test is passed, up to the limit.
-    pub(crate) fn raise(&mut self, k: i64, target: Target<'_>) {
+    pub(crate) fn raise(&mut self, hierarchy: &Hierarchy, k: i64, target: Target<'_>) {
         for (vertex, fired) in target.fired.iter().enumerate() {
-            if self.hierarchy.finest.degree(vertex) > 0 {
+            if hierarchy.finest.degree(vertex) > 0 {
                 let room = target.game.limit().saturating_sub(*fired).cast_signed();
-                self.fire(vertex, k.min(room.wrapping_sub(self.at(vertex).fires)));
+                self.fire(
+                    hierarchy,
+                    vertex,
+                    k.min(room.wrapping_sub(self.at(vertex).fires)),
+                );
             }
         }
-        self.begin_steps();
+        self.begin_steps(hierarchy);
     }
 
     /// How often all vertices fire.

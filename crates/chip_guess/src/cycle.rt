@@ -24,8 +24,7 @@ struct Before {
 
 /// An obstacle problem on a level: counts within their bounds that leave no residual but where a bound stops them.
 #[derive(Drop)]
-pub(crate) struct Problem<'a> {
-    pub(crate) level: &'a Level,
+pub(crate) struct Problem {
     pub(crate) unknowns: Vec<Unknown>,
     pub(crate) counts: Vec<f64>,
     before: Vec<Before>,
@@ -63,24 +62,28 @@ impl Unknown {
     }
 }
 
-/// A V-cycle over these problems, of which each is on the aggregates of the one before: smooths the counts, corrects
-/// them by the aggregates' own cycle, and smooths once more.
-pub(crate) fn v_cycle(problems: &mut [Problem<'_>], kind: Kind) {
-    let Some((fine, coarser)) = problems.split_first_mut() else {
+/// A V-cycle over these problems, of which the first is on this level and each other one on the next of the coarser
+/// levels, the aggregates of the one before: smooths the counts, corrects them by the aggregates' own cycle, and smooths
+/// once more.
+pub(crate) fn v_cycle(level: &Level, coarser: &[Level], problems: &mut [Problem], kind: Kind) {
+    let Some((fine, others)) = problems.split_first_mut() else {
         return;
     };
-    fine.smooth(Order::RedBlack);
-    let Some(coarse) = coarser.first_mut() else {
+    fine.smooth(level, Order::RedBlack);
+    let Some((next, coarsest)) = coarser.split_first() else {
         return;
     };
-    fine.restrict(coarse);
-    v_cycle(coarser, kind);
-    if let Some(coarse) = coarser.first() {
-        fine.prolong(&coarse.counts);
+    let Some(coarse) = others.first_mut() else {
+        return;
+    };
+    fine.restrict(level, coarse);
+    v_cycle(next, coarsest, others, kind);
+    if let Some(coarse) = others.first() {
+        fine.prolong(level, &coarse.counts);
     }
-    fine.smooth(Order::Ascending);
-    fine.over_correct(kind);
-    fine.smooth(Order::Descending);
+    fine.smooth(level, Order::Ascending);
+    fine.over_correct(level, kind);
+    fine.smooth(level, Order::Descending);
 }
 
 /// What these counts leave of a right-hand side.
@@ -104,16 +107,15 @@ fn relax(rows: &[Row], links: &[Link], unknowns: &[Unknown], counts: &mut [f64],
     counts[vertex] = unknown.clamp(solved);
 }
 
-impl<'a> Problem<'a> {
+impl Problem {
     /// A problem that begins with these counts, which nothing is asked of and which may not move.
     pub(crate) fn new(
         alloc: Global,
-        level: &'a Level,
+        level: &Level,
         counts: Vec<f64>,
-    ) -> Result<Problem<'a>, AllocError> {
+    ) -> Result<Problem, AllocError> {
         let vertices = level.rows.len();
         Ok(Problem {
-            level,
             unknowns: vec![in alloc; Unknown::within(0.0, 0.0); vertices]?,
             counts,
             before: vec![in alloc; Before::default(); vertices]?,
@@ -121,9 +123,9 @@ impl<'a> Problem<'a> {
     }
 
     /// Relaxes each vertex once: a sweep of projected Gauss-Seidel.
-    fn smooth(&mut self, order: Order) {
-        let rows = self.level.rows.as_slice();
-        let links = self.level.links.as_slice();
+    fn smooth(&mut self, level: &Level, order: Order) {
+        let rows = level.rows.as_slice();
+        let links = level.links.as_slice();
         let unknowns = self.unknowns.as_slice();
         let counts = self.counts.as_mut_slice();
         let vertices = rows.len();
@@ -153,12 +155,12 @@ impl<'a> Problem<'a> {
     }
 
     /// Asks the aggregates for the residuals of their members, in the room that these all have.
-    fn restrict(&mut self, coarse: &mut Problem<'_>) {
+    fn restrict(&mut self, level: &Level, coarse: &mut Problem) {
         coarse.counts.fill(0.0);
         let sums = coarse.unknowns.as_mut_slice();
         sums.fill(Unknown::within(f64::NEG_INFINITY, f64::INFINITY));
-        let rows = self.level.rows.as_slice();
-        let aggregates = self.level.aggregates.as_slice();
+        let rows = level.rows.as_slice();
+        let aggregates = level.aggregates.as_slice();
         let unknowns = self.unknowns.as_slice();
         let counts = self.counts.as_slice();
         let vertices = rows.len().min(unknowns.len()).min(counts.len());
@@ -166,7 +168,7 @@ impl<'a> Problem<'a> {
             if vertex < vertices && vertex < aggregates.len() {
                 let unknown = &unknowns[vertex];
                 before.count = counts[vertex];
-                before.residual = residual(rows, &self.level.links, counts, unknown.rhs, vertex);
+                before.residual = residual(rows, &level.links, counts, unknown.rhs, vertex);
                 if let Some(sum) = sums.get_mut(aggregates[vertex] as usize) {
                     sum.rhs += before.residual;
                     sum.low = sum.low.max(unknown.low - before.count);
@@ -177,8 +179,8 @@ impl<'a> Problem<'a> {
     }
 
     /// Has each member fire with its aggregate.
-    fn prolong(&mut self, coarse: &[f64]) {
-        let aggregates = self.level.aggregates.as_slice();
+    fn prolong(&mut self, level: &Level, coarse: &[f64]) {
+        let aggregates = level.aggregates.as_slice();
         let unknowns = self.unknowns.as_slice();
         for (vertex, count) in self.counts.iter_mut().enumerate() {
             if vertex < aggregates.len() && vertex < unknowns.len() {
@@ -191,8 +193,8 @@ impl<'a> Problem<'a> {
 
     /// Makes a correction greater or smaller by one factor: aggregates that fire as one move too little. It has the
     /// least energy if links go both ways, and else leaves residuals whose sum is 0.
-    fn over_correct(&mut self, kind: Kind) {
-        let rows = self.level.rows.as_slice();
+    fn over_correct(&mut self, level: &Level, kind: Kind) {
+        let rows = level.rows.as_slice();
         let unknowns = self.unknowns.as_slice();
         let before = self.before.as_slice();
         let counts = self.counts.as_mut_slice();
@@ -204,13 +206,7 @@ impl<'a> Problem<'a> {
         let mut had = 0.0;
         let mut sent = 0.0;
         for vertex in 0..vertices {
-            let left = residual(
-                rows,
-                &self.level.links,
-                counts,
-                unknowns[vertex].rhs,
-                vertex,
-            );
+            let left = residual(rows, &level.links, counts, unknowns[vertex].rhs, vertex);
             let weight = match kind {
                 Kind::Symmetric => counts[vertex] - before[vertex].count,
                 Kind::Balanced | Kind::General => 1.0,
@@ -228,14 +224,14 @@ impl<'a> Problem<'a> {
 
     /// Sums over the vertices whose counts may go where their residuals send them: of the residuals' absolute values,
     /// of what is asked, and of what is sent away more than comes in.
-    pub(crate) fn free_sums(&self) -> (f64, f64, f64) {
-        let rows = self.level.rows.as_slice();
+    pub(crate) fn free_sums(&self, level: &Level) -> (f64, f64, f64) {
+        let rows = level.rows.as_slice();
         let unknowns = self.unknowns.as_slice();
         let counts = self.counts.as_slice();
         let mut sums = (0.0, 0.0, 0.0);
         for vertex in 0..rows.len().min(unknowns.len()).min(counts.len()) {
             let unknown = &unknowns[vertex];
-            let left = residual(rows, &self.level.links, counts, unknown.rhs, vertex);
+            let left = residual(rows, &level.links, counts, unknown.rhs, vertex);
             let (own, rises) = (counts[vertex], left > 0.0);
             if (rises && own < unknown.high) || (!rises && own > unknown.low) {
                 sums.0 += left.abs();
@@ -248,8 +244,8 @@ impl<'a> Problem<'a> {
 
     /// Makes all counts greater or smaller by one factor, so that the residuals of those that are free sum up to 0.
     /// On one-way graphs aggregates that fire together seldom find that amount.
-    pub(crate) fn rescale(&mut self) {
-        let (_, asked, sent) = self.free_sums();
+    pub(crate) fn rescale(&mut self, level: &Level) {
+        let (_, asked, sent) = self.free_sums(level);
         if let Some(factor) = ratio(asked, sent) {
             for (vertex, count) in self.counts.iter_mut().enumerate() {
                 if let Some(unknown) = self.unknowns.get(vertex) {

@@ -44,13 +44,16 @@ fn lower_by(
     ensures { IfSome result (λ counts. length counts.items ≡ length fired.now) }
 {
     let counts = floats_of(alloc, game, given).ok()?;
-    let mut burning = Burning::new(alloc, hierarchy);
-    if !burning.begin(alloc, Target { game, fired }, &counts).ok()? {
+    let mut burning = Burning::new(alloc);
+    if !burning
+        .begin(alloc, hierarchy, Target { game, fired }, &counts)
+        .ok()?
+    {
         return None;
     }
     // A step looks about once at each vertex and edge.
     for _ in 0..AHEAD {
-        match burning.step() {
+        match burning.step(hierarchy) {
             Progress::Converged => return burning.counts(alloc, fired, game.limit()).ok(),
             Progress::Diverged => return None,
             Progress::Going => {}

@@ -37,16 +37,17 @@ enum Stage {
 /// that passes a test that every play reaches it. If that takes long, target heights are fitted to what patches of
 /// vertices keep, and the problem is solved anew.
 #[derive(Drop)]
-pub struct Search<'a> {
-    hierarchy: &'a Hierarchy,
-    target: Target<'a>,
+pub struct Search {
+    hierarchy: Hierarchy,
+    /// How many chips the game has.
+    chips: u64,
     /// The last counts that were solved for.
     counts: Vec<f64>,
     /// What each vertex is to keep.
     heights: Vec<f64>,
     stage: Stage,
-    solver: Box<Solver<'a>>,
-    burning: Box<Burning<'a>>,
+    solver: Box<Solver>,
+    burning: Box<Burning>,
     /// How many kinds of target heights were tried before this one.
     tried: usize,
     /// How often heights were fitted.
@@ -63,49 +64,55 @@ pub struct Search<'a> {
     phases: u64,
 }
 
-impl<'a> Search<'a> {
+impl Search {
     /// The search for a game that was played up to the counts `fired`.
     pub fn new(
         alloc: Global,
-        hierarchy: &'a Hierarchy,
-        game: &'a Game,
-        fired: &'a [u64],
-    ) -> Result<Search<'a>, AllocError> {
+        hierarchy: Hierarchy,
+        game: &Game,
+        fired: &[u64],
+    ) -> Result<Search, AllocError> {
+        let may_fit = hierarchy.kind == Kind::Symmetric && has_walls(game.graph());
         let mut search = Search {
             hierarchy,
-            target: Target { game, fired },
+            chips: game.total(),
             counts: floats_of(alloc, game, fired)?,
             heights: vec![in alloc; 0.0; fired.len()]?,
             stage: Stage::GivenUp,
-            solver: Box::new(alloc, Solver::new(alloc, hierarchy))?,
-            burning: Box::new(alloc, Burning::new(alloc, hierarchy))?,
+            solver: Box::new(alloc, Solver::new(alloc))?,
+            burning: Box::new(alloc, Burning::new(alloc))?,
             tried: 0,
             fits: 0,
-            may_fit: hierarchy.kind == Kind::Symmetric && has_walls(game.graph()),
+            may_fit,
             passed: 0,
             raise: FIRST_RAISE,
             steps: 0,
             phases: 0,
         };
-        search.stage = search.try_heights(alloc)?;
+        search.stage = search.try_heights(alloc, Target { game, fired })?;
         Ok(search)
     }
 
     /// Makes steps until the search is over or `most` looks in all may be too few for the next one; whether it is over.
-    /// Its looks at a vertex or a link are added to `looks`.
-    pub fn go_on(&mut self, alloc: Global, looks: &mut u64, most: u64) -> Result<bool, AllocError>
+    /// It is given anew each time for what it was made. Its looks at a vertex or a link are added to `looks`.
+    pub fn go_on(
+        &mut self,
+        alloc: Global,
+        game: &Game,
+        fired: &[u64],
+        looks: &mut u64,
+        most: u64,
+    ) -> Result<bool, AllocError>
         requires { looks.old ≤ most }
         ensures more { looks.old ≤ looks.new }
         ensures at_most { looks.new ≤ most }
     {
+        let target = Target { game, fired };
         'steps: for _ in 0..u64::MAX {
             if self.stage == Stage::Found || self.stage == Stage::GivenUp {
                 return Ok(true);
             }
-            // Between two phases the graph is looked at thrice, and its vertices ten times more.
-            let finest = &self.hierarchy.finest;
-            let vertices = (finest.rows.len() as u64).saturating_mul(10);
-            let phase = finest.size().saturating_mul(3).saturating_add(vertices);
+            let phase = self.looks_of_phase();
             let rest = most.saturating_sub(phase).max(*looks);
             let before = *looks;
             if !spend(looks, self.looks_of_step(), rest) {
@@ -114,9 +121,9 @@ impl<'a> Search<'a> {
             self.steps = self.steps.saturating_add(1);
             let (phases, is_burning) = (self.phases, self.stage != Stage::Solving);
             self.stage = match mem::replace(&mut self.stage, Stage::GivenUp) {
-                Stage::Solving => self.solve(alloc)?,
-                Stage::Fitting => self.fit(alloc)?,
-                _ => self.burn(alloc)?,
+                Stage::Solving => self.solve(alloc, target)?,
+                Stage::Fitting => self.fit(alloc, target)?,
+                _ => self.burn(alloc, target)?,
             };
             if is_burning {
                 *looks = before.saturating_add(self.burning.looked).min(*looks);
@@ -141,6 +148,18 @@ impl<'a> Search<'a> {
         }
     }
 
+    /// How many looks the next step makes at most.
+    pub fn looks_of_next(&self) -> u64 {
+        self.looks_of_step().saturating_add(self.looks_of_phase())
+    }
+
+    /// How many looks lie between two phases: the graph is looked at thrice, and its vertices ten times more.
+    fn looks_of_phase(&self) -> u64 {
+        let finest = &self.hierarchy.finest;
+        let vertices = (finest.rows.len() as u64).saturating_mul(10);
+        finest.size().saturating_mul(3).saturating_add(vertices)
+    }
+
     /// How many steps the search has made, up to 2^64 - 1: cycles, and lowerings of the counts.
     pub fn steps(&self) -> u64 {
         self.steps
@@ -151,11 +170,11 @@ impl<'a> Search<'a> {
     /// burnt, those that vertices lack to pass the test. It looks at the whole graph.
     pub fn chips_to_move(&self) -> u64 {
         let chips = match self.stage {
-            Stage::Solving => saturating_f64_to_u64(self.solver.norm()),
-            Stage::Fitting | Stage::Burning => self.burning.lacking_chips(),
+            Stage::Solving => saturating_f64_to_u64(self.solver.norm(&self.hierarchy)),
+            Stage::Fitting | Stage::Burning => self.burning.lacking_chips(&self.hierarchy),
             Stage::Found | Stage::GivenUp => return 0,
         };
-        chips.min(self.target.game.total()).max(1)
+        chips.min(self.chips).max(1)
     }
 
     /// What a step looks at at most: a cycle goes over each level five times, over its vertices thrice more, and over
@@ -173,40 +192,48 @@ impl<'a> Search<'a> {
     }
 
     /// Begins to solve for the target heights that are tried, or gives up if all were tried.
-    fn try_heights(&mut self, alloc: Global) -> Result<Stage, AllocError> {
-        let Some(target) = self.hierarchy.kind.heights().get(self.tried) else {
+    fn try_heights(&mut self, alloc: Global, target: Target<'_>) -> Result<Stage, AllocError> {
+        let Some(kept) = self.hierarchy.kind.heights().get(self.tried) else {
             return Ok(Stage::GivenUp);
         };
         for (vertex, height) in self.heights.iter_mut().enumerate() {
-            *height = target.of(self.hierarchy.finest.degree(vertex));
+            *height = kept.of(self.hierarchy.finest.degree(vertex));
         }
-        self.begin_to_solve(alloc)
+        self.begin_to_solve(alloc, target)
     }
 
     /// Begins to solve for the target heights.
-    fn begin_to_solve(&mut self, alloc: Global) -> Result<Stage, AllocError> {
+    fn begin_to_solve(&mut self, alloc: Global, target: Target<'_>) -> Result<Stage, AllocError> {
         self.phases = self.phases.wrapping_add(1);
         let counts = mem::replace(&mut self.counts, Vec::new(alloc));
         self.solver
-            .begin(alloc, self.target, &self.heights, counts)?;
+            .begin(alloc, &self.hierarchy, target, &self.heights, counts)?;
         Ok(Stage::Solving)
     }
 
     /// Makes a cycle, and begins to burn the counts if they are near.
-    fn solve(&mut self, alloc: Global) -> Result<Stage, AllocError> {
-        match self.solver.step() {
+    fn solve(&mut self, alloc: Global, target: Target<'_>) -> Result<Stage, AllocError> {
+        match self.solver.step(&self.hierarchy) {
             Progress::Going => return Ok(Stage::Solving),
             Progress::Diverged => return Ok(Stage::GivenUp),
             Progress::Converged => {}
         }
         self.counts = self.solver.end(alloc);
-        self.begin_to_burn(alloc, Stage::Burning)
+        self.begin_to_burn(alloc, target, Stage::Burning)
     }
 
     /// Begins to burn the counts, if the position that they lead to is not too great.
-    fn begin_to_burn(&mut self, alloc: Global, stage: Stage) -> Result<Stage, AllocError> {
+    fn begin_to_burn(
+        &mut self,
+        alloc: Global,
+        target: Target<'_>,
+        stage: Stage,
+    ) -> Result<Stage, AllocError> {
         self.phases = self.phases.wrapping_add(1);
-        if self.burning.begin(alloc, self.target, &self.counts)? {
+        if self
+            .burning
+            .begin(alloc, &self.hierarchy, target, &self.counts)?
+        {
             Ok(stage)
         } else {
             Ok(Stage::GivenUp)
@@ -214,40 +241,41 @@ impl<'a> Search<'a> {
     }
 
     /// Burns the counts between walls once, and solves for heights that are fitted to what is left after some times.
-    fn fit(&mut self, alloc: Global) -> Result<Stage, AllocError> {
-        let progress = self.burning.step();
+    fn fit(&mut self, alloc: Global, target: Target<'_>) -> Result<Stage, AllocError> {
+        let progress = self.burning.step(&self.hierarchy);
         if progress == Progress::Going && self.burning.steps < STEPS_OF_FIT {
             return Ok(Stage::Fitting);
         }
         // Counts that pass the test between walls leave little to fit.
         self.may_fit = progress != Progress::Converged;
-        self.fit_heights(alloc)?;
+        self.fit_heights(alloc, target)?;
         self.fits = self.fits.saturating_add(1);
         self.burning.end(alloc);
-        self.begin_to_solve(alloc)
+        self.begin_to_solve(alloc, target)
     }
 
     /// Burns the counts once.
-    fn burn(&mut self, alloc: Global) -> Result<Stage, AllocError> {
+    fn burn(&mut self, alloc: Global, target: Target<'_>) -> Result<Stage, AllocError> {
         let steps_before_fit = if self.is_great() {
             STEPS_BEFORE_FIT
         } else {
             STEPS_BEFORE_LATE_FIT
         };
-        match self.burning.step() {
-            Progress::Converged => return Ok(self.pass()),
+        match self.burning.step(&self.hierarchy) {
+            Progress::Converged => return Ok(self.pass(target)),
             // Counts that are greater than some that passed come back to these.
             Progress::Diverged if self.passed == 0 => {
                 self.burning.end(alloc);
                 self.may_fit = false;
                 self.tried = self.tried.saturating_add(1);
-                return self.try_heights(alloc);
+                return self.try_heights(alloc, target);
             }
             Progress::Going if self.may_fit && self.burning.steps >= steps_before_fit => {
                 match WALL_OFFSETS.get(self.fits) {
                     Some(offset) if self.burning.unburnt > self.burning.unfired / 4 => {
-                        let stage = self.begin_to_burn(alloc, Stage::Fitting)?;
-                        self.burning.pin(self.target.game.graph(), *offset);
+                        let stage = self.begin_to_burn(alloc, target, Stage::Fitting)?;
+                        self.burning
+                            .pin(&self.hierarchy, target.game.graph(), *offset);
                         return Ok(stage);
                     }
                     _ => self.may_fit = false,
@@ -264,17 +292,17 @@ impl<'a> Search<'a> {
     }
 
     /// Keeps the counts that passed, and goes on from greater ones if they may be too low.
-    fn pass(&mut self) -> Stage {
+    fn pass(&mut self, target: Target<'_>) -> Stage {
         self.phases = self.phases.wrapping_add(1);
         let passed = self.burning.firings();
         let is_same = passed == self.passed;
         self.may_fit = false;
         let may_rise = self.fits > 0 || (self.is_great() && self.hierarchy.kind != Kind::General);
-        if !may_rise || is_same || !self.burning.leaves_some_legal() {
+        if !may_rise || is_same || !self.burning.leaves_some_legal(&self.hierarchy) {
             return Stage::Found;
         }
         self.passed = passed;
-        self.burning.raise(self.raise, self.target);
+        self.burning.raise(&self.hierarchy, self.raise, target);
         self.raise = self.raise.saturating_mul(2);
         Stage::Burning
     }

@@ -1,5 +1,6 @@
 use crate::cycle::{Problem, v_cycle};
 use crate::hierarchy::{Hierarchy, Kind};
+use crate::level::Level;
 use crate::tuning::{CYCLES_TO_HALVE, TOLERANCE};
 use chip_graph::Game;
 use std::alloc::{AllocError, Global};
@@ -73,10 +74,9 @@ pub(crate) enum Progress {
 
 /// V-cycles that bring counts near to those that leave each vertex its target height.
 #[derive(Drop)]
-pub(crate) struct Solver<'a> {
-    hierarchy: &'a Hierarchy,
+pub(crate) struct Solver {
     /// The problem of the counts, and those of its corrections.
-    problems: Vec<Problem<'a>>,
+    problems: Vec<Problem>,
     /// The residual that may be left.
     tolerance: f64,
     /// How many cycles were made.
@@ -85,11 +85,10 @@ pub(crate) struct Solver<'a> {
     norm: f64,
 }
 
-impl<'a> Solver<'a> {
+impl Solver {
     /// Nothing to solve yet.
-    pub(crate) fn new(alloc: Global, hierarchy: &'a Hierarchy) -> Solver<'a> {
+    pub(crate) fn new(alloc: Global) -> Solver {
         Solver {
-            hierarchy,
             problems: Vec::new(alloc),
             tolerance: 0.0,
             cycles: 0,
@@ -101,13 +100,13 @@ impl<'a> Solver<'a> {
     pub(crate) fn begin(
         &mut self,
         alloc: Global,
+        hierarchy: &Hierarchy,
         target: Target<'_>,
         heights: &[f64],
         counts: Vec<f64>,
     ) -> Result<(), AllocError> {
-        let hierarchy = self.hierarchy;
         let mut finest = Problem::new(alloc, &hierarchy.finest, counts)?;
-        self.tolerance = TOLERANCE * ask(&mut finest, target, heights);
+        self.tolerance = TOLERANCE * ask(&mut finest, &hierarchy.finest, target, heights);
         self.cycles = 0;
         self.norm = f64::INFINITY;
         self.problems.push(finest)?;
@@ -120,12 +119,12 @@ impl<'a> Solver<'a> {
 
     /// Makes a cycle if more than little is left. It diverges if some do not halve that. On graphs whose links go both
     /// ways that is what the first cycle left, which may spread a heap too far.
-    pub(crate) fn step(&mut self) -> Progress {
-        let norm = self.norm();
+    pub(crate) fn step(&mut self, hierarchy: &Hierarchy) -> Progress {
+        let norm = self.norm(hierarchy);
         if norm <= self.tolerance {
             return Progress::Converged;
         }
-        let first = u64::from(self.hierarchy.kind == Kind::Symmetric);
+        let first = u64::from(hierarchy.kind == Kind::Symmetric);
         if self.cycles % CYCLES_TO_HALVE == first {
             let is_halved = norm <= self.norm / 2.0;
             if !is_halved {
@@ -134,19 +133,24 @@ impl<'a> Solver<'a> {
             self.norm = norm;
         }
         self.cycles = self.cycles.saturating_add(1);
-        v_cycle(&mut self.problems, self.hierarchy.kind);
-        if self.hierarchy.kind != Kind::Symmetric {
+        v_cycle(
+            &hierarchy.finest,
+            &hierarchy.coarser,
+            &mut self.problems,
+            hierarchy.kind,
+        );
+        if hierarchy.kind != Kind::Symmetric {
             if let Some(finest) = self.problems.first_mut() {
-                finest.rescale();
+                finest.rescale(&hierarchy.finest);
             }
         }
         Progress::Going
     }
 
     /// How many chips are above or below their heights.
-    pub(crate) fn norm(&self) -> f64 {
+    pub(crate) fn norm(&self, hierarchy: &Hierarchy) -> f64 {
         match self.problems.first() {
-            Some(finest) => finest.free_sums().0,
+            Some(finest) => finest.free_sums(&hierarchy.finest).0,
             None => 0.0,
         }
     }
@@ -163,11 +167,11 @@ impl<'a> Solver<'a> {
 }
 
 /// Asks for the counts that leave these heights; the sum of all degrees.
-fn ask(problem: &mut Problem<'_>, target: Target<'_>, heights: &[f64]) -> f64 {
+fn ask(problem: &mut Problem, level: &Level, target: Target<'_>, heights: &[f64]) -> f64 {
     let (chips, fired) = (target.game.start(), target.fired);
     let mut degrees = 0.0;
     for (vertex, unknown) in problem.unknowns.iter_mut().enumerate() {
-        let degree = problem.level.degree(vertex);
+        let degree = level.degree(vertex);
         if degree > 0 && vertex < chips.len() && vertex < fired.len() && vertex < heights.len() {
             degrees += nearest_i64_to_f64(degree);
             unknown.rhs = nearest_u64_to_f64(chips[vertex]) - heights[vertex];

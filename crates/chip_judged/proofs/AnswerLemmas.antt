@@ -7,7 +7,7 @@ use Rattle.std.proofs.lemmas.List.{get_or-map, length-map}
 use Rattle.std.proofs.lemmas.List.Sums.{get_or-le-sum_by}
 use Rattle.chip_log.specs.Log.{HasEnds}
 use Rattle.chip_log.specs.Claims.{IsRight}
-use Rattle.chip_log.specs.Judged.{is_claim, is_at, RowPlace, place_of, AreJudged, IsEnd}
+use Rattle.chip_log.specs.Judged.{is_claim, is_at, RowPlace, claim_place, AreJudged, IsEnd}
 use Rattle.chip_log.specs.declared.row.LogRow.{LogRow}
 use Rattle.chip_log.specs.declared.judged.ClaimVerdict.{ClaimVerdict}
 use Rattle.chip_log.specs.declared.judged.LogEnd.{LogEnd}
@@ -31,10 +31,10 @@ module _ (rows : List LogRow) (ends : HasEnds rows) (right : (p i : ℕ) → is_
       → is_claim rows (get_or claims k c).process (get_or claims k c).row ≡ true
   is_one claims judged k c inside =
       let here = get_or claims k c in
-      let a = get_or-le-sum_by (one_at here.process here.row) (map place_of claims) k (place_of c)
-      (let e = length-map claims place_of in omega arith) in
-      let b = get_or-map place_of claims k c (place_of c) inside in
-      let e = count_yes (is_at here.process here.row (place_of here)) (at_itself (place_of here)) in
+      let a = get_or-le-sum_by (one_at here.process here.row) (map claim_place claims) k (claim_place c)
+      (let e = length-map claims claim_place in omega arith) in
+      let b = get_or-map claim_place claims k c (claim_place c) inside in
+      let e = count_yes (is_at here.process here.row (claim_place here)) (at_itself (claim_place here)) in
       let f = judged.all.once here.process here.row in
       grind arith
 

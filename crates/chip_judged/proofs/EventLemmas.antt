@@ -19,7 +19,7 @@ use Rattle.chip_detect.proofs.ChangesLemmas.{answers_written, answers_tallies, a
 use Rattle.chip_detect.proofs.AllowedLemmas.{within_owed}
 use Rattle.chip_detect.proofs.SoundnessLemmas.{steps_keep_soundness}
 use Rattle.chip_diffusing.specs.Network.{Network, IsNetwork}
-use Rattle.chip_diffusing.specs.Computation.{Part, World, Event, Send, Get, Ack, Settle, Work, Log, Happens, Leads, part_of}
+use Rattle.chip_diffusing.specs.Computation.{PartState, World, Event, Send, Get, Ack, Settle, Work, Log, Happens, Leads, process_of}
 use Rattle.chip_diffusing.proofs.KeptLemmas.{IsKept, acked_most, kept_on, more_when_passive}
 use Rattle.chip_log.specs.Log.{steps_of}
 use Rattle.chip_log.specs.Judged.{control}
@@ -161,7 +161,7 @@ module _ (e n : ℕ) (old new : Books) (made : Settles old new e (suc n)) (one :
   }
 
 module _ (net : Network) (p e : ℕ) (l : e < net.edges) (passive : Bool) where
-  abbrev state : Books → Part
+  abbrev state : Books → PartState
   state b = record { books = b; passive = passive }
 
   acks : net.head e ≡ p → (n : ℕ) (old new : Books) → IsSound old → Contains (in_edges old) e → n ≤ may_ack old e passive
@@ -229,13 +229,13 @@ after_get net p l b false = refl
 after_get net p l b true = rests net p l b false true (λ e. refl)
 
 module _ (net : Network) (is : IsNetwork net) (old new : World) (kept : IsKept net old) where
-  abbrev now : Event → Part
-  now x = new (part_of net x)
+  abbrev now : Event → PartState
+  now x = new (process_of net x)
 
-  abbrev was : Event → Part
-  was x = old (part_of net x)
+  abbrev was : Event → PartState
+  was x = old (process_of net x)
 
-  event_run : (x : Event) → Happens net old x new → Run net (part_of net x) (was x) (steps_by net old x new) (now x)
+  event_run : (x : Event) → Happens net old x new → Run net (process_of net x) (was x) (steps_by net old x new) (now x)
   event_run (Send e) step = (
     record { books = (now (Send e)).books; passive = (was (Send e)).passive },
     record { part = refl; may = step.may; says = tt; notes = step.notes; passive = refl },
@@ -282,10 +282,10 @@ module _ (net : Network) (is : IsNetwork net) (first : World) (kept : IsKept net
       rw steps_of-append (run_on net q (first q) (steps_of q (rows_between net first log v way)) _ (v q) (w q)
       (between_run log v way q) (here q))
     where
-      here : (r : ℕ) → Run net r (v r) (steps_of r (rows_by (part_of net x) (steps_by net v x w))) (w r)
-      here r = dite (ℕ_discrete (part_of net x) r)
-          (λ z. subst (λ (t : ℕ). Run net t (v t) (steps_of t (rows_by (part_of net x) (steps_by net v x w))) (w t)) z
-          (subst (λ (steps : List Step). Run net (part_of net x) (v (part_of net x)) steps (w (part_of net x)))
-          (sym (rows_own (part_of net x) (steps_by net v x w)))
+      here : (r : ℕ) → Run net r (v r) (steps_of r (rows_by (process_of net x) (steps_by net v x w))) (w r)
+      here r = dite (ℕ_discrete (process_of net x) r)
+          (λ z. subst (λ (t : ℕ). Run net t (v t) (steps_of t (rows_by (process_of net x) (steps_by net v x w))) (w t)) z
+          (subst (λ (steps : List Step). Run net (process_of net x) (v (process_of net x)) steps (w (process_of net x)))
+          (sym (rows_own (process_of net x) (steps_by net v x w)))
           (event_run net is v w (kept_on net is first kept log v way) x step)))
-          (λ n. rw (rows_other (part_of net x) r (steps_by net v x w) n) (sym (step.others r (λ z. n (sym z)))))
+          (λ n. rw (rows_other (process_of net x) r (steps_by net v x w) n) (sym (step.others r (λ z. n (sym z)))))

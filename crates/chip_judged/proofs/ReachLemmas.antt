@@ -10,13 +10,13 @@ use mathlib.Core.Logic.{dite}
 use native.Mathlib.Decide.{ℕ_discrete, dec_lt}
 use Rattle.chip_detect.specs.Books.{settled_of}
 use Rattle.chip_diffusing.specs.Network.{Network, IsNetwork}
-use Rattle.chip_diffusing.specs.Computation.{Part, World, Event, Send, Get, Ack, Settle, Work, Log, May, Notes, Wakes, Happens}
-use Rattle.chip_diffusing.specs.Computation.{OpensPart, Leads, IsLegalLog, IsClosed, part_of}
+use Rattle.chip_diffusing.specs.Computation.{PartState, World, Event, Send, Get, Ack, Settle, Work, Log, May, NotesEvent, Wakes, Happens}
+use Rattle.chip_diffusing.specs.Computation.{OpensPart, Leads, IsLegalLog, HasClosedRoot, process_of}
 use Rattle.chip_diffusing.specs.Computation.{sent_on, got_on, acked_on, settled_on}
 use Rattle.chip_diffusing.specs.Computation as diffusing
 use Rattle.chip_diffusing.proofs.KeptLemmas.{legal_kept}
 use Rattle.chip_diffusing.proofs.OrderLemmas.{closed_silent}
-use Rattle.chip_log.specs.Log.{steps_of, outs, ins, is_out, is_in, sends, gets, begins_active, is_active, is_met, AreMet}
+use Rattle.chip_log.specs.Log.{steps_of, outs, ins, is_out, is_in, sends, gets, begins_active, is_active, is_enabled, AreEnabled}
 use Rattle.chip_log.specs.Log.{IsInterleaving, HasEnds}
 use Rattle.chip_log.specs.Claims.{basic, IsSilent}
 use Rattle.chip_log.specs.Judged.{control}
@@ -50,13 +50,13 @@ none_beyond n s past (step ∷ steps) of =
 -- ---- one more row
 
 -- the parts with this one anew
-abbrev with_part : World → ℕ → Part → World
+abbrev with_part : World → ℕ → PartState → World
 with_part w p s q = cond (eqb p q) s (w q)
 
-with_own : (w : World) (p : ℕ) (s : Part) → with_part w p s p ≡ s
+with_own : (w : World) (p : ℕ) (s : PartState) → with_part w p s p ≡ s
 with_own w p s = rw (eq-eqb p p refl)
 
-with_other : (w : World) (p : ℕ) (s : Part) (q : ℕ) → p ≢ q → with_part w p s q ≡ w q
+with_other : (w : World) (p : ℕ) (s : PartState) (q : ℕ) → p ≢ q → with_part w p s q ≡ w q
 with_other w p s q other = rw (ne_eqb p q other)
 
 -- what an event needs of other parts
@@ -66,14 +66,14 @@ Reaches net w (Settle e word) = (settled_on net w e ≤ word) × (word ≤ acked
 Reaches net w _ = Unit {0}
 
 module _ (net : Network) (w : World) where
-  may_be : (x : Event) → MayOwn net (w (part_of net x)) x → Reaches net w x → May net w x
+  may_be : (x : Event) → MayOwn net (w (process_of net x)) x → Reaches net w x → May net w x
   may_be (Send e) own reaches = own
   may_be (Get e) own reaches = (own, reaches)
   may_be (Ack e n) own reaches = own
   may_be (Settle e word) own reaches = (own, reaches.0, reaches.1)
   may_be (Work p) own reaches = own
 
-  module _ (p : ℕ) (new : Part) where
+  module _ (p : ℕ) (new : PartState) where
     wakes_by : (step : Step) → Does net p (w p) step new → Wakes (w p).passive (event_of p (w p) step) new.passive
     wakes_by (Out t) d = by t.channel t.is_control d
       where
@@ -95,10 +95,10 @@ module _ (net : Network) (w : World) where
         → Happens net w (event_of p (w p) step) (with_part w p new)
     happens step d reaches = let x = event_of p (w p) step in record {
       may = may_be x (subst (λ (q : ℕ). MayOwn net (w q) x) (sym d.part) d.may) reaches;
-      notes = subst (λ (q : ℕ). Notes (w q).books x (with_part w p new q).books) (sym d.part)
-          (subst (λ (s : Part). Notes (w p).books x s.books) (sym (with_own w p new)) d.notes);
+      notes = subst (λ (q : ℕ). NotesEvent (w q).books x (with_part w p new q).books) (sym d.part)
+          (subst (λ (s : PartState). NotesEvent (w p).books x s.books) (sym (with_own w p new)) d.notes);
       wakes = subst (λ (q : ℕ). Wakes (w q).passive x (with_part w p new q).passive) (sym d.part)
-          (subst (λ (s : Part). Wakes (w p).passive x s.passive) (sym (with_own w p new)) (wakes_by step d));
+          (subst (λ (s : PartState). Wakes (w p).passive x s.passive) (sym (with_own w p new)) (wakes_by step d));
       others = λ q n. with_other w p new q (λ z. n (sym z ∙ sym d.part));
     }
 
@@ -176,7 +176,7 @@ module _ (net : Network) (is : IsNetwork net) (first end : World) (rows : List L
           let b = inside net p is (first p) (steps_of p before) (now p) (past p) beyond in rw (a, b)
 
       -- what is met may be done
-      reaches : (p : ℕ) (step : Step) (new : Part) → Does net p (now p) step new → is_met rows before p step ≡ true
+      reaches : (p : ℕ) (step : Step) (new : PartState) → Does net p (now p) step new → is_enabled rows before p step ≡ true
           → Reaches net now (event_of p (now p) step)
       reaches p (Out t) new d met = by t.channel t.is_control
         where
@@ -186,7 +186,7 @@ module _ (net : Network) (is : IsNetwork net) (first end : World) (rows : List L
       reaches p (In t) new d met = by t.channel t.is_control d met
         where
           by : (c : ℕ) (k : Bool) → Does net p (now p) (In (record { channel = c; is_control = k })) new
-              → is_met rows before p (In (record { channel = c; is_control = k })) ≡ true
+              → is_enabled rows before p (In (record { channel = c; is_control = k })) ≡ true
               → Reaches net now (event_of p (now p) (In (record { channel = c; is_control = k })))
           by c false d met = let a = sent_is c d.may in let b = got_is c d.may in grind (arith, nat_tests)
           by c true d met =
@@ -205,11 +205,11 @@ module _ (net : Network) (is : IsNetwork net) (first end : World) (rows : List L
       pub future : (q : ℕ) → Run net q (now q) (steps_of q later) (end q)
 
     module _ (before : List LogRow) (x : LogRow) (later : List LogRow) (r : Reached before (x ∷ later))
-        (met : is_met rows before x.process x.step ≡ true) where
+        (met : is_enabled rows before x.process x.step ≡ true) where
       abbrev p : ℕ
       p = x.process
 
-      mine : (s : Part) × Does net p (r.now p) x.step s × Run net p s (steps_of p later) (end p)
+      mine : (s : PartState) × Does net p (r.now p) x.step s × Run net p s (steps_of p later) (end p)
       mine = subst (λ (steps : List Step). Run net p (r.now p) steps (end p)) (steps_own p x later refl) (r.future p)
 
       abbrev new : World
@@ -223,7 +223,7 @@ module _ (net : Network) (is : IsNetwork net) (first end : World) (rows : List L
       past_other q other = rw (steps_push_other q before x other, with_other r.now p mine.0 q other) (r.past q)
 
       future_own : Run net p (new p) (steps_of p later) (end p)
-      future_own = subst (λ (s : Part). Run net p s (steps_of p later) (end p)) (sym (with_own r.now p mine.0)) mine.2
+      future_own = subst (λ (s : PartState). Run net p s (steps_of p later) (end p)) (sym (with_own r.now p mine.0)) mine.2
 
       future_other : (q : ℕ) → p ≢ q → Run net q (new q) (steps_of q later) (end q)
       future_other q other = rw (with_other r.now p mine.0 q other)
@@ -246,7 +246,7 @@ module _ (net : Network) (is : IsNetwork net) (first end : World) (rows : List L
             (future_other q);
       }
 
-    reach : (before ys zs : List LogRow) → AreMet rows before ys → Reached before (ys ++ zs) → Reached (before ++ ys) zs
+    reach : (before ys zs : List LogRow) → AreEnabled rows before ys → Reached before (ys ++ zs) → Reached (before ++ ys) zs
     reach before [] zs met r = subst (λ (xs : List LogRow). Reached xs zs) (sym (append-nil before)) r
     reach before (y ∷ ys) zs met r = subst (λ (xs : List LogRow). Reached xs zs) (append_assoc before (y ∷ []) ys)
         (reach (before ++ y ∷ []) ys zs met.1 (step_on before y (ys ++ zs) r met.0))
@@ -269,7 +269,7 @@ module _ (net : Network) (is : IsNetwork net) (first end : World) (rows : List L
       legal : IsLegalLog net here.log here.now
       legal = record { first = first; opens = opens; leads = here.way }
 
-      closed : IsClosed net here.now
+      closed : HasClosedRoot net here.now
       closed = let mine : Run net p (here.now p) (Over ∷ steps_of p after) (end p) =
           subst (λ (steps : List Step). Run net p (here.now p) steps (end p)) (steps_own p claim after refl) (here.future p) in
           let says = mine.1.says in
@@ -280,7 +280,7 @@ module _ (net : Network) (is : IsNetwork net) (first end : World) (rows : List L
             settled = subst (λ (q : ℕ). Rattle.chip_detect.specs.Books.deficit (here.now q).books ≡ 0) says.0 none;
           }
 
-      over : diffusing.IsSilent net here.now
+      over : diffusing.IsQuiescent net here.now
       over = closed_silent net is here.log here.now legal closed
 
       pub silent_before : IsSilent rows before

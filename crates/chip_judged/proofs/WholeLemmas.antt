@@ -9,10 +9,10 @@ use Rattle.std.proofs.lemmas.List.Elements.{All-nil, All-cons, All-head, All-tai
 use mathlib.Core.Logic.{dite}
 use native.Mathlib.Decide.{ℕ_discrete, dec_lt}
 use Rattle.chip_diffusing.specs.Network.{Network, IsNetwork}
-use Rattle.chip_diffusing.specs.Computation.{Part, World, Event, Send, Get, Ack, Settle, Work, Log, May, Leads, IsLegalLog}
-use Rattle.chip_diffusing.specs.Computation.{IsClosed, part_of, settled_on}
+use Rattle.chip_diffusing.specs.Computation.{PartState, World, Event, Send, Get, Ack, Settle, Work, Log, May, Leads, IsLegalLog}
+use Rattle.chip_diffusing.specs.Computation.{HasClosedRoot, process_of, settled_on}
 use Rattle.chip_diffusing.proofs.KeptLemmas.{opens_kept}
-use Rattle.chip_log.specs.Log.{steps_of, outs, ins, is_out, is_in, begins_active, AreMet, IsInterleaving, HasEnds}
+use Rattle.chip_log.specs.Log.{steps_of, outs, ins, is_out, is_in, begins_active, AreEnabled, IsInterleaving, HasEnds}
 use Rattle.chip_log.specs.Claims.{IsBefore, IsRight}
 use Rattle.chip_log.specs.Judged.{control, is_claim, is_over, is_over_at}
 use Rattle.chip_log.specs.Order.{AreSent}
@@ -25,8 +25,8 @@ use Rattle.chip_log.proofs.CountLemmas.{steps_of-append, steps_own, steps_other}
 use Rattle.chip_log.proofs.MetLemmas.{push_yes, push_no, same_self}
 use Rattle.chip_log.proofs.PastLemmas.{are_met_both, least_past}
 use Rattle.chip_log.proofs.SilentLemmas.{silent_is_right}
-use Rattle.chip_judged.specs.Rows.{messages_of, says_passive, steps_by, rows_by, rows_between, rows_of}
-use Rattle.chip_judged.specs.Laws.{sizes_of, AreJudgedRight, EveryLogIsJudgedRight}
+use Rattle.chip_judged.specs.Rows.{messages_of, says_passive, steps_by, rows_by, rows_between, rows_of_run}
+use Rattle.chip_judged.specs.Laws.{network_sizes, AreJudgedRight, EveryLogIsJudgedRight}
 use Rattle.chip_judged.proofs.RunLemmas.{Run, run_on, run_sent, run_of}
 use Rattle.chip_judged.proofs.EventLemmas.{rows_own, rows_other, between_run}
 use Rattle.chip_judged.proofs.ReachLemmas.{ends, none_outside, sent_is, got_is, acked_is, settled_is, active_is, silent_before}
@@ -68,9 +68,9 @@ over_at (x ∷ xs) = over_at xs
 module _ (net : Network) where
   rows_fit : (xs : List LogRow) → ((p : ℕ) → net.parts ≤ p → steps_of p xs ≡ [])
       → ((p : ℕ) → All (IsOf net.edges) (steps_of p xs))
-      → Fits (sizes_of net) xs
-  rows_fit [] none of = All-nil (FitsRow (sizes_of net))
-  rows_fit (x ∷ xs) none of = All-cons (FitsRow (sizes_of net)) x xs
+      → Fits (network_sizes net) xs
+  rows_fit [] none of = All-nil (FitsRow (network_sizes net))
+  rows_fit (x ∷ xs) none of = All-cons (FitsRow (network_sizes net)) x xs
       (record { process = within; channel = All-head (IsOf net.edges) x.step (steps_of x.process xs) own })
       (rows_fit xs (λ p past. let a = none p past in rw (steps_other p x xs (λ z. omega (arith, within))) at a)
       (λ p. dite (ℕ_discrete x.process p)
@@ -88,16 +88,16 @@ module _ (net : Network) where
 -- ---- rows of one part that are met
 
 module _ (rows : List LogRow) (p : ℕ) where
-  passive_met : (before : List LogRow) (b : Bool) → AreMet rows before (rows_by p (if b then Passive ∷ [] else []))
+  passive_met : (before : List LogRow) (b : Bool) → AreEnabled rows before (rows_by p (if b then Passive ∷ [] else []))
   passive_met before true = (refl, tt)
   passive_met before false = tt
 
-  acks_met : (e n : ℕ) (before : List LogRow) → AreMet rows before (rows_by p (replicate n (Out (control e))))
+  acks_met : (e n : ℕ) (before : List LogRow) → AreEnabled rows before (rows_by p (replicate n (Out (control e))))
   acks_met e zero before = tt
   acks_met e (suc n) before = (refl, acks_met e n (before ++ record { process = p; step = Out (control e) } ∷ []))
 
   hears_met : (e n : ℕ) (before : List LogRow) → ins (control e) before + n ≤ outs (control e) before
-      → AreMet rows before (rows_by p (replicate n (In (control e))))
+      → AreEnabled rows before (rows_by p (replicate n (In (control e))))
   hears_met e zero before enough = tt
   hears_met e (suc n) before enough = let x : LogRow = record { process = p; step = In (control e) } in (
     grind (arith, nat_tests),
@@ -107,7 +107,7 @@ module _ (rows : List LogRow) (p : ℕ) where
   )
 
 -- only an active part begins so
-not_begun : (net : Network) (p : ℕ) (old : Part) (steps : List Step) (new : Part) → Run net p old steps new → old.passive ≡ true
+not_begun : (net : Network) (p : ℕ) (old : PartState) (steps : List Step) (new : PartState) → Run net p old steps new → old.passive ≡ true
     → begins_active steps ≡ false
 not_begun net p old [] new run passive = refl
 not_begun net p old (Active ∷ steps) new (mid, does, later) passive = let a = does.says in absurd (cc)
@@ -115,8 +115,8 @@ not_begun net p old (_ ∷ steps) new run passive = refl
 
 -- ---- all rows of a log
 
-module _ (net : Network) (is : IsNetwork net) (log : Log) (w : World) (legal : IsLegalLog net log w) (closed : IsClosed net w)
-    (rows : List LogRow) (same : (p : ℕ) → steps_of p rows ≡ steps_of p (rows_of net log w legal)) where
+module _ (net : Network) (is : IsNetwork net) (log : Log) (w : World) (legal : IsLegalLog net log w) (closed : HasClosedRoot net w)
+    (rows : List LogRow) (same : (p : ℕ) → steps_of p rows ≡ steps_of p (rows_of_run net log w legal)) where
   abbrev first : World
   first = legal.first
 
@@ -188,12 +188,12 @@ module _ (net : Network) (is : IsNetwork net) (log : Log) (w : World) (legal : I
   -- ---- in the order of the log each row is met
 
   module _ (before : List LogRow) (now : World) (past : (q : ℕ) → Run net q (first q) (steps_of q before) (now q)) where
-    met_then : (p : ℕ) (steps : List Step) (b : Bool) → AreMet rows before (rows_by p steps)
-        → AreMet rows before (rows_by p (steps ++ (if b then Passive ∷ [] else [])))
+    met_then : (p : ℕ) (steps : List Step) (b : Bool) → AreEnabled rows before (rows_by p steps)
+        → AreEnabled rows before (rows_by p (steps ++ (if b then Passive ∷ [] else [])))
     met_then p steps b met = rw map-append (are_met_both rows before (rows_by p steps) (rows_by p (if b then Passive ∷ [] else []))
         met (passive_met rows p (before ++ rows_by p steps) b))
 
-    messages_met : (x : Event) → May net now x → AreMet rows before (rows_by (part_of net x) (messages_of net now x))
+    messages_met : (x : Event) → May net now x → AreEnabled rows before (rows_by (process_of net x) (messages_of net now x))
     messages_met (Send e) may = (
       (let a = active_is net is first w rows runs legal.opens starts before now past (net.tail e) (is.tails e may.0) in
           let b = may.1 in cc),
@@ -212,19 +212,19 @@ module _ (net : Network) (is : IsNetwork net) (log : Log) (w : World) (legal : I
         let c = may.1 in let d = may.2 in omega arith)
     messages_met (Work p) may = tt
 
-    event_met : (x : Event) (new : World) → May net now x → AreMet rows before (rows_by (part_of net x) (steps_by net now x new))
-    event_met x new may = met_then (part_of net x) (messages_of net now x)
-        (says_passive x (now (part_of net x)).passive (new (part_of net x)).passive) (messages_met x may)
+    event_met : (x : Event) (new : World) → May net now x → AreEnabled rows before (rows_by (process_of net x) (steps_by net now x new))
+    event_met x new may = met_then (process_of net x) (messages_of net now x)
+        (says_passive x (now (process_of net x)).passive (new (process_of net x)).passive) (messages_met x may)
 
   between_met : (log : Log) (now : World) (way : Leads net first log now)
-      → AreMet rows opening (rows_between net first log now way)
+      → AreEnabled rows opening (rows_between net first log now way)
   between_met [] now way = tt
   between_met (x ∷ log) now (old, way, step) =
-      are_met_both rows opening (rows_between net first log old way) (rows_by (part_of net x) (steps_by net old x now))
+      are_met_both rows opening (rows_between net first log old way) (rows_by (process_of net x) (steps_by net old x now))
       (between_met log old way)
       (event_met (opening ++ rows_between net first log old way) old (so_far log old way) x now step.may)
 
-  opening_met : (b : Bool) → AreMet rows [] (rows_by net.root (if b then [] else Active ∷ []))
+  opening_met : (b : Bool) → AreEnabled rows [] (rows_by net.root (if b then [] else Active ∷ []))
   opening_met true = tt
   opening_met false = (refl, tt)
 

@@ -1,7 +1,7 @@
 -- What the judge says of the rows of a diffusing computation.
 use Rattle.std.specs.Prelude.{◌≡◌, ℕ, Bool, List, All, None}
 use Rattle.chip_diffusing.specs.Network.{Network, IsNetwork}
-use Rattle.chip_diffusing.specs.Computation.{World, Log, IsLegalLog, IsClosed}
+use Rattle.chip_diffusing.specs.Computation.{World, Log, IsLegalLog, HasClosedRoot}
 use Rattle.chip_log.specs.Log.{steps_of, IsInterleaving}
 use Rattle.chip_log.specs.Order.{IsWellFormed}
 use Rattle.chip_log.specs.Judged.{IsEnd, IsJudgedLog}
@@ -12,15 +12,15 @@ use Rattle.chip_log.specs.declared.judged.ClaimVerdict.{ClaimVerdict}
 use Rattle.chip_log.specs.declared.judged.JudgedLog.{JudgedLog}
 use Rattle.chip_log.specs.declared.judged.LogEnd.TheVariants as end
 use Rattle.chip_log.specs.declared.verdict.Verdict.TheVariants as verdict
-use Rattle.chip_judged.specs.Rows.{rows_of}
+use Rattle.chip_judged.specs.Rows.{rows_of_run}
 
 -- a process for each part, and a channel for each edge
-abbrev pub sizes_of : Network → Sizes
-sizes_of net = record { processes = net.parts; channels = net.edges }
+abbrev pub network_sizes : Network → Sizes
+network_sizes net = record { processes = net.parts; channels = net.edges }
 
 -- rows that the judge takes and can order, and no claim in them is early: the computation was claimed to be over, and it was
 pub record AreJudgedRight (net : Network) (rows : List LogRow) : Type 0 where
-  pub well_formed : IsWellFormed (sizes_of net) rows
+  pub well_formed : IsWellFormed (network_sizes net) rows
   pub ordered : (order : List LogRow) × IsInterleaving rows order
   pub none_early : (with_past : Bool) → IsFirstEarly with_past rows None
   pub claimed : IsEnd rows end.Claimed
@@ -28,12 +28,12 @@ pub record AreJudgedRight (net : Network) (rows : List LogRow) : Type 0 where
 -- so it is of every legal log whose root is closed, in every order that keeps the rows of each part in theirs
 abbrev pub EveryLogIsJudgedRight : Type 0
 EveryLogIsJudgedRight = (net : Network) → IsNetwork net → (log : Log) (w : World) (legal : IsLegalLog net log w)
-    → IsClosed net w → (rows : List LogRow) → ((p : ℕ) → steps_of p rows ≡ steps_of p (rows_of net log w legal))
+    → HasClosedRoot net w → (rows : List LogRow) → ((p : ℕ) → steps_of p rows ≡ steps_of p (rows_of_run net log w legal))
     → AreJudgedRight net rows
 
 -- and so the judge answers: its verdict on each claim is that it is right, and the log ends with a claim
 abbrev pub EveryAnswerIsRight : Type 0
 EveryAnswerIsRight = (net : Network) → IsNetwork net → (log : Log) (w : World) (legal : IsLegalLog net log w)
-    → IsClosed net w → (rows : List LogRow) → ((p : ℕ) → steps_of p rows ≡ steps_of p (rows_of net log w legal))
+    → HasClosedRoot net w → (rows : List LogRow) → ((p : ℕ) → steps_of p rows ≡ steps_of p (rows_of_run net log w legal))
     → (with_past : Bool) (judged : JudgedLog) → IsJudgedLog with_past rows judged
     → All (λ (c : ClaimVerdict). c.verdict ≡ verdict.Right) judged.claims.items × (judged.end ≡ end.Claimed)

@@ -2,7 +2,7 @@
 use Rattle.std.specs.Prelude.{ℕ, ◌-◌, Bool, not, ◌&&◌, if◌then◌else◌, List, [], ◌∷◌, ◌++◌, map, replicate}
 use Rattle.chip_diffusing.specs.Network.{Network}
 use Rattle.chip_diffusing.specs.Computation.{World, Event, Send, Get, Ack, Settle, Work, Log, Leads, IsLegalLog}
-use Rattle.chip_diffusing.specs.Computation.{part_of, settled_on}
+use Rattle.chip_diffusing.specs.Computation.{process_of, settled_on}
 use Rattle.chip_log.specs.Claims.{basic}
 use Rattle.chip_log.specs.Judged.{control}
 use Rattle.chip_log.specs.declared.row.LogRow.{LogRow}
@@ -25,7 +25,7 @@ says_passive _ was now = now && not was
 -- all that its part logs of an event
 abbrev pub steps_by : Network → World → Event → World → List Step
 steps_by net old x new = messages_of net old x
-    ++ (if says_passive x (old (part_of net x)).passive (new (part_of net x)).passive then Passive ∷ [] else [])
+    ++ (if says_passive x (old (process_of net x)).passive (new (process_of net x)).passive then Passive ∷ [] else [])
 
 abbrev pub rows_by : ℕ → List Step → List LogRow
 rows_by p steps = map (λ step. record { process = p; step = step }) steps
@@ -34,11 +34,11 @@ rows_by p steps = map (λ step. record { process = p; step = step }) steps
 abbrev pub rows_between : (net : Network) (old : World) (log : Log) (new : World) → Leads net old log new → List LogRow
 rows_between net old [] new way = []
 rows_between net old (x ∷ log) new way =
-    rows_between net old log way.0 way.1 ++ rows_by (part_of net x) (steps_by net way.0 x new)
+    rows_between net old log way.0 way.1 ++ rows_by (process_of net x) (steps_by net way.0 x new)
 
 -- and before them that the root begins active, if it does; behind them that it says that all is over. A part is the
 -- process of its number, and an edge the channel of its number
-abbrev pub rows_of : (net : Network) (log : Log) (w : World) → IsLegalLog net log w → List LogRow
-rows_of net log w legal =
+abbrev pub rows_of_run : (net : Network) (log : Log) (w : World) → IsLegalLog net log w → List LogRow
+rows_of_run net log w legal =
     rows_by net.root (if (legal.first net.root).passive then [] else Active ∷ [])
     ++ (rows_between net legal.first log w legal.leads ++ rows_by net.root (Over ∷ []))

@@ -7,16 +7,16 @@ use Rattle.chip_log.specs.Judged.{control}
 use Rattle.chip_log.specs.declared.row.LogRow.{LogRow}
 use Rattle.chip_log.specs.declared.row.Step.{Step}
 use Rattle.chip_log.specs.declared.row.Step.TheVariants.{Out, In, Passive, Active, Over}
-use Rattle.chip_judged.specs.Rows.{steps_by, rows_of}
+use Rattle.chip_judged.specs.Rows.{steps_by, rows_of_run}
 
-abbrev pub row : ℕ → Step → LogRow
-row p step = record { process = p; step = step }
+abbrev pub log_row : ℕ → Step → LogRow
+log_row p step = record { process = p; step = step }
 
 -- the root begins active, sends and rests; part 0 gets the message, rests and acknowledges; the root hears and claims
 abbrev pub WholeRows : Type 0
-WholeRows = (legal : IsLegalLog pair whole closed) × (rows_of pair whole closed legal
-    ≡ row 1 Active ∷ row 1 (Out (basic 0)) ∷ row 1 Passive ∷ row 0 (In (basic 0)) ∷ row 0 Passive
-    ∷ row 0 (Out (control 0)) ∷ row 1 (In (control 0)) ∷ row 1 Over ∷ [])
+WholeRows = (legal : IsLegalLog pair whole closed) × (rows_of_run pair whole closed legal
+    ≡ log_row 1 Active ∷ log_row 1 (Out (basic 0)) ∷ log_row 1 Passive ∷ log_row 0 (In (basic 0)) ∷ log_row 0 Passive
+    ∷ log_row 0 (Out (control 0)) ∷ log_row 1 (In (control 0)) ∷ log_row 1 Over ∷ [])
 
 -- a message leaves its part passive at once, or active; two are acknowledged at once, and two settled of which one was
 abbrev pub EventRows : Type 0

@@ -18,8 +18,8 @@ use Rattle.chip_link.specs.Ends.{TailState, HeadState, may_clear, tail_cell, hea
 use Rattle.chip_link.specs.Ends.{tail_after_claim, tail_after_put, message_claimed, put_of, is_count, head_after_take}
 use Rattle.chip_link.specs.Ends.{message_taken}
 use Rattle.chip_link.specs.Link.{Tail, fresh_tail, sent_counts, claims_of, after_clear, after_claim, after_put}
-use Rattle.chip_link.specs.Link.{after_take, after_seal, word_of, tail_state, head_state, IsSealedAt, Sound, Shows}
-use Rattle.chip_link.specs.Edge.{LiveEdge, EdgeStep, Clear, Claim, Put, Take, Seal, new_edge, step, steps}
+use Rattle.chip_link.specs.Link.{after_take, after_seal, word_of, tail_state, head_state, IsSealedAt, Sound, WordsShow}
+use Rattle.chip_link.specs.Edge.{LiveEdge, EdgeStep, Clear, Claim, Put, Take, Seal, new_edge, edge_step, steps}
 use Rattle.chip_link.specs.Edge.{cells_after_store, claim_on, take_on}
 use Rattle.chip_link.specs.Laws.{AreInOrder, TakesPrefix, ClaimsInOrder, NothingAfterSeal, WordTells, SealsAllClaims}
 use Rattle.chip_link.proofs.SoundsLemmas.{none_held, length-sent_counts, none-some, clear_sound}
@@ -37,7 +37,7 @@ pub record Follows (edge ring : ℕ) (s : LiveEdge) (t : Tail) (got : List ℕ) 
   pub claimed_is : s.claimed ≡ numbered edge 0 (sent_counts t)
   pub taken_is : s.taken ≡ numbered edge 0 got
   pub cells_are : length s.cells ≡ ring
-  pub shows : Shows ring s.word (λ i. get_or s.cells i 0) t got s.stop
+  pub shows : WordsShow ring s.word (λ i. get_or s.cells i 0) t got s.stop
   pub sound : Sound ring t got s.stop
   pub few : claims_of t ≤ 2 ^ 62
   pub fewer : t.clear ≡ true → claims_of t < 2 ^ 62
@@ -60,7 +60,7 @@ held_cases (Some c) = inr (c, refl)
 module _ (edge ring : ℕ) (some_ring : 0 < ring) (s : LiveEdge) (t : Tail) (got : List ℕ)
     (f : Follows edge ring s t got) where
   -- a look, whether it counts or not
-  after_look : HasLists edge ring (step Clear s)
+  after_look : HasLists edge ring (edge_step Clear s)
   after_look =
       let seen : ℕ = get_or s.cells (tail_cell s.tail) 0 in
       let cell_is : seen ≡ get_or s.cells (claims_of t % ring) 0 =
@@ -114,7 +114,7 @@ module _ (edge ring : ℕ) (some_ring : 0 < ring) (s : LiveEdge) (t : Tail) (got
           claimed_is = claimed;
           taken_is = f.taken_is;
           cells_are = f.cells_are;
-          shows = subst (λ (v : Tail). Shows ring word' (λ i. get_or s.cells i 0) v got s.stop) e shows;
+          shows = subst (λ (v : Tail). WordsShow ring word' (λ i. get_or s.cells i 0) v got s.stop) e shows;
           sound = subst (λ (v : Tail). Sound ring v got s.stop) e sound;
           few = few;
           fewer = λ c. absurd (true≢false (sym c ∙ not_clear));
@@ -141,7 +141,7 @@ module _ (edge ring : ℕ) (some_ring : 0 < ring) (s : LiveEdge) (t : Tail) (got
       (ap (λ (ms : List Message). s.claimed ++ ms) nothing ∙ append-nil s.claimed ∙ f.claimed_is) f.few refl)
 
   -- a claim, whether it is allowed or not
-  after_claiming : (count : ℕ) → HasLists edge ring (step (Claim count) s)
+  after_claiming : (count : ℕ) → HasLists edge ring (edge_step (Claim count) s)
   after_claiming count = ⊎_elim
       (λ may.
       let parts = and_parts _ _ may in
@@ -152,7 +152,7 @@ module _ (edge ring : ℕ) (some_ring : 0 < ring) (s : LiveEdge) (t : Tail) (got
       (cases_Bool (s.tail.clear && is_count count))
 
   -- a put with nothing to put, and of what is held
-  after_putting : HasLists edge ring (step Put s)
+  after_putting : HasLists edge ring (edge_step Put s)
   after_putting = ⊎_elim
       (λ none.
       let nothing : put_of s.tail ≡ None = ap put_of f.tail_is
@@ -179,7 +179,7 @@ module _ (edge ring : ℕ) (some_ring : 0 < ring) (s : LiveEdge) (t : Tail) (got
           claimed_is = f.claimed_is ∙ ap (numbered edge 0) (sym (append-nil (sent_counts t)));
           taken_is = f.taken_is;
           cells_are = ap length cells_are ∙ length-set s.cells at count ∙ f.cells_are;
-          shows = subst (λ (l : List ℕ). Shows ring s.word (λ i. get_or l i 0) (after_put t) got s.stop) (sym cells_are)
+          shows = subst (λ (l : List ℕ). WordsShow ring s.word (λ i. get_or l i 0) (after_put t) got s.stop) (sym cells_are)
               (put_shows ring some_ring s.word _ t got s.stop f.sound f.shows count
               (λ i. get_or (set s.cells at count) i 0) one
               (get_or-set_same s.cells at count 0 inside) (λ i l ne. get_or-set_other s.cells at i count 0 ne));
@@ -213,9 +213,9 @@ module _ (edge ring : ℕ) (some_ring : 0 < ring) (s : LiveEdge) (t : Tail) (got
           claimed_is = f.claimed_is;
           taken_is = let all = f.taken_is in grind (arith, nat_tests, append-nil, numbered-append edge 0 got (seen ∷ []));
           cells_are = ap length cells_are ∙ length-set s.cells at 0 ∙ f.cells_are;
-          shows = subst (λ (l : List ℕ). Shows ring s.word (λ i. get_or l i 0) t (after_take seen got) s.stop)
+          shows = subst (λ (l : List ℕ). WordsShow ring s.word (λ i. get_or l i 0) t (after_take seen got) s.stop)
               (sym cells_are)
-              (subst (λ (n : ℕ). Shows ring s.word (λ i. get_or (set s.cells at 0) i 0) t (after_take n got) s.stop)
+              (subst (λ (n : ℕ). WordsShow ring s.word (λ i. get_or (set s.cells at 0) i 0) t (after_take n got) s.stop)
               (sym cell_is) shows);
           sound = take_sound ring some_ring t got s.stop f.sound seen (cell_is
               ∙ take_sees ring some_ring s.word _ t got s.stop f.sound f.shows);
@@ -225,11 +225,11 @@ module _ (edge ring : ℕ) (some_ring : 0 < ring) (s : LiveEdge) (t : Tail) (got
       )
 
   -- a take, whether it is allowed or not
-  after_taking : HasLists edge ring (step Take s)
+  after_taking : HasLists edge ring (edge_step Take s)
   after_taking = ⊎_elim (λ may. rw may taken_on) (λ no. rw no (t, got, f)) (cases_Bool (ltb s.head.taken (2 ^ 62)))
 
   -- a seal, the first or another
-  after_sealing : HasLists edge ring (step Seal s)
+  after_sealing : HasLists edge ring (edge_step Seal s)
   after_sealing = (
     t,
     got,
@@ -238,8 +238,8 @@ module _ (edge ring : ℕ) (some_ring : 0 < ring) (s : LiveEdge) (t : Tail) (got
   )
 
   -- a sealed edge takes no claim, and stays sealed
-  unclaimed : (first : ℕ) → s.stop ≡ Some first → (x : EdgeStep) → ((step x s).claimed ≡ s.claimed)
-      × ((step x s).stop ≡ Some first)
+  unclaimed : (first : ℕ) → s.stop ≡ Some first → (x : EdgeStep) → ((edge_step x s).claimed ≡ s.claimed)
+      × ((edge_step x s).stop ≡ Some first)
   unclaimed first stop Clear = (refl, stop)
   unclaimed first stop Put = (refl, stop)
   unclaimed first stop Seal = (refl, ap (after_seal s.word) stop)
@@ -262,7 +262,7 @@ new_edge_follows edge ring some_ring =
     let kept = fresh_sound ring some_ring in search (rules, arith, nat_tests)
 
 after_step : (edge ring : ℕ) → 0 < ring → (s : LiveEdge) → HasLists edge ring s → (x : EdgeStep)
-    → HasLists edge ring (step x s)
+    → HasLists edge ring (edge_step x s)
 after_step edge ring some_ring s h Clear = after_look edge ring some_ring s h.0 h.1 h.2
 after_step edge ring some_ring s h (Claim count) = after_claiming edge ring some_ring s h.0 h.1 h.2 count
 after_step edge ring some_ring s h Put = after_putting edge ring some_ring s h.0 h.1 h.2
@@ -272,7 +272,7 @@ after_step edge ring some_ring s h Seal = after_sealing edge ring some_ring s h.
 after_steps : (edge ring : ℕ) → 0 < ring → (xs : List EdgeStep) (s : LiveEdge) → HasLists edge ring s
     → HasLists edge ring (steps xs s)
 after_steps edge ring some_ring [] s h = h
-after_steps edge ring some_ring (x ∷ xs) s h = after_steps edge ring some_ring xs (step x s)
+after_steps edge ring some_ring (x ∷ xs) s h = after_steps edge ring some_ring xs (edge_step x s)
     (after_step edge ring some_ring s h x)
 
 -- every edge that runs has its lists
@@ -282,7 +282,7 @@ has_lists edge ring some_ring xs = after_steps edge ring some_ring xs (new_edge 
 
 steps-append : (xs ys : List EdgeStep) (s : LiveEdge) → steps (xs ++ ys) s ≡ steps ys (steps xs s)
 steps-append [] ys s = refl
-steps-append (x ∷ xs) ys s = steps-append xs ys (step x s)
+steps-append (x ∷ xs) ys s = steps-append xs ys (edge_step x s)
 
 -- ---- the laws
 
@@ -335,7 +335,7 @@ still_unclaimed : (edge ring : ℕ) → 0 < ring → (first : ℕ) (ys : List Ed
 still_unclaimed edge ring some_ring first [] s h stop = refl
 still_unclaimed edge ring some_ring first (y ∷ ys) s h stop =
     let one = unclaimed edge ring some_ring s h.0 h.1 h.2 first stop y in
-    still_unclaimed edge ring some_ring first ys (step y s) (after_step edge ring some_ring s h y) one.1 ∙ one.0
+    still_unclaimed edge ring some_ring first ys (edge_step y s) (after_step edge ring some_ring s h y) one.1 ∙ one.0
 
 -- a seal leaves some first word
 sealed_first : (word : ℕ) (stop : Option ℕ) → (first : ℕ) × (after_seal word stop ≡ Some first)
@@ -348,4 +348,4 @@ nothing_after_seal edge ring some_ring xs ys =
     let h = after_step edge ring some_ring s (has_lists edge ring some_ring xs) Seal in
     let at = sealed_first s.word s.stop in
     ap (λ (u : LiveEdge). u.claimed) (steps-append xs (Seal ∷ ys) (new_edge edge ring))
-    ∙ still_unclaimed edge ring some_ring at.0 ys (step Seal s) h at.1
+    ∙ still_unclaimed edge ring some_ring at.0 ys (edge_step Seal s) h at.1

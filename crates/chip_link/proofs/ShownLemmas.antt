@@ -12,7 +12,7 @@ use Rattle.std.proofs.lemmas.List.{get_or_past}
 use Rattle.std.proofs.lemmas.Nat.{mod_below}
 use Rattle.chip_link.specs.Words.{edge_word}
 use Rattle.chip_link.specs.Link.{Tail, fresh_tail, first_tail, sent_counts, claims_of, after_clear, after_claim}
-use Rattle.chip_link.specs.Link.{after_put, after_take, after_seal, cell_at_tail, cell_at_head, Sound, Shows}
+use Rattle.chip_link.specs.Link.{after_put, after_take, after_seal, cell_at_tail, cell_at_head, Sound, WordsShow}
 use Rattle.chip_link.proofs.SoundsLemmas.{none_held, one_held, length-sent_counts, put_at, put_last}
 use Rattle.chip_link.proofs.WordLawsLemmas.{seals_word}
 
@@ -46,7 +46,7 @@ seal_leaves n word None l is = ap (λ (x : ℕ). bit_or x (2 ^ 63)) is ∙ seals
 seal_leaves n word (Some first) l is = ap (λ (x : ℕ). bit_or x (2 ^ 63)) is ∙ seals_word n true l
 
 module _ (ring : ℕ) (some_ring : 0 < ring) (word : ℕ) (cell : ℕ → ℕ) (t : Tail) (got : List ℕ) (stop : Option ℕ)
-    (ok : Sound ring t got stop) (is : Shows ring word cell t got stop) where
+    (ok : Sound ring t got stop) (is : WordsShow ring word cell t got stop) where
   pub clear_sees : t.held ≡ None → cell (claims_of t % ring) ≡ cell_at_tail ring t got
   clear_sees none =
       let all_put : claims_of t ≡ length t.put = none_held t none in
@@ -58,27 +58,27 @@ module _ (ring : ℕ) (some_ring : 0 < ring) (word : ℕ) (cell : ℕ → ℕ) (
       (λ free. is.ring_is (claims_of t) (omega arith) (omega arith) ∙ get_or_past t.put (claims_of t) 0 (omega arith)
       ∙ sym (cond-false _ _ _ (ne_eqb (claims_of t) (length got + ring) free)))
 
-  pub clear_shows : (seen : ℕ) → Shows ring word cell (after_clear seen t) got stop
+  pub clear_shows : (seen : ℕ) → WordsShow ring word cell (after_clear seen t) got stop
   clear_shows seen = record { word_is = is.word_is; ring_is = is.ring_is }
 
   -- what the exchange of a claim leaves, by its two cases
   pub claim_shows : (count word' : ℕ) → t.held ≡ None → (word ≡ claims_of t → word' ≡ claims_of t + 1)
-      → (word ≢ claims_of t → word' ≡ word) → Shows ring word' cell (after_claim count word t) got stop
+      → (word ≢ claims_of t → word' ≡ word) → WordsShow ring word' cell (after_claim count word t) got stop
   claim_shows count word' none hit miss =
       let all_put : claims_of t ≡ length t.put = none_held t none in
       let w = is.word_is in
       dite (ℕ_discrete word (claims_of t))
       (λ same. let new = hit same in
-      subst (λ (u : Tail). Shows ring word' cell u got stop)
+      subst (λ (u : Tail). WordsShow ring word' cell u got stop)
       (sym (cond-true _ _ _ (eq-eqb word (claims_of t) same))) record { word_is = omega arith; ring_is = is.ring_is })
       (λ other. let kept = miss other in
-      subst (λ (u : Tail). Shows ring word' cell u got stop)
+      subst (λ (u : Tail). WordsShow ring word' cell u got stop)
       (sym (cond-false _ _ _ (ne_eqb word (claims_of t) other))) record { word_is = kept ∙ is.word_is; ring_is = is.ring_is })
 
   -- the store of a put changes the cell of the last claim, and no other
   pub put_shows : (count : ℕ) (cell' : ℕ → ℕ) → t.held ≡ Some count → cell' (length t.put % ring) ≡ count
       → ((i : ℕ) → i < ring → i ≢ length t.put % ring → cell' i ≡ cell i)
-      → Shows ring word cell' (after_put t) got stop
+      → WordsShow ring word cell' (after_put t) got stop
   put_shows count cell' one here others =
       let claimed_one : claims_of t ≡ length t.put + 1 = one_held t count one in
       let open_room = ok.free count one in
@@ -100,11 +100,11 @@ module _ (ring : ℕ) (some_ring : 0 < ring) (word : ℕ) (cell : ℕ → ℕ) (
   -- the swap of a take leaves 0 in the head's cell, and no other changes
   pub take_shows : (cell' : ℕ → ℕ) → cell' (length got % ring) ≡ 0
       → ((i : ℕ) → i < ring → i ≢ length got % ring → cell' i ≡ cell i)
-      → Shows ring word cell' t (after_take (cell (length got % ring)) got) stop
+      → WordsShow ring word cell' t (after_take (cell (length got % ring)) got) stop
   take_shows cell' here others = let d : ℕ = length got in let y : ℕ = cell (d % ring) in
       let back = ok.behind in let near = ok.within in
       dite (ℕ_discrete y 0)
-      (λ none. subst (λ (g : List ℕ). Shows ring word cell' t g stop) (sym (cond-true _ _ _ (eq-eqb y 0 none))) record {
+      (λ none. subst (λ (g : List ℕ). WordsShow ring word cell' t g stop) (sym (cond-true _ _ _ (eq-eqb y 0 none))) record {
         word_is = is.word_is;
         ring_is = λ p lo hi. dite (ℕ_discrete p d)
             (λ same. ap cell' (ap (λ (n : ℕ). n % ring) same) ∙ here ∙ sym none ∙ take_sees
@@ -114,7 +114,7 @@ module _ (ring : ℕ) (some_ring : 0 < ring) (word : ℕ) (cell : ℕ → ℕ) (
       })
       (λ found.
       let longer : length (got ++ y ∷ []) ≡ d + 1 = omega (arith, length-append got (y ∷ [])) in
-      subst (λ (g : List ℕ). Shows ring word cell' t g stop) (sym (cond-false _ _ _ (ne_eqb y 0 found))) record {
+      subst (λ (g : List ℕ). WordsShow ring word cell' t g stop) (sym (cond-false _ _ _ (ne_eqb y 0 found))) record {
         word_is = is.word_is;
         ring_is = λ p lo hi. dite (ℕ_discrete p (d + ring))
             (λ same. ap cell' (ap (λ (n : ℕ). n % ring) same ∙ next_turn d ring) ∙ here
@@ -125,16 +125,16 @@ module _ (ring : ℕ) (some_ring : 0 < ring) (word : ℕ) (cell : ℕ → ℕ) (
       })
 
   -- a seal sets the top bit
-  pub seal_shows : claims_of t < 2 ^ 63 → Shows ring (bit_or word (2 ^ 63)) cell t got (after_seal word stop)
+  pub seal_shows : claims_of t < 2 ^ 63 → WordsShow ring (bit_or word (2 ^ 63)) cell t got (after_seal word stop)
   seal_shows few = record { word_is = seal_leaves (claims_of t) word stop few is.word_is; ring_is = is.ring_is }
 
 -- a new edge has only zeros
-pub fresh_shows : (ring : ℕ) (cell : ℕ → ℕ) → ((i : ℕ) → cell i ≡ 0) → Shows ring 0 cell fresh_tail [] None
+pub fresh_shows : (ring : ℕ) (cell : ℕ → ℕ) → ((i : ℕ) → cell i ≡ 0) → WordsShow ring 0 cell fresh_tail [] None
 fresh_shows ring cell zeros = record { word_is = refl; ring_is = λ p lo hi. zeros (p % ring) }
 
 -- an edge that opens with one message has its count in cell 0
 pub first_shows : (ring count : ℕ) (cell : ℕ → ℕ) → 0 < ring → cell 0 ≡ count
-    → ((i : ℕ) → i < ring → i ≢ 0 → cell i ≡ 0) → Shows ring 1 cell (first_tail count) [] None
+    → ((i : ℕ) → i < ring → i ≢ 0 → cell i ≡ 0) → WordsShow ring 1 cell (first_tail count) [] None
 first_shows ring count cell some_ring here others = record { word_is = refl; ring_is = λ p lo hi. place p hi }
   where
     place : (p : ℕ) → p < 0 + ring → cell (p % ring) ≡ get_or (count ∷ []) p 0

@@ -64,14 +64,14 @@ take_on cell s = record s {
 
 -- one step. What its call does not allow changes nothing: a claim before the cell was seen empty or for a count out of
 -- range, and a take after 2 ^ 62 of them. Of a look and a put the tail itself says so (`may_clear`, `put_of`)
-abbrev pub step : EdgeStep → LiveEdge → LiveEdge
-step Clear s = record s { tail = tail_after_clear (slice_index s.cells (tail_cell s.tail)) s.tail }
-step (Claim count) s = if s.tail.clear && is_count count then claim_on count s else s
-step Put s = record s { cells = cells_after_store (put_of s.tail) s.cells; tail = tail_after_put s.tail }
-step Take s = if nat_lt s.head.taken (2 ^ 62) then take_on (slice_index s.cells (head_cell s.head)) s else s
-step Seal s = record s { word = bit_or s.word (2 ^ 63); stop = after_seal s.word s.stop }
+abbrev pub edge_step : EdgeStep → LiveEdge → LiveEdge
+edge_step Clear s = record s { tail = tail_after_clear (slice_index s.cells (tail_cell s.tail)) s.tail }
+edge_step (Claim count) s = if s.tail.clear && is_count count then claim_on count s else s
+edge_step Put s = record s { cells = cells_after_store (put_of s.tail) s.cells; tail = tail_after_put s.tail }
+edge_step Take s = if nat_lt s.head.taken (2 ^ 62) then take_on (slice_index s.cells (head_cell s.head)) s else s
+edge_step Seal s = record s { word = bit_or s.word (2 ^ 63); stop = after_seal s.word s.stop }
 
 -- a list of steps, the first one first
 abbrev pub steps : List EdgeStep → LiveEdge → LiveEdge
 steps [] s = s
-steps (x ∷ xs) s = steps xs (step x s)
+steps (x ∷ xs) s = steps xs (edge_step x s)

@@ -91,7 +91,7 @@ pub record Sound (ring : ℕ) (t : Tail) (got : List ℕ) (stop : Option ℕ) : 
 
 -- what the shared words show of it. The cells are given by places, from the next one to take on, as many as the ring
 -- has cells: each cell stands for one place, and holds its count if that message was put, else 0
-pub record Shows (ring word : ℕ) (cell : ℕ → ℕ) (t : Tail) (got : List ℕ) (stop : Option ℕ) : Type 0 where
+pub record WordsShow (ring word : ℕ) (cell : ℕ → ℕ) (t : Tail) (got : List ℕ) (stop : Option ℕ) : Type 0 where
   pub word_is : word ≡ word_of t stop
   pub ring_is : (p : ℕ) → length got ≤ p → p < length got + ring → cell (p % ring) ≡ slice_index t.put p
 

@@ -7,8 +7,8 @@ use Rattle.chip_link.specs.Ends.{head_after_take, message_taken}
 use Rattle.chip_link.specs.Edge.{LiveEdge, EdgeStep, Clear, Claim, Put, Take, Seal, new_edge, steps}
 
 -- by edge, place and count
-abbrev pub message_of : ℕ → ℕ → ℕ → Message
-message_of edge place count = record { edge = edge; place = place; count = count }
+abbrev pub worked_message : ℕ → ℕ → ℕ → Message
+worked_message edge place count = record { edge = edge; place = place; count = count }
 
 -- a message over a ring of one cell, and a second one that a seal refuses: what the tail answers at each call
 abbrev pub OneCellTail : Type 0
@@ -21,7 +21,7 @@ OneCellTail =
     let free : TailState = tail_after_clear 0 full in
     let refused : TailState = tail_after_claim (2 ^ 63 + 1) 5 free in
     (claim_words fresh ≡ None) × (may_clear fresh ≡ true) × (claim_words looked ≡ Some (0, 1))
-    × (message_claimed 0 2 looked ≡ Some (message_of 0 0 2))
+    × (message_claimed 0 2 looked ≡ Some (worked_message 0 0 2))
     × (may_clear sent ≡ false) × (tail_after_clear 0 sent ≡ sent) × (put_of sent ≡ Some (0, 2)) × (put_of put ≡ None)
     × (claim_words full ≡ None)
     × (claim_words free ≡ Some (1, 2)) × (message_claimed (2 ^ 63 + 1) 5 free ≡ None) × (claim_words refused ≡ None)
@@ -33,7 +33,7 @@ OneCellHead =
     let fresh : HeadState = new_head 0 1 in
     let one : HeadState = head_after_take 2 fresh in
     (message_taken 0 fresh ≡ None) × (head_after_take 0 fresh ≡ fresh)
-    × (message_taken 2 fresh ≡ Some (message_of 0 0 2)) × (message_taken 5 one ≡ Some (message_of 0 1 5))
+    × (message_taken 2 fresh ≡ Some (worked_message 0 0 2)) × (message_taken 5 one ≡ Some (worked_message 0 1 5))
 
 -- a tail that looks, claims one chip and puts it
 abbrev pub send_one : List EdgeStep → List EdgeStep
@@ -47,10 +47,10 @@ RingOfTwo =
     let full : LiveEdge = steps (Clear ∷ Claim 1 ∷ []) two in
     let three : LiveEdge = steps (Take ∷ send_one []) full in
     let drained : LiveEdge = steps (Take ∷ Take ∷ Take ∷ []) three in
-    let all : List Message = message_of 0 0 1 ∷ message_of 0 1 1 ∷ message_of 0 2 1 ∷ [] in
+    let all : List Message = worked_message 0 0 1 ∷ worked_message 0 1 1 ∷ worked_message 0 2 1 ∷ [] in
     (two.cells ≡ 1 ∷ 1 ∷ []) × (two.word ≡ 2) × (full.tail.clear ≡ false) × (full.claimed ≡ two.claimed)
     × (tail_cell full.tail ≡ 0)
-    × (three.word ≡ 3) × (three.cells ≡ 1 ∷ 1 ∷ []) × (three.taken ≡ message_of 0 0 1 ∷ [])
+    × (three.word ≡ 3) × (three.cells ≡ 1 ∷ 1 ∷ []) × (three.taken ≡ worked_message 0 0 1 ∷ [])
     × (drained.cells ≡ 0 ∷ 0 ∷ []) × (drained.claimed ≡ all) × (drained.taken ≡ all)
 
 -- a seal between a look and a claim: the claim is refused, and what was put before is still taken
@@ -58,5 +58,5 @@ abbrev pub SealedBetween : Type 0
 SealedBetween =
     let end : LiveEdge = steps (send_one (Clear ∷ Seal ∷ Claim 3 ∷ Put ∷ Clear ∷ Claim 3 ∷ Take ∷ Take ∷ Seal ∷ []))
     (new_edge 7 2) in
-    (end.word ≡ 2 ^ 63 + 1) × (end.stop ≡ Some 1) × (end.tail.refused ≡ true) × (end.claimed ≡ message_of 7 0 1 ∷ [])
-    × (end.taken ≡ message_of 7 0 1 ∷ [])
+    (end.word ≡ 2 ^ 63 + 1) × (end.stop ≡ Some 1) × (end.tail.refused ≡ true) × (end.claimed ≡ worked_message 7 0 1 ∷ [])
+    × (end.taken ≡ worked_message 7 0 1 ∷ [])

@@ -3,8 +3,8 @@
 use Rattle.chip_log.proofs.Names.{◌≡◌, ◌≢◌, ℕ, ◌+◌, ◌≤◌, ◌<◌, Bool, true, false, eqb, List, [], ◌∷◌, ◌++◌, length}
 use Rattle.chip_log.proofs.Names.{refl, ap, arith, ltb-true, ltb-false}
 use Rattle.chip_log.proofs.Names.{nil_from_length, ◌||◌, nat_lt, said_before, Passes, rows_at, said_at}
-use Rattle.chip_log.proofs.Names.{is_message_needed, is_needed, Keeps, steps_of, is_out, outs, ins, HasEnds, nat_tests}
-use Rattle.chip_log.proofs.Names.{is_in, AreInFlight, AreKept, AreBooks, TallyState, count, Books, LogRow, Step}
+use Rattle.chip_log.proofs.Names.{is_message_needed, is_needed, KeepsRow, steps_of, is_out, outs, ins, HasEnds, nat_tests}
+use Rattle.chip_log.proofs.Names.{is_in, AreInFlight, AreKept, AreBooksOf, TallyState, count, Books, LogRow, Step}
 use Rattle.chip_log.proofs.Names.{Out, Stream}
 use Rattle.chip_log.proofs.CountLemmas.{rows-append, same_stream_is}
 use Rattle.chip_log.proofs.MetLemmas.{same_self}
@@ -31,7 +31,7 @@ pass_flight pre x old new was passed = λ s.
 -- ---- rows that are kept
 
 pub kept_more : (kept : List LogRow) (x : LogRow) (old new : Books) → x.process < length old.said.items
-    → x.process < length old.rows.items → AreKept kept old → Keeps true x old new → AreKept (x ∷ kept) new
+    → x.process < length old.rows.items → AreKept kept old → KeepsRow true x old new → AreKept (x ∷ kept) new
 kept_more kept x old new within counted was keeps = record {
   taken = λ s. let a = keeps.taken s in let b = was.taken s in omega arith;
   sent = λ s. let a = keeps.sent s in let b = was.sent s in omega arith;
@@ -43,7 +43,7 @@ kept_more kept x old new within counted was keeps = record {
       let c = was.said q in rw keeps.said (grind (arith, nat_tests));
 }
 
-kept_same : (kept : List LogRow) (x : LogRow) (old new : Books) → AreKept kept old → Keeps false x old new → AreKept kept new
+kept_same : (kept : List LogRow) (x : LogRow) (old new : Books) → AreKept kept old → KeepsRow false x old new → AreKept kept new
 kept_same kept x old new was keeps = record {
   taken = λ s. let a = keeps.taken s in let b = was.taken s in omega arith;
   sent = λ s. let a = keeps.sent s in let b = was.sent s in omega arith;
@@ -56,16 +56,16 @@ kept_same kept x old new was keeps = record {
 module _ (log : List LogRow) (ends : HasEnds log) (p i : ℕ) (pre kept : List LogRow) (x : LogRow) (old new : Books)
     (claimer : old.claimer ≡ p) (within : x.process < length old.said.items) (counted : x.process < length old.rows.items)
     (split : IsSplit log ends p i (pre ++ x ∷ []) kept)
-    (was : AreBooks (pre ++ x ∷ []) kept old) (passes : Passes x.step old.flight new.flight) where
+    (was : AreBooksOf (pre ++ x ∷ []) kept old) (passes : Passes x.step old.flight new.flight) where
   flight : AreInFlight pre new.flight
   flight = pass_flight pre x old.flight new.flight was.flight passes
 
   -- the rows that are kept then
   abbrev Found : Type 0
   Found = (later : List LogRow)
-      × (IsSplit log ends p i pre later × AreBooks pre later new × (length later ≤ length kept + 1))
+      × (IsSplit log ends p i pre later × AreBooksOf pre later new × (length later ≤ length kept + 1))
 
-  kept_row : IsSplit log ends p i pre (x ∷ kept) → Keeps true x old new → Found
+  kept_row : IsSplit log ends p i pre (x ∷ kept) → KeepsRow true x old new → Found
   kept_row later keeps = (
     x ∷ kept,
     (later, record { flight = flight; keeps = kept_more kept x old new within counted was.keeps keeps }, omega arith),
@@ -86,11 +86,11 @@ module _ (log : List LogRow) (ends : HasEnds log) (p i : ℕ) (pre kept : List L
       (let a = ltb-false (count new.flight t) (count old.taken t) is in omega (arith, flight t, was.keeps.taken t))
   message_false _ is = λ s same. absurd (cc same)
 
-  pub looked : Keeps (is_needed x new.flight old) x old new → Found
+  pub looked : KeepsRow (is_needed x new.flight old) x old new → Found
   looked keeps = by_claimer (eqb x.process old.claimer) refl keeps
     where
       by_message : (c : Bool) → x.process ≢ p → steps_of x.process kept ≡ []
-          → is_message_needed new.flight old.taken x.step ≡ c → Keeps c x old new → Found
+          → is_message_needed new.flight old.taken x.step ≡ c → KeepsRow c x old new → Found
       by_message true ne none is keeps =
           let found = message_true x.step is in
           kept_row (keep_message log ends p i pre kept x split none found.0 found.1 found.2) keeps
@@ -104,7 +104,7 @@ module _ (log : List LogRow) (ends : HasEnds log) (p i : ℕ) (pre kept : List L
       )
 
       by_rows : (b : Bool) → x.process ≢ p → nat_lt 0 (rows_at old x.process) ≡ b
-          → Keeps (b || is_message_needed new.flight old.taken x.step) x old new → Found
+          → KeepsRow (b || is_message_needed new.flight old.taken x.step) x old new → Found
       by_rows true ne is keeps = kept_row (keep_other log ends p i pre kept x split (λ none.
           let a = ltb-true 0 (rows_at old x.process) is in let b = was.keeps.rows x.process in
           absurd (omega (arith, ap length none)))) keeps
@@ -113,7 +113,7 @@ module _ (log : List LogRow) (ends : HasEnds log) (p i : ℕ) (pre kept : List L
           (let a = ltb-false 0 (rows_at old x.process) is in let b = was.keeps.rows x.process in omega arith)) refl keeps
 
       by_claimer : (a : Bool) → eqb x.process old.claimer ≡ a
-          → Keeps (a || (nat_lt 0 (rows_at old x.process) || is_message_needed new.flight old.taken x.step)) x old new → Found
+          → KeepsRow (a || (nat_lt 0 (rows_at old x.process) || is_message_needed new.flight old.taken x.step)) x old new → Found
       by_claimer true is keeps = kept_row
           (keep_claimer log ends p i pre kept x split (grind (arith, nat_tests))) keeps
       by_claimer false is keeps = by_rows (nat_lt 0 (rows_at old x.process)) (λ e. grind (arith, nat_tests)) refl keeps

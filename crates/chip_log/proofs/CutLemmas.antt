@@ -4,7 +4,7 @@
 use Rattle.chip_log.proofs.Names.{◌≡◌, ◌≢◌, ℕ, zero, suc, ◌+◌, ◌≤◌, ◌<◌, Bool, true, false, ◌&&◌, List, [], ◌∷◌, ◌++◌}
 use Rattle.chip_log.proofs.Names.{length, refl, sym, ap, ◌∙◌, subst, arith, append-nil, append_assoc, length-append, ltb-true, inl}
 use Rattle.chip_log.proofs.Names.{inr, ◌⊎◌, dite, ℕ_discrete, dec_lt, steps_of, is_out, is_in, outs, ins}
-use Rattle.chip_log.proofs.Names.{begins_active, is_met, AreMet, IsInterleaving, HasEnds}
+use Rattle.chip_log.proofs.Names.{begins_active, is_enabled, AreEnabled, IsInterleaving, HasEnds}
 use Rattle.chip_log.proofs.Names.{IsSilent, IsBefore, IsPast, IsRight, IsVerdict, is_early, AreShown}
 use Rattle.chip_log.proofs.Names.{is_claim, is_over, is_over_at, count_steps, PastRows, LogRow, Stream, Step, Out, In, Active, Over}
 use Rattle.std.proofs.Common.{max, min, lt-ltb}
@@ -86,7 +86,7 @@ module _ (log : List LogRow) (ends : HasEnds log) (size : ℕ → ℕ → ℕ)
     (goes : (q n : ℕ) → (size q (n + 1) ≡ size q n) ⊎ ((size q n ≡ n) × (size q (n + 1) ≡ n + 1))) where
   pub record IsMade (pre acc : List LogRow) : Type 0 where
     pub first : AreFirst log acc
-    pub met : AreMet log [] acc
+    pub met : AreEnabled log [] acc
     pub sized : (q : ℕ) → rows q acc ≡ size q (rows q pre)
 
   -- a message that is got in the interleaving was sent in the list that was made
@@ -101,7 +101,7 @@ module _ (log : List LogRow) (ends : HasEnds log) (size : ℕ → ℕ → ℕ)
         → x.step ≡ step → steps_of x.process pre ≡ steps_of x.process acc
         → size x.process (rows x.process pre) ≡ rows x.process pre
         → size x.process (rows x.process pre + 1) ≡ rows x.process pre + 1
-        → is_met log pre x.process step ≡ true → is_met log acc x.process step ≡ true
+        → is_enabled log pre x.process step ≡ true → is_enabled log acc x.process step ≡ true
     met_there pre acc x (Out s) now made is same here on met = rw same at met
     met_there pre acc x (In s) now made is same here on met =
         lt-ltb (ins s acc) (outs s acc) (sent pre acc x s now made is here on (ltb-true (ins s pre) (outs s pre) met))
@@ -121,7 +121,7 @@ module _ (log : List LogRow) (ends : HasEnds log) (size : ℕ → ℕ → ℕ)
 
     -- a row that is taken
     takes : (pre acc : List LogRow) (x : LogRow) → AreFirst log (pre ++ x ∷ []) → IsMade pre acc
-        → is_met log pre x.process x.step ≡ true → size x.process (rows x.process pre) ≡ rows x.process pre
+        → is_enabled log pre x.process x.step ≡ true → size x.process (rows x.process pre) ≡ rows x.process pre
         → size x.process (rows x.process pre + 1) ≡ rows x.process pre + 1 → IsMade (pre ++ x ∷ []) (acc ++ x ∷ [])
     takes pre acc x now made met here on = record {
       first = next_first log pre acc x now made.first same;
@@ -139,7 +139,7 @@ module _ (log : List LogRow) (ends : HasEnds log) (size : ℕ → ℕ → ℕ)
             (let a = made.sized x.process in omega arith)
 
     -- all along
-    pub along : (pre xs acc : List LogRow) → AreFirst log (pre ++ xs) → AreMet log pre xs → IsMade pre acc
+    pub along : (pre xs acc : List LogRow) → AreFirst log (pre ++ xs) → AreEnabled log pre xs → IsMade pre acc
         → (more : List LogRow) × IsMade (pre ++ xs) (acc ++ more)
     along pre [] acc are met made = ([], rw (append-nil, append-nil) made)
     along pre (x ∷ xs) acc are met made =
@@ -179,7 +179,7 @@ module _ (log : List LogRow) (ends : HasEnds log) (pre : List LogRow) (x : LogRo
 -- ---- joined: first rows that were done go on to an interleaving, if there is one
 
 module _ (log : List LogRow) (ends : HasEnds log) (front : List LogRow) (first : AreFirst log front)
-    (met : AreMet log [] front) where
+    (met : AreEnabled log [] front) where
   abbrev longer : ℕ → ℕ → ℕ
   longer q n = max n (rows q front)
 
@@ -214,7 +214,7 @@ module _ (log : List LogRow) (ends : HasEnds log) (front : List LogRow) (first :
 -- ---- met: the rows of an interleaving that were done too
 
 module _ (log : List LogRow) (ends : HasEnds log) (part : List LogRow) (first : AreFirst log part)
-    (met : AreMet log [] part) where
+    (met : AreEnabled log [] part) where
   abbrev shorter : ℕ → ℕ → ℕ
   shorter q n = min n (rows q part)
 
@@ -244,7 +244,7 @@ module _ (log : List LogRow) (ends : HasEnds log) (part : List LogRow) (first : 
   none_first = record { left = λ p. steps_of p log; own = λ p. refl }
 
   pub done_too : (now rest : List LogRow) → IsInterleaving log (now ++ rest)
-      → (few : List LogRow) × AreFirst log few × AreMet log [] few
+      → (few : List LogRow) × AreFirst log few × AreEnabled log [] few
       × ((q : ℕ) → rows q few ≡ min (rows q now) (rows q part))
   done_too now rest whole =
       let all = first_front log now rest (whole_first log (now ++ rest) whole.whole) in
@@ -296,7 +296,7 @@ stands p i (x ∷ xs) e = dite (ℕ_discrete x.process p)
 -- ---- a part of a log: the claims in it have their least pasts there
 
 module _ (log : List LogRow) (ends : HasEnds log) (xs : List LogRow) (whole : IsInterleaving log xs) (part : List LogRow)
-    (first : AreFirst log part) (met : AreMet log [] part)
+    (first : AreFirst log part) (met : AreEnabled log [] part)
     (begins : (p : ℕ) → begins_active (steps_of p part) ≡ begins_active (steps_of p log)) where
   own_none : (test : Step → Bool) (q : ℕ) → count_steps test (steps_of q log) ≡ 0 → count_steps test (steps_of q part) ≡ 0
   own_none test q none =
@@ -310,7 +310,7 @@ module _ (log : List LogRow) (ends : HasEnds log) (xs : List LogRow) (whole : Is
     gets = λ s p far. own_none (is_in s) p (ends.gets s p far);
   }
 
-  as_part : (ys : List LogRow) → AreMet log [] ys → AreMet part [] ys
+  as_part : (ys : List LogRow) → AreEnabled log [] ys → AreEnabled part [] ys
   as_part ys = are_met_as log part (λ p. sym (begins p)) [] ys
 
   part_whole : IsInterleaving part part
@@ -430,5 +430,5 @@ cut_keeps_verdicts with_past log cut used xs c ends is most whole claimed judged
           ∙ ap (λ (zs : List Step). zs ++ is.missing p) (most.progress.own p) ∙ is.own p;
     }
 
-    met : AreMet log [] used
+    met : AreEnabled log [] used
     met = are_met_as cut log is.begins [] used most.progress.met

@@ -4,7 +4,7 @@ use Rattle.chip_log.proofs.Names.{◌≡◌, ℕ, ◌≤◌, ◌<◌, Bool, true
 use Rattle.chip_log.proofs.Names.{length-set, get_or_past, All-head, All-tail, slice_index_or}
 use Rattle.chip_log.proofs.Names.{slice_set, Option, Some, None, MatchBool, dite, dec_lt, said_before, said_of, IsOf}
 use Rattle.chip_log.proofs.Names.{said_by, basic, IsVerdict, stream_of, NoWay, IsFirstWay, first_step, begins_with}
-use Rattle.chip_log.proofs.Names.{AreBeginners, busy_at, is_busy, IsLeft, AreCounts, AreRowsOf, IsOpenEnd, AreShown}
+use Rattle.chip_log.proofs.Names.{AreBeginners, busy_at, is_busy, IsLeftOver, AreCounts, AreRowsOf, IsOpenEnd, AreShown}
 use Rattle.chip_log.proofs.Names.{steps_of, is_out, outs, ins, sends, nat_tests, active_after, begins_active, is_active}
 use Rattle.chip_log.proofs.Names.{AreKept, IsLog, Fits, FitsRow, AreSized, IsPastOf, Books, Said, PastRows, ClaimPlace}
 use Rattle.chip_log.proofs.Names.{Sizes, LogRow, Step, Out, In, Active, Over, Stream, Verdict}
@@ -110,7 +110,7 @@ module _ (log : List LogRow) (sizes : Sizes) (fits : Fits sizes log) (now : List
         rw (keeps.said q, made.begins q, active_said (begins_active (steps_of q log)) (steps_of q now))
         (busy_is (said_of (steps_of q now)) (steps_of q log))
 
-    pub left_is : (v : Verdict) → IsLeft sizes beginners b v → IsLeftBehind log now v
+    pub left_is : (v : Verdict) → IsLeftOver sizes beginners b v → IsLeftBehind log now v
     left_is verdict.Right left = record {
       quiet = no_way false left.0;
       passive = λ q. rw (← is_busy_is q) (dite (dec_lt q sizes.processes) (λ l. left.1 q l) (λ beyond.
@@ -147,7 +147,7 @@ module _ (log : List LogRow) (is : IsLog log) (sizes : Sizes) (fits : Fits sizes
       let e = count-append (is_out s) (steps_of (is.ends.sender s) past) (steps_of (is.ends.sender s) behind) in
       omega (arith, own_few (is_out s) (is.ends.sender s) log)
 
-  pub verdict_left : (v : Verdict) → IsLeft sizes beginners b v → IsVerdict log claim.process claim.row v
+  pub verdict_left : (v : Verdict) → IsLeftOver sizes beginners b v → IsVerdict log claim.process claim.row v
   verdict_left verdict.Right left = silent_is_right log is.ends claim.process claim.row past is_past.is_past
       (left_is log sizes fits past b is_past.keeps le few is_past.sized beginners made verdict.Right left)
   verdict_left v left =
@@ -178,14 +178,14 @@ module _ (log : List LogRow) (is : IsLog log) (sizes : Sizes) (fits : Fits sizes
   all_le : (s : Stream) → ins s log ≤ outs s log
   all_le s = met_le s log [] log is.met (omega arith)
 
-  pub end_left : (v : Verdict) → IsLeft sizes beginners b v → IsLeftBehind log log v
+  pub end_left : (v : Verdict) → IsLeftOver sizes beginners b v → IsLeftBehind log log v
   end_left v left = left_is log sizes fits log b keeps all_le (λ s. omega arith) sized beginners made v left
 
-  pub missed_end : IsLeft sizes beginners b verdict.Right → IsFirstWay true sizes.channels b None → IsOpenEnd log end.Missed
+  pub missed_end : IsLeftOver sizes beginners b verdict.Right → IsFirstWay true sizes.channels b None → IsOpenEnd log end.Missed
   missed_end left first =
       (end_left verdict.Right left, no_way log sizes fits log b keeps all_le (λ s. omega arith) true first)
 
-  pub unclaimed_end : (c : ℕ) → IsLeft sizes beginners b verdict.Right → IsFirstWay true sizes.channels b (Some c)
+  pub unclaimed_end : (c : ℕ) → IsLeftOver sizes beginners b verdict.Right → IsFirstWay true sizes.channels b (Some c)
       → IsOpenEnd log end.Unclaimed
   unclaimed_end c left first = (
     end_left verdict.Right left,

@@ -3,9 +3,9 @@
 use Rattle.chip_log.proofs.Names.{◌≡◌, ℕ, ◌+◌, ◌≤◌, ◌<◌, Bool, true, false, List, [], ◌∷◌, ◌++◌, length, get_or, refl}
 use Rattle.chip_log.proofs.Names.{ap, arith, append-nil, ◌-◌, ◌^◌, take, drop, ltb-true}
 use Rattle.chip_log.proofs.Names.{take_more, take-append-drop, drop_more, All-get_or, get_or_from_slice_get}
-use Rattle.chip_log.proofs.Names.{slice_get_within, Passes, is_needed, Keeps, HasMakeRoom, HasFlightRoom}
-use Rattle.chip_log.proofs.Names.{HasCountRoom, HasKeepRoom, HasRoom, steps_of, is_out, outs, ins, HasEnds, nat_tests}
-use Rattle.chip_log.proofs.Names.{is_in, is_met, AreMet, IsInOrder, AreInFlight, AreKept, AreBooks}
+use Rattle.chip_log.proofs.Names.{slice_get_within, Passes, is_needed, KeepsRow, HasMakeRoom, HasFlightRoom}
+use Rattle.chip_log.proofs.Names.{HasCountRoom, HasKeepRoom, HasRoomForRow, steps_of, is_out, outs, ins, HasEnds, nat_tests}
+use Rattle.chip_log.proofs.Names.{is_in, is_enabled, AreEnabled, IsInOrder, AreInFlight, AreKept, AreBooksOf}
 use Rattle.chip_log.proofs.Names.{IsLog, FitsRow, AreSized, IsPlace, TallyState, Books, ClaimPlace, Sizes, LogRow, Step}
 use Rattle.chip_log.proofs.Names.{Out, In, Over, Stream}
 use Rattle.chip_log.proofs.CountLemmas.{rows-append, rows_few}
@@ -51,10 +51,10 @@ module _ (log : List LogRow) (sizes : Sizes) (order : IsInOrder sizes log) where
     abbrev x : LogRow
     x = get_or log i d
 
-    met : AreMet log [] (pre ++ (x ∷ drop (i + 1) log))
+    met : AreEnabled log [] (pre ++ (x ∷ drop (i + 1) log))
     met = rw (rows_split log i d l) order.log.met
 
-    met_here : is_met log pre x.process x.step ≡ true
+    met_here : is_enabled log pre x.process x.step ≡ true
     met_here = (are_met_second log [] pre (x ∷ drop (i + 1) log) met).0
 
     pre_le : (s : Stream) → ins s pre ≤ outs s pre
@@ -74,8 +74,8 @@ module _ (log : List LogRow) (sizes : Sizes) (order : IsInOrder sizes log) where
         by (In s) e = let b = ltb-true (ins s pre) (outs s pre) (rw e at met_here) in omega (arith, was s)
         by _ e = tt
 
-    pub look_room : (kept : List LogRow) (b : Books) → AreSized sizes b → AreBooks (pre ++ x ∷ []) kept b
-        → length kept + 1 < 2 ^ 32 → HasRoom x b
+    pub look_room : (kept : List LogRow) (b : Books) → AreSized sizes b → AreBooksOf (pre ++ x ∷ []) kept b
+        → length kept + 1 < 2 ^ 32 → HasRoomForRow x b
     look_room kept b sized was short = record {
       flight = rw sized.flight fits_here.channel;
       in_flight = by x.step refl;
@@ -104,29 +104,29 @@ from_last log left d some within =
 module _ (log : List LogRow) (sizes : Sizes) (order : IsInOrder sizes log)
     (ends : HasEnds log) (p n left : ℕ) (d : LogRow) (some : 0 < left) (inside : left ≤ length log) (kept : List LogRow)
     (b : Books) (sized : AreSized sizes b) (split : IsSplit log ends p n (take left log) kept)
-    (was : AreBooks (take left log) kept b) (short : left + length kept ≤ length log) where
+    (was : AreBooksOf (take left log) kept b) (short : left + length kept ≤ length log) where
   abbrev row_here : LogRow
   row_here = get_or log (left - 1) d
 
   split_here : IsSplit log ends p n (take (left - 1) log ++ row_here ∷ []) kept
   split_here = rw (before_last log left d some inside) at split
 
-  books_here : AreBooks (take (left - 1) log ++ row_here ∷ []) kept b
+  books_here : AreBooksOf (take (left - 1) log ++ row_here ∷ []) kept b
   books_here = rw (before_last log left d some inside) at was
 
-  pub turn_room : HasRoom row_here b
+  pub turn_room : HasRoomForRow row_here b
   turn_room = look_room log sizes order (left - 1) d (omega arith) kept b sized books_here (omega arith)
 
   pub turn_looked : (new : Books) → b.claimer ≡ p → Passes row_here.step b.flight new.flight
-      → Keeps (is_needed row_here new.flight b) row_here b new
+      → KeepsRow (is_needed row_here new.flight b) row_here b new
       → (later : List LogRow) × (IsSplit log ends p n (take (left - 1) log) later
-      × AreBooks (take (left - 1) log) later new × (length later ≤ length kept + 1))
+      × AreBooksOf (take (left - 1) log) later new × (length later ≤ length kept + 1))
   turn_looked new claimer passes keeps = looked log ends p n (take (left - 1) log) kept row_here b new claimer
       turn_room.keep.process turn_room.keep.counted split_here books_here passes keeps
 
 -- books of the same sizes
 pub kept_sized : (sizes : Sizes) (needed : Bool) (x : LogRow) (old new : Books) → AreSized sizes old
-    → new.flight.channels ≡ old.flight.channels → Keeps needed x old new → AreSized sizes new
+    → new.flight.channels ≡ old.flight.channels → KeepsRow needed x old new → AreSized sizes new
 kept_sized sizes needed x old new sized flight keeps = omega arith
 
 -- where the look at rows begins

@@ -3,7 +3,7 @@
 use Rattle.chip_log.proofs.Names.{◌≡◌, ◌≢◌, ℕ, ◌+◌, ◌≤◌, ◌<◌, Bool, true, false, List, [], ◌∷◌, ◌++◌, refl, sym, ap}
 use Rattle.chip_log.proofs.Names.{arith, cond, append-nil, dite, ℕ_discrete, steps_of}
 use Rattle.chip_log.proofs.Names.{is_out, outs, ins, same_stream, sends, gets, count_steps, count_rows, nat_tests}
-use Rattle.chip_log.proofs.Names.{is_in, is_met, AreMet, LogRow, Step, Out, In, Stream}
+use Rattle.chip_log.proofs.Names.{is_in, is_enabled, AreEnabled, LogRow, Step, Out, In, Stream}
 use Rattle.chip_log.proofs.CountLemmas.{count-append, rows-append, steps_of-append, steps_own, steps_other}
 use Rattle.chip_log.proofs.CountLemmas.{steps_push_other}
 
@@ -50,7 +50,7 @@ pub record SameCounts (pre later : List LogRow) : Type 0 where
   pub counts : (test : Step → Bool) → count_rows test pre ≡ count_rows test later
 
 pub met_same : (log pre later : List LogRow) (p : ℕ) (step : Step) → SameCounts pre later
-    → is_met log pre p step ≡ is_met log later p step
+    → is_enabled log pre p step ≡ is_enabled log later p step
 met_same log pre later p (Out s) same = rw (same.steps p)
 met_same log pre later p (In s) same = rw (same.counts (is_in s), same.counts (is_out s))
 met_same log pre later p _ same = refl
@@ -61,7 +61,7 @@ same_push pre later x same = record {
   counts = λ test. simp (rows-append, same.counts);
 }
 
-pub are_met_same : (log pre later zs : List LogRow) → SameCounts pre later → AreMet log pre zs → AreMet log later zs
+pub are_met_same : (log pre later zs : List LogRow) → SameCounts pre later → AreEnabled log pre zs → AreEnabled log later zs
 are_met_same log pre later [] same met = tt
 are_met_same log pre later (z ∷ zs) same met = (
   rw (met_same log pre later z.process z.step same) at met.0,
@@ -78,8 +78,8 @@ swapped pre x y ne = record {
 
 -- ---- a row stays met behind a further row of another process, unless both get messages of one stream
 pub met_later : (log pre : List LogRow) (k : LogRow) (p : ℕ) (step : Step) → k.process ≢ p
-    → ((s : Stream) → is_in s step ≡ true → is_in s k.step ≡ false) → is_met log pre p step ≡ true
-    → is_met log (pre ++ k ∷ []) p step ≡ true
+    → ((s : Stream) → is_in s step ≡ true → is_in s k.step ≡ false) → is_enabled log pre p step ≡ true
+    → is_enabled log (pre ++ k ∷ []) p step ≡ true
 met_later log pre k p (Out s) ne apart met = rw (steps_push_other p pre k ne) met
 met_later log pre k p (In s) ne apart met =
     let b = push_no (is_in s) pre k (apart s (same_self s)) in let c = push_le (is_out s) pre k in
@@ -89,7 +89,7 @@ met_later log pre k p _ ne apart met = refl
 -- a row is met without a row of another process before it, unless it needs the message of that
 pub met_without : (log pre : List LogRow) (x : LogRow) (p : ℕ) (step : Step) → x.process ≢ p
     → ((s : Stream) → is_in s step ≡ true → is_out s x.step ≡ true → ins s pre < outs s pre)
-    → is_met log (pre ++ x ∷ []) p step ≡ true → is_met log pre p step ≡ true
+    → is_enabled log (pre ++ x ∷ []) p step ≡ true → is_enabled log pre p step ≡ true
 met_without log pre x p (Out s) ne there met = rw (steps_push_other p pre x ne) at met
 met_without log pre x p (In s) ne there met =
     let a = there s (same_self s) in let b = rows-append (is_out s) pre (x ∷ []) in let c = push_le (is_in s) pre x in
@@ -104,7 +104,7 @@ none_head p k ks none e = let a = steps_own p k ks e in cc
 pub move : (log pre ks rest : List LogRow) (x : LogRow) → steps_of x.process ks ≡ []
     → ((s : Stream) → is_in s x.step ≡ true → ins s ks ≡ 0)
     → ((s : Stream) → is_out s x.step ≡ true → ins s pre + ins s ks ≤ outs s pre)
-    → AreMet log pre (x ∷ (ks ++ rest)) → AreMet log pre (ks ++ x ∷ rest)
+    → AreEnabled log pre (x ∷ (ks ++ rest)) → AreEnabled log pre (ks ++ x ∷ rest)
 move log pre [] rest x none gets sends met = met
 move log pre (k ∷ ks) rest x none gets sends met = (
   met_without log pre x k.process k.step (λ e. ne (sym e))

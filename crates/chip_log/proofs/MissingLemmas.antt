@@ -3,7 +3,7 @@
 use Rattle.chip_log.proofs.Names.{◌≡◌, ◌≢◌, ℕ, suc, ◌+◌, ◌≤◌, Bool, true, false, cond, List, [], ◌∷◌, ◌++◌, length}
 use Rattle.chip_log.proofs.Names.{refl, sym, ap, subst, arith, append-nil, append_assoc, length-append, ltb-true}
 use Rattle.chip_log.proofs.Names.{nat_tests, dite, ℕ_discrete, steps_of, is_out, is_in, outs, ins, count_steps}
-use Rattle.chip_log.proofs.Names.{count_rows, active_after, begins_active, is_active, is_met, AreMet, IsInterleaving}
+use Rattle.chip_log.proofs.Names.{count_rows, active_after, begins_active, is_active, is_enabled, AreEnabled, IsInterleaving}
 use Rattle.chip_log.proofs.Names.{basic, IsSilent, IsRight, may_send, AreSent, LogRow, Stream, Step, Out, In, Passive}
 use Rattle.chip_log.proofs.Names.{Active, Over, HasEnds, ◌&&◌, ◌<◌}
 use Rattle.chip_log.proofs.CountLemmas.{count-append, steps_of-append, active_after-append}
@@ -305,7 +305,7 @@ module _ (stays : ℕ → ℕ → Bool) where
     met_here : (pre : List LogRow) (x : LogRow) (xs : List LogRow) (step : Step) (behind : List Step)
         → IsWhole (pre ++ x ∷ xs) → stays x.process (length (steps_of x.process pre)) ≡ true → x.step ≡ step
         → steps_of x.process (kept [] pre) ++ step ∷ behind ≡ steps_of x.process left
-        → is_met log pre x.process step ≡ true → is_met left (kept [] pre) x.process step ≡ true
+        → is_enabled log pre x.process step ≡ true → is_enabled left (kept [] pre) x.process step ≡ true
     met_here pre x xs (Out s) behind whole on same rows met =
         sent_at (begins_active (steps_of x.process left)) (steps_of x.process (kept [] pre)) (Out s) behind
         (subst (AreSent (begins_active (steps_of x.process left))) (sym rows) (is.sent x.process))
@@ -313,7 +313,7 @@ module _ (stays : ℕ → ℕ → Bool) where
         (got_sent pre x xs whole on s same (ltb-true (ins s pre) (outs s pre) met))
     met_here pre x xs _ behind whole on same rows met = refl
 
-    are_met : (pre xs : List LogRow) → IsWhole (pre ++ xs) → AreMet log pre xs → AreMet left (kept [] pre) (kept pre xs)
+    are_met : (pre xs : List LogRow) → IsWhole (pre ++ xs) → AreEnabled log pre xs → AreEnabled left (kept [] pre) (kept pre xs)
     are_met pre [] whole met = tt
     are_met pre (x ∷ xs) whole met =
         by (are_met (pre ++ x ∷ []) xs (rw append_assoc whole) met.1) (stays x.process (length (steps_of x.process pre))) refl
@@ -321,8 +321,8 @@ module _ (stays : ℕ → ℕ → Bool) where
         all : kept [] (pre ++ x ∷ xs) ≡ kept [] pre ++ kept pre (x ∷ xs)
         all = kept-append [] pre (x ∷ xs)
 
-        by : AreMet left (kept [] (pre ++ x ∷ [])) (kept (pre ++ x ∷ []) xs) → (b : Bool)
-            → stays x.process (length (steps_of x.process pre)) ≡ b → AreMet left (kept [] pre) (kept pre (x ∷ xs))
+        by : AreEnabled left (kept [] (pre ++ x ∷ [])) (kept (pre ++ x ∷ []) xs) → (b : Bool)
+            → stays x.process (length (steps_of x.process pre)) ≡ b → AreEnabled left (kept [] pre) (kept pre (x ∷ xs))
         by later true on = rw (kept_yes pre x xs on) (
           met_here pre x xs x.step (steps_of x.process (kept (pre ++ x ∷ []) xs)) whole on refl
               (rw (all, kept_yes pre x xs on, steps_of-append, steps_own x.process x (kept (pre ++ x ∷ []) xs) refl) at
@@ -485,17 +485,17 @@ right_without_rows stays log left p i ends is here right = right_here stays log 
 
 -- ---- the steps of each process in an interleaving
 
-sent_one : (log pre : List LogRow) (p : ℕ) (step : Step) → is_met log pre p step ≡ true
+sent_one : (log pre : List LogRow) (p : ℕ) (step : Step) → is_enabled log pre p step ≡ true
     → may_send (is_active log pre p) step ≡ true
 sent_one log pre p (Out s) met = met
 sent_one log pre p _ met = refl
 
-sent_by : (log : List LogRow) (p : ℕ) (pre xs : List LogRow) → AreMet log pre xs
+sent_by : (log : List LogRow) (p : ℕ) (pre xs : List LogRow) → AreEnabled log pre xs
     → AreSent (is_active log pre p) (steps_of p xs)
 sent_by log p pre [] met = tt
 sent_by log p pre (x ∷ xs) met = dite (ℕ_discrete x.process p)
     (λ e. rw (steps_own p x xs e) (
-      sent_one log pre p x.step (subst (λ (q : ℕ). is_met log pre q x.step ≡ true) e met.0),
+      sent_one log pre p x.step (subst (λ (q : ℕ). is_enabled log pre q x.step ≡ true) e met.0),
       rw (steps_push p pre x e, active_after-append) at (sent_by log p (pre ++ x ∷ []) xs met.1),
     ))
     (λ ne. rw (steps_other p x xs ne) (rw (steps_push_other p pre x ne) at (sent_by log p (pre ++ x ∷ []) xs met.1)))

@@ -3,7 +3,7 @@
 use Rattle.chip_log.proofs.Names.{◌≡◌, ℕ, ◌<◌, Bool, true, false, List, [], ◌∷◌, get_or, refl, sym, ap, ◌∙◌}
 use Rattle.chip_log.proofs.Names.{Option, Some, None, subst, arith, cond, suc, inl, inr, map, All-head, All-tail, All-cons, sum_by-le}
 use Rattle.chip_log.proofs.Names.{sum_by-cons, ◌&&◌, All, ◌⊎◌, AllPairs, ◌==◌, sum_by, dite, dec_lt, AreRowsOf}
-use Rattle.chip_log.proofs.Names.{IsOpenEnd, RowPlace, is_at, IsNoLater, is_early, IsJudged, NoneRight, IsEnd, place_of}
+use Rattle.chip_log.proofs.Names.{IsOpenEnd, RowPlace, is_at, IsNoLater, is_early, IsJudged, NoneRight, IsEnd, claim_place}
 use Rattle.chip_log.proofs.Names.{AreClaims, IsJudgedLog, rows_for, told_of, AreShown, steps_of, HasEnds, nat_tests}
 use Rattle.chip_log.proofs.Names.{IsSooner, IsFirst, IsFirstEarly, option_map}
 use Rattle.chip_log.proofs.Names.{ClaimVerdict, JudgedLog, LogEnd, PastRows, LogRow, Verdict}
@@ -126,10 +126,10 @@ one_order log xs ys are other = same_list (λ x y. one_at x.process x.row y) IsS
 -- ---- what is told
 
 module _ (log : List LogRow) (ends : HasEnds log) (w : Bool) where
-  one_told : (c d : ClaimVerdict) → place_of c ≡ place_of d → IsJudged w log c → IsJudged w log d → told_of c ≡ told_of d
+  one_told : (c d : ClaimVerdict) → claim_place c ≡ claim_place d → IsJudged w log c → IsJudged w log d → told_of c ≡ told_of d
   one_told c d e a b = λ j. (e j, verdict_is j, past_is (w && is_early c.verdict) a.past shown j)
     where
-      there : IsJudgedAs w log d.verdict d.past.items (place_of c)
+      there : IsJudgedAs w log d.verdict d.past.items (claim_place c)
       there = subst (IsJudgedAs w log d.verdict d.past.items) (sym e) (b.verdict, b.past)
 
       verdict_is : c.verdict ≡ d.verdict
@@ -143,14 +143,14 @@ module _ (log : List LogRow) (ends : HasEnds log) (w : Bool) where
       past_is true m n = one_past m.0 n.0 c.past.items d.past.items (same_steps log ends c.process c.row m.0 n.0 m.1 n.1) m.2 n.2
       past_is false m n = m ∙ sym n
 
-  all_told : (xs ys : List ClaimVerdict) → map place_of xs ≡ map place_of ys → All (IsJudged w log) xs
+  all_told : (xs ys : List ClaimVerdict) → map claim_place xs ≡ map claim_place ys → All (IsJudged w log) xs
       → All (IsJudged w log) ys → map told_of xs ≡ map told_of ys
   all_told [] [] same each more = refl
   all_told [] (y ∷ ys) same each more = absurd (cc same)
   all_told (x ∷ xs) [] same each more = absurd (cc same)
   all_told (x ∷ xs) (y ∷ ys) same each more =
-      let first : place_of x ≡ place_of y = cc same in
-      let others : map place_of xs ≡ map place_of ys = cc same in
+      let first : claim_place x ≡ claim_place y = cc same in
+      let others : map claim_place xs ≡ map claim_place ys = cc same in
       let e = one_told x y first (All-head (IsJudged w log) x xs each) (All-head (IsJudged w log) y ys more) in
       let rest = all_told xs ys others (All-tail (IsJudged w log) x xs each) (All-tail (IsJudged w log) y ys more) in
       λ j. e j ∷ rest j
@@ -200,7 +200,7 @@ pub one_judgment : (w : Bool) (log : List LogRow) (one two : JudgedLog) → HasE
     → IsJudgedLog w log two → (map told_of one.claims.items ≡ map told_of two.claims.items) × (one.end ≡ two.end)
 one_judgment w log one two ends a b = (
   all_told log ends w one.claims.items two.claims.items
-      (one_order log (map place_of one.claims.items) (map place_of two.claims.items) a.claims.all b.claims.all)
+      (one_order log (map claim_place one.claims.items) (map claim_place two.claims.items) a.claims.all b.claims.all)
       a.claims.each b.claims.each,
   one_end log one.end two.end a.end b.end,
 )
@@ -209,13 +209,13 @@ one_judgment w log one two ends a b = (
 
 module _ (w : Bool) (log : List LogRow) (ends : HasEnds log) where
   -- the first early claim is not behind another one
-  not_behind : (c d : ClaimVerdict) → IsFirst w log c → IsFirst w log d → IsSooner (place_of d) (place_of c) → ⊥
+  not_behind : (c d : ClaimVerdict) → IsFirst w log c → IsFirst w log d → IsSooner (claim_place d) (claim_place c) → ⊥
   not_behind c d first other sooner =
       let right = first.before d.process d.row other.claim sooner in
       let e = one_verdict log ends d.process d.row d.verdict verdict.Right other.judged.verdict right in
       let f = other.early in cc
 
-  one_early : (c d : ClaimVerdict) → IsFirst w log c → IsFirst w log d → place_of c ≡ place_of d
+  one_early : (c d : ClaimVerdict) → IsFirst w log c → IsFirst w log d → claim_place c ≡ claim_place d
   one_early c d first other = λ j. record { process = e j; row = row j }
     where
       e : c.process ≡ d.process

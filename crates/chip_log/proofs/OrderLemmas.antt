@@ -5,8 +5,8 @@ use Rattle.chip_log.proofs.Names.{ap, arith, cond, append-nil, ◌^◌, append_a
 use Rattle.chip_log.proofs.Names.{length-append, drop_more, take_more}
 use Rattle.chip_log.proofs.Names.{append_cancel_left, nil_from_length, drop_all, All-get_or, Some, None, dite, dec_lt}
 use Rattle.chip_log.proofs.Names.{steps_of, is_out, outs, ins, HasEnds, sends, gets, nat_tests}
-use Rattle.chip_log.proofs.Names.{is_in, is_met, IsInterleaving, IsWellFormed, IsProgress}
-use Rattle.chip_log.proofs.Names.{IsGreatest, IsStuck, is_there, IsReady, Reads, IsKept, GoesOn, IsSettled, IsFirstLeft}
+use Rattle.chip_log.proofs.Names.{is_in, is_enabled, IsInterleaving, IsWellFormed, IsProgress}
+use Rattle.chip_log.proofs.Names.{IsGreatest, IsStuck, is_there, IsReady, Reads, IsOrderKept, OrderGoesOn, IsOrderBlocked, IsFirstLeft}
 use Rattle.chip_log.proofs.Names.{FitsRow, queue_of, total, Order, Sizes, LogRow, Step, Out, In, Stream}
 use Rattle.chip_log.proofs.PrefixLemmas.{same_beginning}
 use Rattle.chip_log.proofs.CountLemmas.{longer_counts, steps_of-append, steps_push, first_own}
@@ -16,7 +16,7 @@ use Rattle.chip_log.proofs.LeftLemmas.{one_number}
 use Rattle.chip_log.proofs.QueuesLemmas.{total_le}
 use Rattle.chip_log.proofs.OrderingLemmas.{read_more, read_ready, read_keeps}
 
-module _ (sizes : Sizes) (log : List LogRow) (o : Order) (ready : IsReady sizes o) (kept : IsKept log [] o) where
+module _ (sizes : Sizes) (log : List LogRow) (o : Order) (ready : IsReady sizes o) (kept : IsOrderKept log [] o) where
   own : (p : ℕ) → steps_of p o.done.items ++ queue_of o.queues p ≡ steps_of p log
   own p = rw (append-nil (queue_of o.queues p)) at (kept.own p)
 
@@ -26,8 +26,8 @@ module _ (sizes : Sizes) (log : List LogRow) (o : Order) (ready : IsReady sizes 
   pub whole_order : IsFirstLeft o None → IsInterleaving log o.done.items
   whole_order none = record { whole = λ p. all_done p (none p); met = kept.met }
 
-  module _ (settled : IsSettled o) where
-    not_met : (p : ℕ) (step : Step) → is_there o.flight step ≡ false → is_met log o.done.items p step ≡ false
+  module _ (settled : IsOrderBlocked o) where
+    not_met : (p : ℕ) (step : Step) → is_there o.flight step ≡ false → is_enabled log o.done.items p step ≡ false
     not_met p (In s) off = let b = ready.flight s in grind (arith, nat_tests)
     not_met p _ off = absurd (cc off)
 
@@ -50,7 +50,7 @@ module _ (sizes : Sizes) (log : List LogRow) (o : Order) (ready : IsReady sizes 
 pub record IsSoFar (sizes : Sizes) (log : List LogRow) (n : ℕ) (o : Order) : Type 0 where
   pub ready : IsReady sizes o
   pub few : length o.done.items + total o.queues ≤ n
-  pub kept : IsKept log (drop n log) o
+  pub kept : IsOrderKept log (drop n log) o
 
 pub row_fits : (sizes : Sizes) (log : List LogRow) → IsWellFormed sizes log → (n : ℕ) (d : LogRow) → n < length log
     → FitsRow sizes (get_or log n d)
@@ -64,7 +64,7 @@ module _ (sizes : Sizes) (log : List LogRow) (well : IsWellFormed sizes log) (sh
   pub now_ready : IsReady sizes new
   now_ready = read_ready sizes (get_or log n d) old new was.ready reads (row_fits sizes log well n d l) room
 
-  pub read_on : (later : Order) → GoesOn sizes new later → IsSoFar sizes log (n + 1) later
+  pub read_on : (later : Order) → OrderGoesOn sizes new later → IsSoFar sizes log (n + 1) later
   read_on later on = record {
     ready = on.ready;
     few = omega (arith, read_more sizes (get_or log n d) old new was.ready reads (row_fits sizes log well n d l) room);
@@ -85,7 +85,7 @@ none_read sizes log o ready none zero_left = record {
 }
 
 pub all_read : (sizes : Sizes) (log : List LogRow) → IsWellFormed sizes log → (n : ℕ) → length log ≤ n
-    → (o later : Order) → IsSoFar sizes log n o → GoesOn sizes o later → IsKept log [] later
+    → (o later : Order) → IsSoFar sizes log n o → OrderGoesOn sizes o later → IsOrderKept log [] later
 all_read sizes log well n past o later was on =
     rw (drop_all n log past) at (on.keeps log (drop n log) well.sent was.kept)
 
@@ -107,7 +107,7 @@ module _ (log : List LogRow) (ends : HasEnds log) (used : List LogRow) (is : IsP
 module _ (log : List LogRow) (ends : HasEnds log) (used : List LogRow) (most : IsGreatest log used) where
   -- another progress, up to a row that is met, with no more rows of any process before it
   module _ (pre : List LogRow) (x : LogRow) (other : IsProgress log (pre ++ x ∷ []))
-      (before : IsProgress log pre) (met : is_met log pre x.process x.step ≡ true)
+      (before : IsProgress log pre) (met : is_enabled log pre x.process x.step ≡ true)
       (fewer : (p : ℕ) → length (steps_of p pre) ≤ length (steps_of p used)) where
     abbrev q : ℕ
     q = x.process
@@ -131,7 +131,7 @@ module _ (log : List LogRow) (ends : HasEnds log) (used : List LogRow) (most : I
       receiver_is s e = owner_is (is_in s) (ends.receiver s) q log (steps_of q pre) x.step behind (ends.gets s) goes_on
           (rw e (same_self s))
 
-      still_met : (step : Step) → x.step ≡ step → is_met log pre q step ≡ true → is_met log used q step ≡ true
+      still_met : (step : Step) → x.step ≡ step → is_enabled log pre q step ≡ true → is_enabled log used q step ≡ true
       still_met (Out s) e was = rw same at was
       still_met (In s) e was =
           let b = used_ins log ends pre before s in let c = used_ins log ends used most.progress s in

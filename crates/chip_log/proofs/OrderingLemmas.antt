@@ -4,9 +4,9 @@ use Rattle.chip_log.proofs.Names.{◌≡◌, ℕ, ◌+◌, ◌≤◌, ◌<◌, B
 use Rattle.chip_log.proofs.Names.{ap, arith, cond, append-nil, length-set, ◌^◌, append_assoc, drop}
 use Rattle.chip_log.proofs.Names.{length-append, All-head, All-tail, All-push, All-nil}
 use Rattle.chip_log.proofs.Names.{All-cons, All-append, Some, None, All, AgendaState, IsOf, steps_of, is_out}
-use Rattle.chip_log.proofs.Names.{nat_tests, active_after, begins_active, is_met, may_send, AreSent, is_there}
-use Rattle.chip_log.proofs.Names.{IsReady, Reads, IsKept, GoesOn, IsNext, Makes, FitsRow, queue_of, total}
-use Rattle.chip_log.proofs.Names.{head_of, count, Order, Sizes, LogRow, Step, Out, In, Stream, rules}
+use Rattle.chip_log.proofs.Names.{nat_tests, active_after, begins_active, is_enabled, may_send, AreSent, is_there}
+use Rattle.chip_log.proofs.Names.{IsReady, Reads, IsOrderKept, OrderGoesOn, IsNextStep, MakesNextStep, FitsRow, queue_of, total}
+use Rattle.chip_log.proofs.Names.{step_in_front, count, Order, Sizes, LogRow, Step, Out, In, Stream, rules}
 use Rattle.chip_log.proofs.CountLemmas.{rows_few, steps_of-append, active_after-append}
 use Rattle.chip_log.proofs.PastLemmas.{are_met_both}
 use Rattle.chip_log.proofs.BooksLemmas.{make_flight}
@@ -56,7 +56,7 @@ module _ (sizes : Sizes) (x : LogRow) (old new : Order) (ready : IsReady sizes o
     few = omega (arith, read_more);
   }
 
-  pub read_keeps : (log unread : List LogRow) → IsKept log (x ∷ unread) old → IsKept log unread new
+  pub read_keeps : (log unread : List LogRow) → IsOrderKept log (x ∷ unread) old → IsOrderKept log unread new
   read_keeps log unread kept = record {
     own = λ q. rw (reads.done, queue_read q, append_assoc, ← steps_of-append q (x ∷ []) unread) (kept.own q);
     met = rw reads.done kept.met;
@@ -66,7 +66,7 @@ module _ (sizes : Sizes) (x : LogRow) (old new : Order) (ready : IsReady sizes o
 
 module _ (sizes : Sizes) (old new : Order) (p : ℕ) (step : Step) (later : List Step) (ready : IsReady sizes old)
     (inside : p < sizes.processes) (next : queue_of old.queues p ≡ step ∷ later) (there : is_there old.flight step ≡ true)
-    (makes : Makes p step old new) where
+    (makes : MakesNextStep p step old new) where
   abbrev row : LogRow
   row = record { process = p; step = step }
 
@@ -104,24 +104,24 @@ module _ (sizes : Sizes) (old new : Order) (p : ℕ) (step : Step) (later : List
   }
 
   module _ (log unread : List LogRow) (sent : (q : ℕ) → AreSent (begins_active (steps_of q log)) (steps_of q log))
-      (kept : IsKept log unread old) where
+      (kept : IsOrderKept log unread old) where
     own_log : steps_of p old.done.items ++ (step ∷ (later ++ steps_of p unread)) ≡ steps_of p log
     own_log = rw next at (kept.own p)
 
-    is_met_now : is_met log old.done.items p step ≡ true
+    is_met_now : is_enabled log old.done.items p step ≡ true
     is_met_now =
         let a = sent_at (begins_active (steps_of p log)) (steps_of p old.done.items) step (later ++ steps_of p unread)
         (rw own_log (sent p)) in
         let b = ready.flight in grind (arith, nat_tests)
 
-    made_keeps : IsKept log unread new
+    made_keeps : IsOrderKept log unread new
     made_keeps = record {
       own = λ q. rw makes.done
           (simp (steps_of-append, append_assoc) (simp (← queue_made q, append_assoc) at (kept.own q)));
       met = rw makes.done (are_met_both log [] old.done.items (row ∷ []) kept.met (is_met_now, tt));
     }
 
-  pub made : GoesOn sizes old new
+  pub made : OrderGoesOn sizes old new
   made = record {
     ready = made_ready;
     same = omega (arith, one_fewer, one_more);
@@ -133,7 +133,7 @@ module _ (sizes : Sizes) (old new : Order) (p : ℕ) (step : Step) (later : List
   pub made_fewer : total new.queues < total old.queues
   made_fewer = omega (arith, one_fewer)
 
-pub GoesOn-trans : (sizes : Sizes) (a b c : Order) → GoesOn sizes a b → GoesOn sizes b c → GoesOn sizes a c
+pub GoesOn-trans : (sizes : Sizes) (a b c : Order) → OrderGoesOn sizes a b → OrderGoesOn sizes b c → OrderGoesOn sizes a c
 GoesOn-trans sizes a b c first second = record {
   ready = second.ready;
   same = omega arith;
@@ -145,33 +145,33 @@ GoesOn-trans sizes a b c first second = record {
 -- only the agenda changes
 pub looks : (sizes : Sizes) (o : Order) (agenda : AgendaState) → IsReady sizes o → agenda.processes ≡ o.agenda.processes
     → agenda.channels ≡ o.agenda.channels → agenda.due ≤ o.agenda.due
-    → GoesOn sizes o (record { done = o.done; flight = o.flight; queues = o.queues; agenda = agenda })
+    → OrderGoesOn sizes o (record { done = o.done; flight = o.flight; queues = o.queues; agenda = agenda })
 looks sizes o agenda ready processes channels due = search (rules, arith)
 
-pub stays : (sizes : Sizes) (o : Order) → IsReady sizes o → GoesOn sizes o o
+pub stays : (sizes : Sizes) (o : Order) → IsReady sizes o → OrderGoesOn sizes o o
 stays sizes o ready = search (rules, arith)
 
 -- ---- the next step of a process
 
-pub head_some : (steps : List Step) (step : Step) → Some step ≡ head_of steps → (later : List Step) × (steps ≡ step ∷ later)
+pub head_some : (steps : List Step) (step : Step) → Some step ≡ step_in_front steps → (later : List Step) × (steps ≡ step ∷ later)
 head_some [] step is = absurd (cc is)
 head_some (first ∷ later) step is = (later, cc)
 
-pub head_none : (steps : List Step) → None ≡ head_of steps → steps ≡ []
+pub head_none : (steps : List Step) → None ≡ step_in_front steps → steps ≡ []
 head_none steps is = grind arith
 
 -- it has one next step
-pub one_next : (o : Order) (p : ℕ) (step other : Step) → Some step ≡ head_of (queue_of o.queues p) → IsNext o p other
+pub one_next : (o : Order) (p : ℕ) (step other : Step) → Some step ≡ step_in_front (queue_of o.queues p) → IsNextStep o p other
     → other ≡ step
 one_next o p step other is next = let e = next.1 in cc
 
-pub no_next : (o : Order) (p : ℕ) (step : Step) → queue_of o.queues p ≡ [] → IsNext o p step → ⊥
+pub no_next : (o : Order) (p : ℕ) (step : Step) → queue_of o.queues p ≡ [] → IsNextStep o p step → ⊥
 no_next o p step none next = let e = next.1 in cc
 
-pub some_left : (steps : List Step) (step : Step) → Some step ≡ head_of steps → 0 < length steps
+pub some_left : (steps : List Step) (step : Step) → Some step ≡ step_in_front steps → 0 < length steps
 some_left steps step is = grind arith
 
-module _ (sizes : Sizes) (o : Order) (ready : IsReady sizes o) (p : ℕ) (step : Step) (next : IsNext o p step) where
+module _ (sizes : Sizes) (o : Order) (ready : IsReady sizes o) (p : ℕ) (step : Step) (next : IsNextStep o p step) where
   pub next_of : IsOf sizes.channels step
   next_of = All-head (IsOf sizes.channels) step next.0 (rw next.1 at (ready.fits p))
 

@@ -3,7 +3,7 @@
 use Rattle.chip_log.proofs.Names.{◌≡◌, ◌≢◌, ℕ, ◌+◌, ◌≤◌, ◌<◌, Bool, true, List, [], ◌∷◌, ◌++◌, length, refl, sym}
 use Rattle.chip_log.proofs.Names.{ap, arith, append-nil, append_assoc, length-append, inl, inr}
 use Rattle.chip_log.proofs.Names.{◌⊎◌, dite, ℕ_discrete, dec_lt, IsPast, IsBefore, steps_of, is_out, outs, ins, HasEnds}
-use Rattle.chip_log.proofs.Names.{sends, gets, count_steps, is_in, is_met, AreMet, IsInterleaving, LogRow, Step, Out}
+use Rattle.chip_log.proofs.Names.{sends, gets, count_steps, is_in, is_enabled, AreEnabled, IsInterleaving, LogRow, Step, Out}
 use Rattle.chip_log.proofs.Names.{In, Over, Stream, cond, nat_tests}
 use Rattle.chip_log.proofs.CountLemmas.{count-append, rows-append, steps_of-append, steps_own, steps_other, own_few}
 use Rattle.chip_log.proofs.CountLemmas.{all_own, own-append, longer_counts, first_own, same_stream_is, without}
@@ -12,27 +12,27 @@ use Rattle.chip_log.proofs.MetLemmas.{owner_is, push_le, same_self, move}
 
 -- ---- lists in which each row is met
 
-pub are_met_first : (log pre xs ys : List LogRow) → AreMet log pre (xs ++ ys) → AreMet log pre xs
+pub are_met_first : (log pre xs ys : List LogRow) → AreEnabled log pre (xs ++ ys) → AreEnabled log pre xs
 are_met_first log pre [] ys met = tt
 are_met_first log pre (x ∷ xs) ys met = (met.0, are_met_first log (pre ++ x ∷ []) xs ys met.1)
 
-pub are_met_second : (log pre xs ys : List LogRow) → AreMet log pre (xs ++ ys) → AreMet log (pre ++ xs) ys
+pub are_met_second : (log pre xs ys : List LogRow) → AreEnabled log pre (xs ++ ys) → AreEnabled log (pre ++ xs) ys
 are_met_second log pre [] ys met = rw append-nil met
 are_met_second log pre (x ∷ xs) ys met = rw append_assoc at (are_met_second log (pre ++ x ∷ []) xs ys met.1)
 
-pub are_met_both : (log pre xs ys : List LogRow) → AreMet log pre xs → AreMet log (pre ++ xs) ys → AreMet log pre (xs ++ ys)
+pub are_met_both : (log pre xs ys : List LogRow) → AreEnabled log pre xs → AreEnabled log (pre ++ xs) ys → AreEnabled log pre (xs ++ ys)
 are_met_both log pre [] ys first second = rw append-nil at second
 are_met_both log pre (x ∷ xs) ys first second =
     (first.0, are_met_both log (pre ++ x ∷ []) xs ys first.1 (rw append_assoc second))
 
 -- a row that is met gets no message that was not sent
-met_in : (s : Stream) (log pre : List LogRow) (p : ℕ) (step : Step) → is_met log pre p step ≡ true
+met_in : (s : Stream) (log pre : List LogRow) (p : ℕ) (step : Step) → is_enabled log pre p step ≡ true
     → ins s pre ≤ outs s pre → ins s pre + cond (is_in s step) 1 0 ≤ outs s pre
 met_in s log pre p (In t) met le = grind (arith, nat_tests, same_stream_is)
 met_in s log pre p _ met le = omega arith
 
 -- no more messages are got than sent
-pub met_le : (s : Stream) (log pre xs : List LogRow) → AreMet log pre xs → ins s pre ≤ outs s pre
+pub met_le : (s : Stream) (log pre xs : List LogRow) → AreEnabled log pre xs → ins s pre ≤ outs s pre
     → ins s (pre ++ xs) ≤ outs s (pre ++ xs)
 met_le s log pre [] met le = rw append-nil le
 met_le s log pre (x ∷ xs) met le = rw append_assoc at (met_le s log (pre ++ x ∷ []) xs met.1
@@ -53,7 +53,7 @@ module _ (log : List LogRow) (ends : HasEnds log) (now rest : List LogRow) (is :
   pub rest_of : (q : ℕ) → steps_of q now ++ steps_of q rest ≡ steps_of q log
   rest_of q = rw steps_of-append at (is.whole q)
 
-  pub now_met : AreMet log [] now
+  pub now_met : AreEnabled log [] now
   now_met = are_met_first log [] now rest is.met
 
   pub now_le : (s : Stream) → ins s now ≤ outs s now
@@ -103,7 +103,7 @@ module _ (log : List LogRow) (ends : HasEnds log) (p i : ℕ) where
     whole : (q : ℕ) → steps_of q pre ++ steps_of q (x ∷ (through ++ after)) ≡ steps_of q log
     whole q = rw (all_rows, steps_of-append) at (split.before.whole.whole q)
 
-    met : AreMet log [] (pre ++ (x ∷ (through ++ after)))
+    met : AreEnabled log [] (pre ++ (x ∷ (through ++ after)))
     met = rw all_rows at split.before.whole.met
 
     counted_part : (test : Step → Bool) (q : ℕ)
@@ -134,7 +134,7 @@ module _ (log : List LogRow) (ends : HasEnds log) (p i : ℕ) where
         spared : (s : Stream) → is_out s x.step ≡ true → ins s pre + ins s through ≤ outs s pre
         spared s is = let a = spares s is in let b = rows-append (is_in s) kept (claim ∷ []) in omega arith
 
-        moved : AreMet log pre (through ++ x ∷ after)
+        moved : AreEnabled log pre (through ++ x ∷ after)
         moved = move log pre through after x none_through none_got spared (are_met_second log [] pre (x ∷ (through ++ after)) met)
 
         now : (pre ++ kept) ++ claim ∷ (x ∷ after) ≡ pre ++ (through ++ x ∷ after)
@@ -144,7 +144,7 @@ module _ (log : List LogRow) (ends : HasEnds log) (p i : ℕ) where
         whole_now q = rw (now, steps_of-append q pre (through ++ x ∷ after), steps_moved q x through after none_through)
             (whole q)
 
-        met_now : AreMet log [] ((pre ++ kept) ++ claim ∷ (x ∷ after))
+        met_now : AreEnabled log [] ((pre ++ kept) ++ claim ∷ (x ∷ after))
         met_now = rw now
             (are_met_both log [] pre (through ++ x ∷ after) (are_met_first log [] pre (x ∷ (through ++ after)) met) moved)
 

@@ -6,7 +6,7 @@ use Rattle.chip_log.proofs.Names.{take_more, get_or-map, length-map, map-append,
 use Rattle.chip_log.proofs.Names.{Any-from_list_any, list_any_at, sum_by-le, get_or-le-sum_by, list_any, ◌&&◌, not, All}
 use Rattle.chip_log.proofs.Names.{dite, ℕ_discrete, dec_lt, IsVerdict, IsSilent, IsRight, place_at, ArePlaces, IsKnown}
 use Rattle.chip_log.proofs.Names.{Judges, IsOpenEnd, is_over, is_over_at, is_claim, RowPlace, is_at}
-use Rattle.chip_log.proofs.Names.{is_early, IsJudged, NoneRight, IsEnd, place_of, AreJudged, AreShown}
+use Rattle.chip_log.proofs.Names.{is_early, IsJudged, NoneRight, IsEnd, claim_place, AreJudged, AreShown}
 use Rattle.chip_log.proofs.Names.{steps_of, HasEnds, IsInterleaving, IsLog, IsPlace, ClaimVerdict, LogEnd, PastRows}
 use Rattle.chip_log.proofs.Names.{ClaimPlace, LogRow, Step, Over, Verdict}
 use Rattle.chip_log.proofs.CountLemmas.{steps_of-append, steps_own, steps_other}
@@ -115,16 +115,16 @@ module _ (log : List LogRow) (ends : HasEnds log) (w : Bool) where
   is_right claim = not (is_early claim.verdict)
 
   -- no other verdict is on a right claim
-  right_here : (c : ClaimVerdict) → IsJudged w log c → (p i : ℕ) → IsRight log p i → is_at p i (place_of c) ≡ true
+  right_here : (c : ClaimVerdict) → IsJudged w log c → (p i : ℕ) → IsRight log p i → is_at p i (claim_place c) ≡ true
       → is_early c.verdict ≡ false
   right_here c judged p i right at =
-      let place = at_is p i (place_of c) at in
+      let place = at_is p i (claim_place c) at in
       rw (one_verdict log ends p i c.verdict verdict.Right (rw (place.0, place.1) at judged.verdict) right)
 
   pub none_right : (claims : List ClaimVerdict) → AreJudged w log claims → list_any is_right claims ≡ false → NoneRight log
   none_right claims judged none p i is right =
       let a = judged.all.once p i in
-      let b = sum_by-le (one_at p i) 0 (map place_of claims) (All-map (λ x. one_at p i x ≤ 0) place_of claims (λ k d inside.
+      let b = sum_by-le (one_at p i) 0 (map claim_place claims) (All-map (λ x. one_at p i x ≤ 0) claim_place claims (λ k d inside.
       let e = right_here (get_or claims k d) (judged.each k d inside) p i right in
       let f = list_any_at is_right claims k d inside in
       grind arith)) in
@@ -135,10 +135,10 @@ module _ (log : List LogRow) (ends : HasEnds log) (w : Bool) where
   is_one : (claims : List ClaimVerdict) → AreJudged w log claims → (c : ClaimVerdict) (k : ℕ) → k < length claims
       → get_or claims k c ≡ c → is_claim log c.process c.row ≡ true
   is_one claims judged c k inside here =
-      let a = get_or-le-sum_by (one_at c.process c.row) (map place_of claims) k (place_of c)
-      (let e = length-map claims place_of in omega arith) in
-      let b = get_or-map place_of claims k c (place_of c) inside in
-      let e = count_yes (is_at c.process c.row (place_of c)) (at_itself (place_of c)) in
+      let a = get_or-le-sum_by (one_at c.process c.row) (map claim_place claims) k (claim_place c)
+      (let e = length-map claims claim_place in omega arith) in
+      let b = get_or-map claim_place claims k c (claim_place c) inside in
+      let e = count_yes (is_at c.process c.row (claim_place c)) (at_itself (claim_place c)) in
       let f = judged.all.once c.process c.row in
       grind arith
 
@@ -163,7 +163,7 @@ open_is_end log _ none is = (none, is)
 abbrev pub IsJudgedAs : Bool → List LogRow → Verdict → List PastRows → RowPlace → Type 0
 IsJudgedAs w log v past x = IsVerdict log x.process x.row v × AreShown (w && is_early v) log x.process x.row past
 
-pub judges : (w : Bool) (log : List LogRow) (place : ClaimPlace) (c : ClaimVerdict) → place_of c ≡ place_at place
+pub judges : (w : Bool) (log : List LogRow) (place : ClaimPlace) (c : ClaimVerdict) → claim_place c ≡ place_at place
     → IsJudgedAs w log c.verdict c.past.items (place_at place) → Judges w log place c
 judges w log place c same is = let here = subst (IsJudgedAs w log c.verdict c.past.items) (sym same) is in
     record { place = same; judged = record { verdict = here.0; past = here.1 } }
@@ -177,8 +177,8 @@ none_shown false log p i past none = none
 
 module _ (w : Bool) (log : List LogRow) (places : List ClaimPlace) (n : ℕ) (d : ClaimPlace) (inside : n < length places)
     (claims : List ClaimVerdict) (claim : ClaimVerdict) (judges : Judges w log (get_or places n d) claim) where
-  pub one_judged : map place_of claims ≡ map place_at (take n places)
-      → map place_of (claims ++ claim ∷ []) ≡ map place_at (take (n + 1) places)
+  pub one_judged : map claim_place claims ≡ map place_at (take n places)
+      → map claim_place (claims ++ claim ∷ []) ≡ map place_at (take (n + 1) places)
   one_judged same = rw (take_more places n d inside) (simp map-append (λ k. same k ++ judges.place k ∷ []))
 
   pub right_now : ArePlaces log places → is_early claim.verdict ≡ false → (earlier : ClaimPlace) → get_or places n d ≡ earlier
@@ -200,7 +200,7 @@ right_more log places n earlier is = record {
 }
 
 pub all_judged : (w : Bool) (log : List LogRow) (places : List ClaimPlace) (n : ℕ) (claims : List ClaimVerdict)
-    → ArePlaces log places → length places ≤ n → map place_of claims ≡ map place_at (take n places)
+    → ArePlaces log places → length places ≤ n → map claim_place claims ≡ map place_at (take n places)
     → All (IsJudged w log) claims → AreJudged w log claims
 all_judged w log places n claims are past same each =
     record { all = rw (same, take_all n places past) are.all; each = each }

@@ -4,7 +4,7 @@ use Rattle.chip_log.proofs.Names.{◌≡◌, ℕ, Bool, true, false, List, [], �
 use Rattle.chip_log.proofs.Names.{All-weaker, ◌&&◌, IsPast, IsVerdict, IsSilent, IsBefore, IsRight, IsOpenEnd}
 use Rattle.chip_log.proofs.Names.{is_claim, is_early, IsJudged, NoneRight, IsEnd, control, IsJudgedLog}
 use Rattle.chip_log.proofs.Names.{AreShown, steps_of, is_out, HasEnds, IsFirstEarly, Option, Some, None}
-use Rattle.chip_log.proofs.Names.{ap, begins_active, IsStuck, is_active, is_in, is_met, AreMet, IsInterleaving, IsLog, ClaimVerdict}
+use Rattle.chip_log.proofs.Names.{ap, begins_active, IsStuck, is_active, is_in, is_enabled, AreEnabled, IsInterleaving, IsLog, ClaimVerdict}
 use Rattle.chip_log.proofs.Names.{JudgedLog, LogEnd, LogRow, Step, Out, Over, Verdict, count_rows, count_steps}
 use Rattle.chip_log.proofs.CountLemmas.{all_own}
 use Rattle.chip_log.proofs.LeftLemmas.{SameBehind, got_as, left_as}
@@ -22,11 +22,11 @@ module _ (log other : List LogRow) (begins : (p : ℕ) → begins_active (steps_
   pub active_as : (before : List LogRow) (p : ℕ) → is_active log before p ≡ is_active other before p
   active_as before p = rw (begins p)
 
-  pub met_as : (before : List LogRow) (p : ℕ) (step : Step) → is_met log before p step ≡ is_met other before p step
+  pub met_as : (before : List LogRow) (p : ℕ) (step : Step) → is_enabled log before p step ≡ is_enabled other before p step
   met_as before p (Out s) = rw (active_as before p)
   met_as before p _ = refl
 
-  pub are_met_as : (before xs : List LogRow) → AreMet log before xs → AreMet other before xs
+  pub are_met_as : (before xs : List LogRow) → AreEnabled log before xs → AreEnabled other before xs
   are_met_as before [] met = tt
   are_met_as before (x ∷ xs) met =
       (rw (met_as before x.process x.step) at met.0, are_met_as (before ++ x ∷ []) xs met.1)

@@ -4,7 +4,7 @@ use Rattle.chip_log.proofs.Names.{◌≡◌, ◌≢◌, ℕ, ◌≤◌, ◌<◌,
 use Rattle.chip_log.proofs.Names.{arith, cond, append-nil, append_assoc, length-append, ltb-true}
 use Rattle.chip_log.proofs.Names.{nil_from_length, dite, ℕ_discrete, dec_lt, basic, IsPast, IsSilent, IsBefore, IsRight}
 use Rattle.chip_log.proofs.Names.{control, steps_of, is_out, outs, ins, HasEnds, sends, count_steps, active_after}
-use Rattle.chip_log.proofs.Names.{is_active, is_in, is_met, AreMet, IsInterleaving, LogRow, Step, Out}
+use Rattle.chip_log.proofs.Names.{is_active, is_in, is_enabled, AreEnabled, IsInterleaving, LogRow, Step, Out}
 use Rattle.chip_log.proofs.Names.{In, Over, Stream}
 use Rattle.chip_log.proofs.PrefixLemmas.{same_beginning}
 use Rattle.chip_log.proofs.CountLemmas.{longer_counts, steps_of-append, active_after-append, steps_own, steps_push}
@@ -71,7 +71,7 @@ module _ (log : List LogRow) (ends : HasEnds log) (p i : ℕ) (past : List LogRo
           let f = rw (← e) at (ins_by log ends past (claim ∷ is.here.after) is.here.whole (basic c)) in
           omega (arith, own_few (is_in (basic c)) q pre, silent.quiet c, calm.outs c)
 
-      stays_passive : (step : Step) → x.step ≡ step → is_met log pre q step ≡ true → active_after false (step ∷ []) ≡ false
+      stays_passive : (step : Step) → x.step ≡ step → is_enabled log pre q step ≡ true → active_after false (step ∷ []) ≡ false
       stays_passive (In s) e met = by s.is_control refl
         where
           by : (b : Bool) → s.is_control ≡ b → cond s.is_control false true ≡ false
@@ -84,12 +84,12 @@ module _ (log : List LogRow) (ends : HasEnds log) (p i : ℕ) (past : List LogRo
               absurd (omega arith)
       stays_passive _ e met = refl
 
-      sends_none : (c : ℕ) (step : Step) → is_out (basic c) step ≡ true → is_met log pre q step ≡ true → ⊥
+      sends_none : (c : ℕ) (step : Step) → is_out (basic c) step ≡ true → is_enabled log pre q step ≡ true → ⊥
       sends_none c (Out s) is_x met =
           let same = same_stream_is (basic c) s is_x in let passive = calm.passive q enough in cc
       sends_none c _ is_x met = cc
 
-    module _ (met : is_met log pre q x.step ≡ true) where
+    module _ (met : is_enabled log pre q x.step ≡ true) where
       own_sends : (c : ℕ) → is_out (basic c) x.step ≡ true → outs (basic c) now ≡ sends (basic c) (steps_of q now)
       own_sends c it_sends = rw (← owner (is_out (basic c)) (ends.sender (basic c)) (ends.sends (basic c)) it_sends) at
           (outs_by log ends now later all (basic c))
@@ -119,7 +119,7 @@ module _ (log : List LogRow) (ends : HasEnds log) (p i : ℕ) (past : List LogRo
             (λ ne. let same = steps_push_other r pre x ne in rw same (calm.passive r (rw same at enough)));
       }
 
-  calm_through : (pre later : List LogRow) → pre ++ later ≡ other → AreMet log pre later → Calm pre → Calm other
+  calm_through : (pre later : List LogRow) → pre ++ later ≡ other → AreEnabled log pre later → Calm pre → Calm other
   calm_through pre [] all met calm = rw (rw append-nil at all) at calm
   calm_through pre (x ∷ later) all met calm = calm_through (pre ++ x ∷ []) later (rw append_assoc all) met.1
       (stays_calm pre x (later ++ left)

@@ -13,16 +13,16 @@ abbrev pub state_of : Inside → AgendaState
 state_of a = record { processes = a.processes; channels = length a.basic.items; due = length a.due.items }
 
 -- who waits, if anybody does, is below n
-abbrev pub IsBelow : ℕ → Option ℕ → Type 0
-IsBelow n None = Unit {0}
-IsBelow n (Some p) = p < n
+abbrev pub IsWaiterBelow : ℕ → Option ℕ → Type 0
+IsWaiterBelow n None = Unit {0}
+IsWaiterBelow n (Some p) = p < n
 
 -- all that it names are processes
 pub record NamesProcesses (a : Inside) : Type 0 where
   pub each : length a.control.items ≡ length a.basic.items
   pub due : All (λ p. p < a.processes) a.due.items
-  pub basic : All (IsBelow a.processes) a.basic.items
-  pub control : All (IsBelow a.processes) a.control.items
+  pub basic : All (IsWaiterBelow a.processes) a.basic.items
+  pub control : All (IsWaiterBelow a.processes) a.control.items
 
 -- it is of as many as before
 pub record IsSame (old new : AgendaState) : Type 0 where

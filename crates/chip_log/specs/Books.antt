@@ -56,7 +56,7 @@ abbrev pub is_needed : LogRow → TallyState → Books → Bool
 is_needed x flight b = x.process == b.claimer || (nat_lt 0 (rows_at b x.process) || is_message_needed flight b.taken x.step)
 
 -- a row is noted if it is in the past
-pub record Keeps (needed : Bool) (x : LogRow) (old new : Books) : Type 0 where
+pub record KeepsRow (needed : Bool) (x : LogRow) (old new : Books) : Type 0 where
   pub claimer : new.claimer ≡ old.claimer
   pub processes : length new.said.items ≡ length old.said.items
   pub counted : length new.rows.items ≡ length old.rows.items
@@ -99,7 +99,7 @@ pub record HasKeepRoom (x : LogRow) (b : Books) : Type 0 where
   pub counts : HasCountRoom x.step b
   pub rows : rows_at b x.process + 1 < 2 ^ 32
 
-pub record HasRoom (x : LogRow) (b : Books) : Type 0 where
+pub record HasRoomForRow (x : LogRow) (b : Books) : Type 0 where
   pub flight : IsOf b.flight.channels x.step
   pub in_flight : HasFlightRoom x.step b.flight
   pub keep : HasKeepRoom x b

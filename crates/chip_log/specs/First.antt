@@ -4,7 +4,7 @@ use Rattle.chip_log.specs.declared.row.LogRow.{LogRow}
 use Rattle.chip_log.specs.declared.judged.ClaimVerdict.{ClaimVerdict}
 use Rattle.chip_log.specs.Log.{steps_of}
 use Rattle.chip_log.specs.Claims.{IsRight}
-use Rattle.chip_log.specs.Judged.{is_claim, is_early, IsJudged, RowPlace, place_of}
+use Rattle.chip_log.specs.Judged.{is_claim, is_early, IsJudged, RowPlace, claim_place}
 
 -- ---- the first early claim
 
@@ -17,7 +17,7 @@ pub record IsFirst (with_past : Bool) (log : List LogRow) (c : ClaimVerdict) : T
   pub claim : is_claim log c.process c.row ≡ true
   pub judged : IsJudged with_past log c
   pub early : is_early c.verdict ≡ true
-  pub before : (p i : ℕ) → is_claim log p i ≡ true → IsSooner (record { process = p; row = i }) (place_of c) → IsRight log p i
+  pub before : (p i : ℕ) → is_claim log p i ≡ true → IsSooner (record { process = p; row = i }) (claim_place c) → IsRight log p i
 
 -- the first early claim, or each claim is right
 abbrev pub IsFirstEarly : Bool → List LogRow → Option ClaimVerdict → Type 0

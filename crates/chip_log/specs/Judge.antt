@@ -19,7 +19,7 @@ use Rattle.chip_log.specs.declared.row.Stream.{Stream}
 use Rattle.chip_log.specs.Tally.{count}
 use Rattle.chip_log.specs.Books.{said_at, rows_at}
 use Rattle.chip_log.specs.Past.{IsPlace}
-use Rattle.chip_log.specs.Judged.{RowPlace, AreClaims, IsJudged, rows_for, place_of}
+use Rattle.chip_log.specs.Judged.{RowPlace, AreClaims, IsJudged, rows_for, claim_place}
 
 -- the control messages of a channel, or the basic ones
 abbrev pub stream_of : Bool → ℕ → Stream
@@ -66,12 +66,12 @@ IsFirstBusy n beginners b (Some q) =
     (q < n) × (is_busy beginners b q ≡ true) × ((r : ℕ) → r < q → is_busy beginners b r ≡ false)
 
 -- what is on its way, or else active, behind the rows of these books, or `Right` if nothing is
-abbrev pub IsLeft : Sizes → List (Option Bool) → Books → Verdict → Type 0
-IsLeft sizes beginners b verdict.Right =
+abbrev pub IsLeftOver : Sizes → List (Option Bool) → Books → Verdict → Type 0
+IsLeftOver sizes beginners b verdict.Right =
     NoWay false sizes.channels b × IsFirstBusy sizes.processes beginners b None
-IsLeft sizes beginners b (verdict.OnItsWay c k) =
+IsLeftOver sizes beginners b (verdict.OnItsWay c k) =
     IsFirstWay false sizes.channels b (Some c) × (k ≡ count b.taken (stream_of false c))
-IsLeft sizes beginners b (verdict.Active q) =
+IsLeftOver sizes beginners b (verdict.Active q) =
     NoWay false sizes.channels b × IsFirstBusy sizes.processes beginners b (Some q)
 
 -- how many rows each process below n has in the past
@@ -94,7 +94,7 @@ pub record ArePlaces (log : List LogRow) (claims : List ClaimPlace) : Type 0 whe
 
 -- a claim is judged
 pub record Judges (with_past : Bool) (log : List LogRow) (claim : ClaimPlace) (c : ClaimVerdict) : Type 0 where
-  pub place : place_of c ≡ place_at claim
+  pub place : claim_place c ≡ place_at claim
   pub judged : IsJudged with_past log c
 
 -- an earlier claim is right

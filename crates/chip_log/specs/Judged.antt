@@ -99,16 +99,16 @@ IsEnd log other = NoneRight log × IsOpenEnd log other
 
 -- ---- all
 
-abbrev pub place_of : ClaimVerdict → RowPlace
-place_of c = record { process = c.process; row = c.row }
+abbrev pub claim_place : ClaimVerdict → RowPlace
+claim_place c = record { process = c.process; row = c.row }
 
 -- what is told of a claim
 abbrev pub told_of : ClaimVerdict → RowPlace × Verdict × List PastRows
-told_of c = (place_of c, c.verdict, c.past.items)
+told_of c = (claim_place c, c.verdict, c.past.items)
 
 -- all claims, each judged
 pub record AreJudged (with_past : Bool) (log : List LogRow) (claims : List ClaimVerdict) : Type 0 where
-  pub all : AreClaims log (map place_of claims)
+  pub all : AreClaims log (map claim_place claims)
   pub each : All (IsJudged with_past log) claims
 
 -- and the end

@@ -67,22 +67,22 @@ is_active log before p = active_after (begins_active (steps_of p log)) (steps_of
 
 -- ---- interleavings
 
--- whether a step of p is met behind these rows: a message that is got was sent before, and only an active process sends
+-- whether a step of p is enabled after these rows: a message that is got was sent before, and only an active process sends
 -- basic messages
-abbrev pub is_met : List LogRow → List LogRow → ℕ → Step → Bool
-is_met log before p (Out s) = if s.is_control then true else is_active log before p
-is_met log before p (In s) = nat_lt (ins s before) (outs s before)
-is_met log before p _ = true
+abbrev pub is_enabled : List LogRow → List LogRow → ℕ → Step → Bool
+is_enabled log before p (Out s) = if s.is_control then true else is_active log before p
+is_enabled log before p (In s) = nat_lt (ins s before) (outs s before)
+is_enabled log before p _ = true
 
--- each row is met where it stands, behind the rows before it
-abbrev pub AreMet : List LogRow → List LogRow → List LogRow → Type 0
-AreMet log before [] = Unit {0}
-AreMet log before (x ∷ xs) = (is_met log before x.process x.step ≡ true) × AreMet log (before ++ x ∷ []) xs
+-- each row is enabled where it stands, after the rows before it
+abbrev pub AreEnabled : List LogRow → List LogRow → List LogRow → Type 0
+AreEnabled log before [] = Unit {0}
+AreEnabled log before (x ∷ xs) = (is_enabled log before x.process x.step ≡ true) × AreEnabled log (before ++ x ∷ []) xs
 
--- all rows of a log in one list: those of each process in their order, and each met where it stands
+-- all rows of a log in one list: those of each process in their order, and each enabled where it stands
 pub record IsInterleaving (log xs : List LogRow) : Type 0 where
   pub whole : (p : ℕ) → steps_of p xs ≡ steps_of p log
-  pub met : AreMet log [] xs
+  pub met : AreEnabled log [] xs
 
 -- each stream has one process that sends, and one that gets
 pub record HasEnds (log : List LogRow) : Type 0 where

@@ -1,6 +1,6 @@
--- The rows of a log in an order in which each is met, or where they are stuck.
+-- The rows of a log in an order in which each is enabled, or where they are stuck.
 use Rattle.std.specs.Prelude.{◌≡◌, ℕ, ◌<◌, Bool, true, false, if◌then◌else◌, List, [], ◌∷◌, ◌++◌, length}
-use Rattle.chip_log.specs.Log.{steps_of, active_after, begins_active, is_met, AreMet, HasEnds}
+use Rattle.chip_log.specs.Log.{steps_of, active_after, begins_active, is_enabled, AreEnabled, HasEnds}
 use Rattle.chip_log.specs.Past.{Fits}
 use Rattle.chip_log.specs.declared.row.LogRow.{LogRow}
 use Rattle.chip_log.specs.declared.row.Step.{Step}
@@ -27,16 +27,16 @@ pub record IsWellFormed (sizes : Sizes) (log : List LogRow) : Type 0 where
 
 -- ---- progress
 
--- rows that were done: the first ones of each process, each met where it stands
+-- rows that were done: the first ones of each process, each enabled where it stands
 pub record IsProgress (log used : List LogRow) : Type 0 where
   pub left : ℕ → List Step
   pub own : (p : ℕ) → steps_of p used ++ left p ≡ steps_of p log
-  pub met : AreMet log [] used
+  pub met : AreEnabled log [] used
 
 -- and no process can make its next step
 pub record IsGreatest (log used : List LogRow) : Type 0 where
   pub progress : IsProgress log used
-  pub stuck : (p : ℕ) (step : Step) (later : List Step) → progress.left p ≡ step ∷ later → is_met log used p step ≡ false
+  pub stuck : (p : ℕ) (step : Step) (later : List Step) → progress.left p ≡ step ∷ later → is_enabled log used p step ≡ false
 
 -- at greatest progress p is the least process with a row left, and i rows of it were done
 pub record IsStuck (log : List LogRow) (p i : ℕ) : Type 0 where

@@ -1,7 +1,7 @@
 -- Rows on their way into an order.
 use Rattle.std.specs.Prelude.{◌≡◌, ℕ, ◌+◌, ◌*◌, ◌^◌, ◌<◌, ◌≤◌, nat_lt, Bool, true, false, List, [], ◌∷◌, ◌++◌, length, All}
 use Rattle.std.specs.Prelude.{slice_set, drop, Option, Some, None}
-use Rattle.chip_log.specs.Log.{steps_of, begins_active, AreMet}
+use Rattle.chip_log.specs.Log.{steps_of, begins_active, AreEnabled}
 use Rattle.chip_log.specs.Tally.{TallyState, count}
 use Rattle.chip_log.specs.Books.{Passes, IsOf}
 use Rattle.chip_log.specs.Past.{AreInFlight, Fits}
@@ -38,11 +38,11 @@ pub record Reads (x : LogRow) (old new : Order) : Type 0 where
   pub channels : new.agenda.channels ≡ old.agenda.channels
 
 -- the next step of a process
-abbrev pub IsNext : Order → ℕ → Step → Type 0
-IsNext o p step = (later : List Step) × (queue_of o.queues p ≡ step ∷ later)
+abbrev pub IsNextStep : Order → ℕ → Step → Type 0
+IsNextStep o p step = (later : List Step) × (queue_of o.queues p ≡ step ∷ later)
 
 -- it is made
-pub record Makes (p : ℕ) (step : Step) (old new : Order) : Type 0 where
+pub record MakesNextStep (p : ℕ) (step : Step) (old new : Order) : Type 0 where
   pub queues : new.queues ≡ slice_set old.queues p (drop 1 (queue_of old.queues p))
   pub done : new.done.items ≡ old.done.items ++ record { process = p; step = step } ∷ []
   pub flight : Passes step new.flight old.flight
@@ -50,27 +50,27 @@ pub record Makes (p : ℕ) (step : Step) (old new : Order) : Type 0 where
   pub channels : new.agenda.channels ≡ old.agenda.channels
   pub due : new.agenda.due ≤ old.agenda.due + 2
 
--- the rows done of a log, in which `unread` were not read, are those that begin each process's, each met
-pub record IsKept (log unread : List LogRow) (o : Order) : Type 0 where
+-- the rows done of a log, in which `unread` were not read, are those that begin each process's, each enabled
+pub record IsOrderKept (log unread : List LogRow) (o : Order) : Type 0 where
   pub own : (p : ℕ) → steps_of p o.done.items ++ (queue_of o.queues p ++ steps_of p unread) ≡ steps_of p log
-  pub met : AreMet log [] o.done.items
+  pub met : AreEnabled log [] o.done.items
 
 -- what can make the agenda longer, and what is on it
-abbrev pub work_left : Order → ℕ
-work_left o = 2 * total o.queues + o.agenda.due
+abbrev pub order_work_left : Order → ℕ
+order_work_left o = 2 * total o.queues + o.agenda.due
 
 -- some more steps were made
-pub record GoesOn (sizes : Sizes) (old new : Order) : Type 0 where
+pub record OrderGoesOn (sizes : Sizes) (old new : Order) : Type 0 where
   pub ready : IsReady sizes new
   pub same : length new.done.items + total new.queues ≡ length old.done.items + total old.queues
   pub fewer : total new.queues ≤ total old.queues
-  pub less : work_left new ≤ work_left old
+  pub less : order_work_left new ≤ order_work_left old
   pub keeps : (log unread : List LogRow) → ((p : ℕ) → AreSent (begins_active (steps_of p log)) (steps_of p log))
-      → IsKept log unread old → IsKept log unread new
+      → IsOrderKept log unread old → IsOrderKept log unread new
 
 -- no process can make its next step
-abbrev pub IsSettled : Order → Type 0
-IsSettled o = (p : ℕ) (step : Step) → IsNext o p step → is_there o.flight step ≡ false
+abbrev pub IsOrderBlocked : Order → Type 0
+IsOrderBlocked o = (p : ℕ) (step : Step) → IsNextStep o p step → is_there o.flight step ≡ false
 
 -- the least process with a step left
 abbrev pub IsFirstLeft : Order → Option ℕ → Type 0

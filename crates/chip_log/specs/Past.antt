@@ -7,7 +7,7 @@ use Rattle.chip_log.specs.declared.row.Step.TheVariants.{Over}
 use Rattle.chip_log.specs.declared.past.Sizes.{Sizes}
 use Rattle.chip_log.specs.declared.past.ClaimPlace.{ClaimPlace}
 use Rattle.chip_log.specs.declared.books.Books.{Books}
-use Rattle.chip_log.specs.Log.{steps_of, outs, ins, AreMet, HasEnds}
+use Rattle.chip_log.specs.Log.{steps_of, outs, ins, AreEnabled, HasEnds}
 use Rattle.chip_log.specs.Claims.{IsPast}
 use Rattle.chip_log.specs.Tally.{TallyState, count}
 use Rattle.chip_log.specs.Books.{said_of, said_at, rows_at, IsOf}
@@ -15,7 +15,7 @@ use Rattle.chip_log.specs.Books.{said_of, said_at, rows_at, IsOf}
 -- a log that is an interleaving as it stands
 pub record IsLog (log : List LogRow) : Type 0 where
   pub ends : HasEnds log
-  pub met : AreMet log [] log
+  pub met : AreEnabled log [] log
 
 -- its process and channel are within these sizes
 pub record FitsRow (sizes : Sizes) (x : LogRow) : Type 0 where
@@ -56,7 +56,7 @@ pub record AreKept (kept : List LogRow) (b : Books) : Type 0 where
   pub said : (q : ℕ) → said_at b q ≡ said_of (steps_of q kept)
 
 -- the books of the rows `kept` of the past, where `pre` were not looked at
-pub record AreBooks (pre kept : List LogRow) (b : Books) : Type 0 where
+pub record AreBooksOf (pre kept : List LogRow) (b : Books) : Type 0 where
   pub flight : AreInFlight pre b.flight
   pub keeps : AreKept kept b
 

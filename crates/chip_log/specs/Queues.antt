@@ -11,9 +11,9 @@ queues_of a = map (λ q. q.items) a.steps.items
 abbrev pub queue_of : List (List Step) → ℕ → List Step
 queue_of queues p = slice_index_or queues p []
 
-abbrev pub head_of : List Step → Option Step
-head_of [] = None
-head_of (step ∷ steps) = Some step
+abbrev pub step_in_front : List Step → Option Step
+step_in_front [] = None
+step_in_front (step ∷ steps) = Some step
 
 -- how many steps there are
 abbrev pub total : List (List Step) → ℕ

@@ -1,6 +1,6 @@
 -- A worked log: process 0 sends a message and is passive, and process 1 gets it.
 use Rattle.std.specs.Prelude.{◌≡◌, true, false, List, [], ◌∷◌}
-use Rattle.chip_log.specs.Log.{AreMet, steps_of, begins_active, is_active}
+use Rattle.chip_log.specs.Log.{AreEnabled, steps_of, begins_active, is_active}
 use Rattle.chip_log.specs.Claims.{basic}
 use Rattle.chip_log.specs.declared.row.LogRow.{LogRow}
 use Rattle.chip_log.specs.declared.row.Step.TheVariants.{Out, In, Passive, Active}
@@ -11,7 +11,7 @@ begins =
     ∷ record { process = 0; step = Passive } ∷ record { process = 1; step = In (basic 0) } ∷ []
 
 pub record WorkedLog : Type 0 where
-  pub met : AreMet begins [] begins
+  pub met : AreEnabled begins [] begins
   pub busy : is_active begins begins 1 ≡ true
   pub idle : is_active begins begins 0 ≡ false
 

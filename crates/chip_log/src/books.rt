@@ -4,9 +4,9 @@ ghost use Rattle.std.specs.Prelude.{◌≡◌, ◌+◌, ◌^◌, ◌<◌, ◌||�
 ghost use Rattle.chip_log.specs.declared.row.Stream.{Stream};
 ghost use Rattle.chip_log.specs.Log.{is_out, is_in};
 ghost use Rattle.chip_log.specs.Tally.{count};
-ghost use Rattle.chip_log.specs.Books.{said_before, is_needed, is_message_needed, Passes, Keeps, HasRoom, HasKeepRoom, IsOf};
+ghost use Rattle.chip_log.specs.Books.{said_before, is_needed, is_message_needed, Passes, KeepsRow, HasRoomForRow, HasKeepRoom, IsOf};
 ghost use Rattle.chip_log.specs.Books.{HasFlightRoom, HasMakeRoom};
-ghost use Rattle.chip_log.specs.Past.{AreSized, AreBooks};
+ghost use Rattle.chip_log.specs.Past.{AreSized, AreBooksOf};
 
 use crate::past::Sizes;
 use crate::row::{LogRow, Step, Stream};
@@ -63,7 +63,7 @@ impl Books {
     pub(crate) fn new(alloc: Global, sizes: Sizes, claimer: u32) -> Result<Books, AllocError>
         ensures claimer { IfOk result (λ books. books.claimer ≡ claimer) }
         ensures sized { IfOk result (AreSized sizes) }
-        ensures none { IfOk result (AreBooks [] []) }
+        ensures none { IfOk result (AreBooksOf [] []) }
     {
         Ok(Books {
             claimer,
@@ -95,9 +95,9 @@ impl Books {
 
     /// Looks at one more row.
     pub(crate) fn look(&mut self, row: LogRow)
-        requires { HasRoom row self.old }
+        requires { HasRoomForRow row self.old }
         ensures passes { Passes row.step self.old.flight self.new.flight }
-        ensures keeps { Keeps (is_needed row self.new.flight self.old) row self.old self.new }
+        ensures keeps { KeepsRow (is_needed row self.new.flight self.old) row self.old self.new }
     {
         pass(&mut self.flight, row.step);
         if self.needs(row) {
@@ -133,7 +133,7 @@ impl Books {
     pub(crate) fn keep(&mut self, row: LogRow)
         requires { HasKeepRoom row self.old }
         ensures flight { self.new.flight ≡ self.old.flight }
-        ensures keeps { Keeps true row self.old self.new }
+        ensures keeps { KeepsRow true row self.old self.new }
     {
         let said = self.said[row.process as usize];
         self.said[row.process as usize] = said.before(row.step);

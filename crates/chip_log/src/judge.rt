@@ -6,7 +6,7 @@ ghost use Rattle.std.specs.Option.{ForSome};
 ghost use Rattle.chip_log.specs.Past.{IsInOrder, Fits, IsPlace, AreSized};
 ghost use Rattle.chip_log.specs.Order.{IsWellFormed, IsOrderFault};
 ghost use Rattle.chip_log.specs.Judged.{is_early, AreJudged, IsOpenEnd, IsJudgedLog};
-ghost use Rattle.chip_log.specs.Judge.{IsFirstWay, first_step, IsFirstBusy, busy_at, AreBeginners, IsLeft};
+ghost use Rattle.chip_log.specs.Judge.{IsFirstWay, first_step, IsFirstBusy, busy_at, AreBeginners, IsLeftOver};
 ghost use Rattle.chip_log.specs.Judge.{AreCounts, Judges, IsKnown};
 
 use crate::books::{Books, Said};
@@ -202,7 +202,7 @@ fn open_end(
 fn left_of(books: &Books, beginners: &[Option<bool>], sizes: Sizes) -> Verdict
     requires sized { AreSized sizes books.now }
     requires beginners { length beginners.now ≡ sizes.processes }
-    ensures { IsLeft sizes beginners.now books.now result }
+    ensures { IsLeftOver sizes beginners.now books.now result }
 {
     if let Some(channel) = first_way(books, sizes, false) {
         let message = books.taken.count(Stream {

@@ -6,7 +6,7 @@ ghost use Rattle.chip_log.specs.Books.{IsOf};
 ghost use Rattle.chip_log.specs.Past.{Fits};
 ghost use Rattle.chip_log.specs.Queues.{total};
 ghost use Rattle.chip_log.specs.Order.{IsWellFormed, IsOrderFault};
-ghost use Rattle.chip_log.specs.Ordering.{is_there, IsReady, Reads, IsNext, Makes, IsKept, GoesOn, IsSettled, IsFirstLeft};
+ghost use Rattle.chip_log.specs.Ordering.{is_there, IsReady, Reads, IsNextStep, MakesNextStep, IsOrderKept, OrderGoesOn, IsOrderBlocked, IsFirstLeft};
 
 use crate::agenda::Agenda;
 use crate::fault::OrderFault;
@@ -68,9 +68,9 @@ impl Order {
     fn make(&mut self, sizes: Sizes, process: u32, step: Step) -> Result<(), AllocError>
         requires ready { IsReady sizes self.old }
         requires process { process < sizes.processes }
-        requires next { IsNext self.old process step }
+        requires next { IsNextStep self.old process step }
         requires there { is_there self.old.flight step ≡ true }
-        ensures { IfOk result (λ _. Makes process step self.old self.new) }
+        ensures { IfOk result (λ _. MakesNextStep process step self.old self.new) }
     {
         self.queues.pop(process);
         self.done.push(LogRow { process, step })?;
@@ -90,7 +90,7 @@ impl Order {
     fn turn(&mut self, sizes: Sizes, process: u32) -> Result<(), AllocError>
         requires ready { IsReady sizes self.old }
         requires process { process < sizes.processes }
-        ensures { IfOk result (λ _. GoesOn sizes self.old self.new) }
+        ensures { IfOk result (λ _. OrderGoesOn sizes self.old self.new) }
     {
         if let Some(step) = self.queues.first(process) {
             if self.may(step) {
@@ -105,7 +105,7 @@ impl Order {
     /// Visits each process on the agenda, until none is left there.
     fn run(&mut self, sizes: Sizes) -> Result<(), AllocError>
         requires { IsReady sizes self.old }
-        ensures { IfOk result (λ _. GoesOn sizes self.old self.new) }
+        ensures { IfOk result (λ _. OrderGoesOn sizes self.old self.new) }
     {
         while let Some(process) = self.agenda.next() {
             self.turn(sizes, process)?;
@@ -116,8 +116,8 @@ impl Order {
     /// The least process whose next step is enabled, and that step.
     fn first_ready(&self, sizes: Sizes) -> Option<(u32, Step)>
         requires { IsReady sizes self.now }
-        ensures { MatchOption result (IsSettled self.now) (λ found. (found.0 < sizes.processes)
-            × IsNext self.now found.0 found.1 × (is_there self.now.flight found.1 ≡ true)) }
+        ensures { MatchOption result (IsOrderBlocked self.now) (λ found. (found.0 < sizes.processes)
+            × IsNextStep self.now found.0 found.1 × (is_there self.now.flight found.1 ≡ true)) }
     {
         for process in 0..sizes.processes {
             if let Some(step) = self.queues.first(process) {
@@ -135,8 +135,8 @@ impl Order {
     /// are visited once more when it is empty.
     fn settle(&mut self, sizes: Sizes) -> Result<(), AllocError>
         requires { IsReady sizes self.old }
-        ensures goes_on { IfOk result (λ _. GoesOn sizes self.old self.new) }
-        ensures settled { IfOk result (λ _. IsSettled self.new) }
+        ensures goes_on { IfOk result (λ _. OrderGoesOn sizes self.old self.new) }
+        ensures settled { IfOk result (λ _. IsOrderBlocked self.new) }
     {
         loop {
             self.run(sizes)?;

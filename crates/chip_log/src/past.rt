@@ -1,7 +1,7 @@
 //! The least past of a claim.
 
 ghost use Rattle.std.specs.Prelude.{◌≡◌, ◌^◌, ◌<◌, ◌≤◌, [], length, take, IfOk};
-ghost use Rattle.chip_log.specs.Past.{IsInOrder, Fits, IsPlace, IsPastOf, AreSized, AreBooks, AreKept};
+ghost use Rattle.chip_log.specs.Past.{IsInOrder, Fits, IsPlace, IsPastOf, AreSized, AreBooksOf, AreKept};
 
 use crate::books::Books;
 use crate::row::LogRow;
@@ -46,10 +46,10 @@ fn make_all(books: &mut Books, sizes: Sizes, rows: &[LogRow], at: usize)
     requires order { IsInOrder sizes rows.now }
     requires place { at ≤ length rows.now }
     requires sized { AreSized sizes books.old }
-    requires none { AreBooks [] [] books.old }
+    requires none { AreBooksOf [] [] books.old }
     ensures claimer { books.new.claimer ≡ books.old.claimer }
     ensures sized { AreSized sizes books.new }
-    ensures made { AreBooks (take at rows.now) [] books.new }
+    ensures made { AreBooksOf (take at rows.now) [] books.new }
 {
     let mut next = 0;
     while next < at {
@@ -64,7 +64,7 @@ fn look_at_all(books: &mut Books, sizes: Sizes, rows: &[LogRow], claim: ClaimPla
     requires claim { IsPlace rows.now claim }
     requires claimer { books.old.claimer ≡ claim.process }
     requires sized { AreSized sizes books.old }
-    requires made { AreBooks (take claim.at rows.now) [] books.old }
+    requires made { AreBooksOf (take claim.at rows.now) [] books.old }
     ensures { IsPastOf rows.now sizes claim books.new }
 {
     let mut left = claim.at;

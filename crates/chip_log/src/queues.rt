@@ -21,7 +21,7 @@ impl Model for Queues {
 
 impl Queues {
     ghost use Rattle.std.specs.Prelude.{◌≡◌, ◌+◌, ◌<◌, ◌++◌, ◌∷◌, [], length, replicate, slice_set, drop, IfOk};
-    ghost use Rattle.chip_log.specs.Queues.{queue_of, head_of};
+    ghost use Rattle.chip_log.specs.Queues.{queue_of, step_in_front};
 
     /// Nothing is read of `processes` processes.
     pub(crate) fn new(alloc: Global, processes: u32) -> Result<Queues, AllocError>
@@ -47,7 +47,7 @@ impl Queues {
     /// The next step of a process.
     pub(crate) fn first(&self, process: u32) -> Option<Step>
         requires { process < length self.now }
-        ensures { result ≡ head_of (queue_of self.now process) }
+        ensures { result ≡ step_in_front (queue_of self.now process) }
     {
         self.steps[process as usize].front().copied()
     }

@@ -4,14 +4,14 @@ use Rattle.chip_net.proofs.Names.{◌≡◌, ℕ, ◌<◌, List, [], ◌∷◌, 
 use Rattle.chip_net.proofs.Names.{reverse-append, TableId, Allows, TraceRow, Setting, Act, event_of, FitsSeen, IsDueBy}
 use Rattle.chip_net.proofs.Names.{MayServe, Serves, IsLonger, Step, Event, Part, part_of, IsWord}
 use Rattle.chip_net.proofs.Names.{word_to_note, fits_seen, index_of, Mine, did_in, part_of_view, Kept, step_of, Grows}
-use Rattle.chip_net.proofs.Names.{TraceState, Keeps, row_of, rows_of, TurnSetup, AreWordsOf, Holds}
+use Rattle.chip_net.proofs.Names.{TraceState, Keeps, row_of, trace_rows_of, TurnSetup, AreWordsOf, Holds}
 use Rattle.chip_net.proofs.LayingLemmas.{owner_of, by_word}
 use Rattle.chip_net.proofs.ViewingLemmas.{alone_there}
 use Rattle.chip_net.proofs.RulingLemmas.{Due, Made, made, word_of, left_over, vertex_acts, act_word, act_asked}
 use Rattle.chip_net.proofs.RulingLemmas.{act_told}
 
 -- the rows of one step more
-pub rows_push : (xs : List Step) (x : Step) → rows_of (xs ++ x ∷ []) ≡ rows_of xs ++ row_of x.event x.seen
+pub rows_push : (xs : List Step) (x : Step) → trace_rows_of (xs ++ x ∷ []) ≡ trace_rows_of xs ++ row_of x.event x.seen
 rows_push [] x = append-nil (row_of x.event x.seen)
 rows_push (y ∷ ys) x = rw (rows_push ys x, append_assoc)
 
@@ -84,7 +84,7 @@ module _ {setup now : TurnSetup} {key : Setting} {table : TableId} {me : Mine} {
           alone = m.alone held.seated.alone;
           slots = m.slots ∙ held.seated.slots;
           traced = rw (m.did_is, rows_push (did_in w me.0) (step_of x n))
-              (keeps (rows_of (did_in w me.0)) held.seated.traced);
+              (keeps (trace_rows_of (did_in w me.0)) held.seated.traced);
         };
       };
     }

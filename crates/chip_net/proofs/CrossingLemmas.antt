@@ -8,7 +8,7 @@ use Rattle.atomic_table.proofs.shared.Seat.TheSendSync as seat
 use Rattle.chip_actor.proofs.actor.ActorState.TheSendSync as state
 use Rattle.chip_net.proofs.trace.Trace.TheSendSync as trace
 use Rattle.chip_net.proofs.net.Net.TheSendSync as shared
-use Rattle.chip_root.proofs.root.RootBooks.TheSendSync as root_state
+use Rattle.chip_actor.proofs.root.RootBooks.TheSendSync as root_state
 use Rattle.chip_net.proofs.readings.Readings.TheSendSync as readings
 use Rattle.chip_net.specs.contracts.root_actor.RootActor as root_actor
 use Rattle.chip_net.specs.contracts.root.Root as root

@@ -64,7 +64,7 @@ pub use Rattle.chip_part.proofs.TurnLemmas.{turns_bounded}
 pub use Rattle.chip_part.specs.Acting.{event_of, FitsSeen, verdict, act_of, FitsRoot, is_of_root}
 pub use Rattle.chip_part.specs.Counting.{work_of}
 pub use Rattle.chip_part.specs.Edges.{root, graph_edges, all_edges, root_edge, stopper, start_of}
-pub use Rattle.chip_part.specs.Part.{is_passive, all_fed, is_by_limit, AreGiven, first_put, deficit}
+pub use Rattle.chip_part.specs.Part.{is_passive, all_fed, is_by_limit, AreGiven, first_put, deficit_of}
 pub use Rattle.chip_part.specs.Rules.{need}
 pub use Rattle.chip_part.specs.Setting.{Setting, IsSetting}
 pub use Rattle.chip_part.specs.Steps.{saw, link_after, stop_after}
@@ -77,7 +77,7 @@ pub use Rattle.chip_part.specs.declared.rule.Rule.{Rule}
 pub use Rattle.chip_part.specs.declared.rule.Rule.TheVariants.{NoSuch, Ended, Zero, TooMuch, NotCleared}
 pub use Rattle.chip_actor.specs.Actor.{Actor, StandsFor}
 pub use Rattle.chip_actor.specs.Medium.{IsDueBy, MayServe, Serves, IsLonger, Meets, MakesTurnOver, IsTurnMade}
-pub use Rattle.chip_root.specs.Root.{Root, RootStandsFor, RootCanDo}
+pub use Rattle.chip_actor.specs.Root.{Root, RootStandsFor, RootCanDo}
 pub use Rattle.chip_core.proofs.ClosingLemmas.{all_ended}
 pub use Rattle.chip_core.proofs.DueLemmas.{never_stuck}
 pub use Rattle.chip_core.proofs.GivenLemmas.{root_gave, played_has_more, given_is, given_start, given_within}
@@ -111,16 +111,16 @@ pub use Rattle.chip_net.specs.Layout.{index_of, first_cell, first_fired, word_co
 pub use Rattle.chip_net.specs.Meeting.{Together, IsRun, SealsTellAll}
 pub use Rattle.chip_net.specs.Opening.{first_value, AreOpening}
 pub use Rattle.chip_net.specs.Roots.{RootKnown, root_part, has_ended, all_given, IsRoot, feed_fault, AllowsFeed}
-pub use Rattle.chip_net.specs.Roots.{root_after, fed_by, root_deficit, IsOver, known_root, IsFeeding, IsDueInView}
-pub use Rattle.chip_net.specs.Roots.{MakesEvent, Replies, settles_from, DoesMore, HoldsNothing, with_stopper}
-pub use Rattle.chip_net.specs.Roots.{IsDueForRoot, Feeds, StopperKnown, Seals, stopper_part}
+pub use Rattle.chip_net.specs.Roots.{root_after, fed_by, root_deficit, IsRootOver, known_root, IsFeeding, IsDueInView}
+pub use Rattle.chip_net.specs.Roots.{RootMakesEvent, Replies, settles_from, DoesMore, HoldsNothing, with_stopper}
+pub use Rattle.chip_net.specs.Roots.{IsDueForRoot, FeedsChips, StopperKnown, Seals, stopper_part}
 pub use Rattle.chip_net.specs.Rule.{Kept, step_of, Grows, Looks, Stepped}
 pub use Rattle.chip_net.specs.Tokens.{TurnSetup, AreWordsOf, Holds, NetId, ActorKnown, part_known, known, table_of}
 pub use Rattle.chip_net.specs.Tokens.{me_of, AnswersTurn, MakesTurn, MakesTurnBy, at_net, seatless, IsOfNet, IsSeated}
-pub use Rattle.chip_net.specs.Tokens.{IsActor, newcomer}
-pub use Rattle.chip_net.specs.Traces.{TraceState, Keeps, row_of, rows_of}
+pub use Rattle.chip_net.specs.Tokens.{IsActorState, newcomer}
+pub use Rattle.chip_net.specs.Traces.{TraceState, Keeps, row_of, trace_rows_of}
 pub use Rattle.chip_net.specs.Views.{Mine, did_in, part_of_view, History, IsAlone, View, find_in, opening_view, find}
-pub use Rattle.chip_net.specs.Views.{grow_view, Has, join_views, view_without, view_of_one, no_parts}
+pub use Rattle.chip_net.specs.Views.{grow_view, HasPart, join_views, view_without, view_of_one, no_parts}
 pub use Rattle.chip_net.specs.Views.{grow, drop_part, one_part, parts_below}
 pub use Rattle.chip_net.specs.contracts.root_actor.RootActor.{the_view}
 pub use Rattle.chip_net.specs.declared.actor.Turn.{Turn}

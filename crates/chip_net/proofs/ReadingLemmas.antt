@@ -4,9 +4,9 @@ use Rattle.chip_net.proofs.Names.{◌≡◌, ℕ, zero, suc, ◌+◌, ◌<◌, �
 use Rattle.chip_net.proofs.Names.{get_or, Contains, refl, sym, ap, ◌∙◌, arith, length-append, get_or_push}
 use Rattle.chip_net.proofs.Names.{get_or_append_left, map-append, length-map, Contains-append_right, filter_below}
 use Rattle.chip_net.proofs.Names.{fired_in, is_halted_in, is_by_limit_in, Setting, IsSetting, root}
-use Rattle.chip_net.proofs.Names.{stopper, deficit, saw, Log, Step, Read, Part, part_in, word_of_part}
+use Rattle.chip_net.proofs.Names.{stopper, deficit_of, saw, Log, Step, Read, Part, part_in, word_of_part}
 use Rattle.chip_net.proofs.Names.{IsClosed, IsLegalLog, done_by, part_by, fed_in, reads_tell, own_in, RootKnown}
-use Rattle.chip_net.proofs.Names.{root_part, root_deficit, root_after, has_ended, IsOver, ReadsAt, reads_from}
+use Rattle.chip_net.proofs.Names.{root_part, root_deficit, root_after, has_ended, IsRootOver, ReadsAt, reads_from}
 use Rattle.chip_net.proofs.Names.{IsReadOut, ReadingsState, readings_after, AreRead, IsReading, picked_ext}
 use Rattle.chip_net.proofs.ViewingLemmas.{part_append, done_more, done_else}
 use Rattle.chip_net.proofs.Names.{append_assoc}
@@ -53,11 +53,11 @@ reads_say g setting log legal did ws is v l =
     reads_tell g setting.game setting.some_ring log legal x v (own_in g (root g) log x
     (rw (← is) (Contains-append_right did (reads_from 0 ws) x (reads_at 0 ws v l v (omega arith))))) refl
 
-pub still_over : {old now : RootKnown} {readings : ReadingsState} {v : ℕ} → IsReading old now readings v → IsOver old
-    → IsOver now
+pub still_over : {old now : RootKnown} {readings : ReadingsState} {v : ℕ} → IsReading old now readings v → IsRootOver old
+    → IsRootOver now
 still_over {old = old} reading over =
     let same = reads_part old reading.words in (
-      ap root_deficit reading.record_is ∙ ap (deficit old.net.setting (root old.net.setting)) same ∙ over.0,
+      ap root_deficit reading.record_is ∙ ap (deficit_of old.net.setting (root old.net.setting)) same ∙ over.0,
       ap has_ended reading.record_is ∙ ap (λ (s : Part). s.ended) same ∙ over.1,
     )
 

@@ -6,10 +6,10 @@ use Rattle.chip_net.proofs.Names.{Tail, after_clear, Setting, root, stopper, roo
 use Rattle.chip_net.proofs.Names.{FitsRoot, is_of_root, link_after, saw, tail_root, met_rules, Root}
 use Rattle.chip_net.proofs.Names.{RootStandsFor, RootCanDo, Seal, Read, Step, Event, Clear, Put, Settle, Feed, End}
 use Rattle.chip_net.proofs.Names.{Part, Out, Reply, opening_part, does, unmet_rule, part_of, reply_of}
-use Rattle.chip_net.proofs.Names.{word_to_note, root_fits, index_of, View, Mine, find, did_in, Has}
+use Rattle.chip_net.proofs.Names.{word_to_note, root_fits, index_of, View, Mine, find, did_in, HasPart}
 use Rattle.chip_net.proofs.Names.{part_of_view, IsAlone, join_views, Kept, step_of, Grows}
 use Rattle.chip_net.proofs.Names.{RootKnown, known_root, root_after, root_part, IsRoot, IsFeeding, IsDueInView}
-use Rattle.chip_net.proofs.Names.{MakesEvent, Replies, settles_from, DoesMore, HoldsNothing, has_ended, with_stopper}
+use Rattle.chip_net.proofs.Names.{RootMakesEvent, Replies, settles_from, DoesMore, HoldsNothing, has_ended, with_stopper}
 use Rattle.chip_net.proofs.Names.{NetId, AreWordsOf}
 use Rattle.chip_net.proofs.Names.{nat_tests}
 use Rattle.chip_net.proofs.ViewingLemmas.{done_more, part_append, ended_by, joined_here, joined_else}
@@ -43,7 +43,7 @@ module _ {g : Setting} {me : Mine} {x : Event} (due : Due g me (root g) x) (own 
   can = (own, due.met, fits)
 
   pub makes_event : {old : RootKnown} {table : TableId} → known_root table g me.0 ≡ old → {now : TableId} → now ≡ table
-      → MakesEvent old (known_root now g after.0) x (word_to_note x n)
+      → RootMakesEvent old (known_root now g after.0) x (word_to_note x n)
   makes_event view_is table_is = record {
     record_is = known_after m view_is table_is;
     fits = rw (← view_is) fits;
@@ -110,7 +110,7 @@ noted_over _ n = n
 noted_is : (g : Setting) (s : Part) (x : Event) (n : ℕ) → word_to_note x n ≡ noted_over (act_of g x s) n
 noted_is g s x n = grind (arith, nat_tests)
 
-pub feeding_due : {g : Setting} {x : Event} (me : Mine) → Has (root g) me.0 → IsFeeding g x
+pub feeding_due : {g : Setting} {x : Event} (me : Mine) → HasPart (root g) me.0 → IsFeeding g x
     → unmet_rule g x (part_of_view g (root g) me.0) ≡ None → Due g me (root g) x
 feeding_due {g = g} {x = x} me has feeding met = record { mine = (feeding_mine g x feeding).0; has = has; met = met }
 
@@ -149,7 +149,7 @@ does_none r events none = record {
 }
 
 -- one event
-pub does_one : {old new : RootKnown} {x : Event} {seen : ℕ} → MakesEvent old new x seen → DoesMore old new (x ∷ [])
+pub does_one : {old new : RootKnown} {x : Event} {seen : ℕ} → RootMakesEvent old new x seen → DoesMore old new (x ∷ [])
 does_one {x = x} {seen = seen} event =
     record { steps = saw x seen ∷ []; record_is = event.record_is; events_are = refl }
 
@@ -168,7 +168,7 @@ does_net more = rw more.record_is
 -- the next settle of some in a row
 pub settles_more : {old now after : RootKnown} {seen : ℕ} (first v : ℕ) → first ≤ v
     → DoesMore old now (settles_from old.net.setting first (v - first))
-    → MakesEvent now after (Settle (root_edge now.net.setting v)) seen
+    → RootMakesEvent now after (Settle (root_edge now.net.setting v)) seen
     → DoesMore old after (settles_from old.net.setting first ((v + 1) - first))
 settles_more {old = old} {now = now} first v l before event =
     let edge : root_edge now.net.setting v ≡ root_edge old.net.setting (first + (v - first)) =
@@ -183,7 +183,7 @@ pub root_step : (r : RootKnown) (y : Step)
 root_step r y = part_append r.net.setting (opening_part r.net.setting) r.did (y ∷ [])
 
 -- it holds as little as before if the event leaves what is held
-pub holds_by : {old now : RootKnown} {x : Event} {seen : ℕ} → MakesEvent old now x seen
+pub holds_by : {old now : RootKnown} {x : Event} {seen : ℕ} → RootMakesEvent old now x seen
     → ((e : ℕ) (o : Out) → (link_after x seen e o).held ≡ o.link.held) → HoldsNothing old → HoldsNothing now
 holds_by {old = old} {x = x} {seen = seen} event same none =
     rw event.record_is (λ v l. rw (root_step old (saw x seen)) (same _ _ ∙ none v l))
@@ -200,7 +200,7 @@ stays_over {old = old} more on = ap has_ended more.record_is
     ∙ ap (λ (s : Part). s.ended) (part_append old.net.setting (opening_part old.net.setting) old.did more.steps)
     ∙ ended_by old.net.setting more.steps (root_part old) on
 
-pub over_by_end : {old now : RootKnown} {seen : ℕ} → MakesEvent old now End seen → has_ended now ≡ true
+pub over_by_end : {old now : RootKnown} {seen : ℕ} → RootMakesEvent old now End seen → has_ended now ≡ true
 over_by_end {old = old} {seen = seen} event = ap has_ended event.record_is
     ∙ ap (λ (s : Part). s.ended) (root_step old (saw End seen))
 

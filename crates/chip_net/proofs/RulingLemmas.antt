@@ -8,7 +8,7 @@ use Rattle.chip_net.proofs.Names.{Read, Part, unmet_rule, part_of, part_in, does
 use Rattle.chip_net.proofs.Names.{Word, of_edge, of_acks, of_cell, of_vertex, IsWord, halt_bits, word_of_event}
 use Rattle.chip_net.proofs.Names.{left_by, word_to_note, IsShown, IsLeft, acting_part, by_history, word_for, word_there}
 use Rattle.chip_net.proofs.Names.{finds, words_go_on, index_of, value_in, View, Mine, find, find_in, grow_view, did_in}
-use Rattle.chip_net.proofs.Names.{Has, part_of_view, IsAlone, Kept, step_of, Stepped, Grows, NetId, AreWordsOf}
+use Rattle.chip_net.proofs.Names.{HasPart, part_of_view, IsAlone, Kept, step_of, Stepped, Grows, NetId, AreWordsOf}
 use Rattle.chip_net.proofs.LayingLemmas.{written_here, written_else, inside, owner_of, owner_at, by_word, owner_read}
 use Rattle.chip_net.proofs.ViewingLemmas.{set_there, find_here, find_else, grown_has, grown_alone, part_append}
 use Rattle.chip_net.proofs.ViewingLemmas.{done_more, done_else}
@@ -19,14 +19,14 @@ use Rattle.chip_part.specs.declared.act.Act.TheVariants as Do
 -- an event of the part p, which stands in the view: its rules are met
 pub record Due (g : Setting) (me : Mine) (p : ℕ) (x : Event) : Type 0 where
   pub mine : part_of g x ≡ p
-  pub has : Has p me.0
+  pub has : HasPart p me.0
   pub met : unmet_rule g x (part_of_view g p me.0) ≡ None
 
 -- such an event was made, and its operation found n: the view after it, and the part in the log that it goes on
 pub record Made (g : Setting) (me : Mine) (p : ℕ) (x : Event) (n : ℕ) (after : Mine) : Type 0 where
   pub stepped : Stepped g (step_of x n) me.0
   pub in_log : part_of_view g p me.0 ≡ part_in g stepped.log p
-  pub has : Has p after.0
+  pub has : HasPart p after.0
   pub did_is : did_in p after.0 ≡ did_in p me.0 ++ step_of x n ∷ []
   pub part_is : part_of_view g p after.0 ≡ does g (step_of x n) (part_of_view g p me.0)
   pub others : (q : ℕ) → p ≢ q → find q after.0.parts ≡ find q me.0.parts

@@ -5,7 +5,7 @@ use Rattle.chip_net.proofs.Names.{arith, inr, max_total}
 use Rattle.chip_net.proofs.Names.{sum_below_ext, Tail, claims_of, sent_counts}
 use Rattle.chip_net.proofs.Names.{Setting, root_edge, graph_edges, all_edges, all_fed, saw, Done, Full, met_rules, Step}
 use Rattle.chip_net.proofs.Names.{Clear, Put, Feed, Part, does, RootKnown, root_part}
-use Rattle.chip_net.proofs.Names.{root_after, has_ended, all_given, IsDueForRoot, MakesEvent, HoldsNothing, Feeds}
+use Rattle.chip_net.proofs.Names.{root_after, has_ended, all_given, IsDueForRoot, RootMakesEvent, HoldsNothing, FeedsChips}
 use Rattle.chip_net.proofs.Names.{nat_tests, eq-eqb, append_assoc}
 use Rattle.chip_net.proofs.ViewingLemmas.{part_append}
 use Rattle.chip_net.proofs.RootingLemmas.{root_step, holds_by, by_look}
@@ -56,7 +56,7 @@ module _ {r : RootKnown} {vertex e count : ℕ} (f : MayFeed r vertex e count) w
   same_claims : claims_of (s1.out e).link ≡ claims_of (s.out e).link
   same_claims = by_look claims_of 0 (λ t. refl) e e (s.out e)
 
-  module _ {r1 : RootKnown} {seen1 : ℕ} (made1 : MakesEvent r r1 (Clear e) seen1) (zero : seen1 ≡ 0) where
+  module _ {r1 : RootKnown} {seen1 : ℕ} (made1 : RootMakesEvent r r1 (Clear e) seen1) (zero : seen1 ≡ 0) where
     first : r1 ≡ root_after r (look ∷ [])
     first = rw zero at made1.record_is
 
@@ -73,7 +73,7 @@ module _ {r : RootKnown} {vertex e count : ℕ} (f : MayFeed r vertex e count) w
       )),
     )
 
-    module _ {r2 : RootKnown} {seen2 : ℕ} (made2 : MakesEvent r1 r2 (Feed e count) seen2) where
+    module _ {r2 : RootKnown} {seen2 : ℕ} (made2 : RootMakesEvent r1 r2 (Feed e count) seen2) where
       abbrev feed : Step
       feed = saw (Feed e count) seen2
 
@@ -93,7 +93,7 @@ module _ {r : RootKnown} {vertex e count : ℕ} (f : MayFeed r vertex e count) w
       pub due3 : IsDueForRoot r2 (Put e)
       due3 = rw second (past, rw part_append (met_rules g (Put e) s2 (below, (count, claimed))))
 
-      module _ {r3 : RootKnown} {seen3 : ℕ} (made3 : MakesEvent r2 r3 (Put e) seen3) where
+      module _ {r3 : RootKnown} {seen3 : ℕ} (made3 : RootMakesEvent r2 r3 (Put e) seen3) where
         abbrev put : Step
         put = saw (Put e) 0
 
@@ -103,7 +103,7 @@ module _ {r : RootKnown} {vertex e count : ℕ} (f : MayFeed r vertex e count) w
         pub free3 : HoldsNothing r3
         free3 = rw third (λ v l. rw part_append (let none = f.free v l in grind (arith, nat_tests)))
 
-        pub feeds : (place : ℕ) → place ≡ claims_of (s.out e).link → Feeds r r3 vertex count place
+        pub feeds : (place : ℕ) → place ≡ claims_of (s.out e).link → FeedsChips r r3 vertex count place
         feeds place place_is = record {
           not_ended = f.not_ended;
           within = f.few;
@@ -111,5 +111,5 @@ module _ {r : RootKnown} {vertex e count : ℕ} (f : MayFeed r vertex e count) w
           record_is = rw (place2, ← place_is, f.edge_is) at third;
         }
 
-  pub free1 : {r1 : RootKnown} {seen : ℕ} → MakesEvent r r1 (Clear e) seen → HoldsNothing r1
+  pub free1 : {r1 : RootKnown} {seen : ℕ} → RootMakesEvent r r1 (Clear e) seen → HoldsNothing r1
   free1 {seen = seen} made = holds_by made (by_look (λ (t : Tail). t.held) seen (λ t. refl) e) f.free

@@ -3,12 +3,12 @@
 use Rattle.chip_net.proofs.Names.{◌≡◌, ℕ, List, ◌++◌, reverse, refl, sym, ap, ◌∙◌, subst, reverse-append}
 use Rattle.chip_net.proofs.Names.{reverse-reverse, TableId, Setting, Actor, StandsFor, Meets, MakesTurnOver, IsTurnMade}
 use Rattle.chip_net.proofs.Names.{turn, turns_bounded, Step, Part, TraceState, did_in, part_of_view, Mine, TurnSetup}
-use Rattle.chip_net.proofs.Names.{IsOfNet, Holds, IsSeated, IsActor, known, MakesTurnBy}
+use Rattle.chip_net.proofs.Names.{IsOfNet, Holds, IsSeated, IsActorState, known, MakesTurnBy}
 use Rattle.chip_part.specs.declared.cursor.Cursor.TheVariants as At
 
 module _ {setup now : TurnSetup} {key : Setting} {table : TableId} {me : Mine} {trace : TraceState} (a : Actor)
     (began : setup ≡ now) (of_net : IsOfNet now.net.setting key now.net.table) (vertex : now.vertex ≡ a.vertex) (table_is : table ≡ now.net.table)
-    (actor : IsActor now.net.setting a me trace) where
+    (actor : IsActorState now.net.setting a me trace) where
   abbrev g : Setting
   g = now.net.setting
 
@@ -82,7 +82,7 @@ module _ {setup now : TurnSetup} {key : Setting} {table : TableId} {me : Mine} {
           work_is = over.counted;
         }
 
-    pub still_actor : IsActor g b me' trace'
+    pub still_actor : IsActorState g b me' trace'
     still_actor = (
       subst (λ (z : Setting × ℕ). IsSeated z.0 z.1 me' trace') (λ j. ((still j).net.setting, at j)) over.held.seated,
       subst (λ (s : Part). StandsFor g s b) part_is over.stands,

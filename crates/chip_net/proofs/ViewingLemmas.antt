@@ -5,7 +5,7 @@ use Rattle.chip_net.proofs.Names.{length-append, set, Option, Some, None, refl, 
 use Rattle.chip_net.proofs.Names.{slice_get_read, get_or_from_slice_get, get_or_push, get_or_append_left, dite, some}
 use Rattle.chip_net.proofs.Names.{some-ne-none, ℕ_discrete, get_elem?, Setting, stays_ended, Step}
 use Rattle.chip_net.proofs.Names.{Part, does, part_by, part-append, History, View, find, grow, grow_view}
-use Rattle.chip_net.proofs.Names.{did_in, Has, drop_part, one_part, view_of_one, parts_below, IsAlone, join_views}
+use Rattle.chip_net.proofs.Names.{did_in, HasPart, drop_part, one_part, view_of_one, parts_below, IsAlone, join_views}
 use Rattle.chip_net.proofs.Names.{eq-eqb, ne_eqb, Log, done_by, part_of}
 
 pub some_is : {A : Type 0} (a b : A) → Some a ≡ Some b → a ≡ b
@@ -31,8 +31,8 @@ find_else p q x [] ne = refl
 find_else p q x (y ∷ ys) ne = let rest = find_else p q x ys ne in grind (arith, nat_tests)
 
 -- what a view has of the part that stepped
-pub grown_has : (p : ℕ) (x : Step) (v w : View) → Has p v → w ≡ grow_view p x v → (did_in p w ≡ did_in p v ++ x ∷ [])
-    × Has p w
+pub grown_has : (p : ℕ) (x : Step) (v w : View) → HasPart p v → w ≡ grow_view p x v → (did_in p w ≡ did_in p v ++ x ∷ [])
+    × HasPart p w
 grown_has p x v w has is = rw (is, find_here p x v.parts (did_in p v) has) (refl, refl)
 
 -- a part after more events of its own
@@ -73,7 +73,7 @@ alone_has p v did has = rw (has, eq-eqb p p refl)
 
 -- ---- a part that stands alone
 
-pub alone_there : (p : ℕ) (v : View) → IsAlone p v → Has p v
+pub alone_there : (p : ℕ) (v : View) → IsAlone p v → HasPart p v
 alone_there p v is = rw (is, eq-eqb p p refl)
 
 pub alone_else : (p q : ℕ) (v : View) → IsAlone p v → p ≢ q → find q v.parts ≡ None

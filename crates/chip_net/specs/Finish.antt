@@ -12,7 +12,7 @@ use Rattle.chip_sequence.specs.Play.{IsPlayed}
 use Rattle.chip_link.specs.Words.{fired_in, is_halted_in, is_by_limit_in}
 use Rattle.chip_part.specs.Edges.{root, stopper}
 use Rattle.chip_part.specs.Steps.{saw}
-use Rattle.chip_core.specs.Core.{Log, Step, Read, Fits, part_in, word_of_part, IsClosed}
+use Rattle.chip_core.specs.Core.{Log, Step, Read, FitsLog, part_in, word_of_part, IsClosed}
 use Rattle.chip_net.specs.Rule.{SomeLog}
 use Rattle.chip_core.specs.Histories.{done_by}
 use Rattle.chip_core.specs.Positions.{firings}
@@ -28,7 +28,7 @@ pub record HasDoneIn (r : RootKnown) (log : Log) : Type 0 where
 -- one read was made, after some legal log with what the root did
 abbrev pub ReadsAt : RootKnown → RootKnown → ℕ → ℕ → Type 0
 ReadsAt old new v seen = (new ≡ root_after old (saw (Read v) seen ∷ []))
-    × SomeLog old.net.setting (λ log. Fits old.net.setting log (saw (Read v) seen) × HasDoneIn old log)
+    × SomeLog old.net.setting (λ log. FitsLog old.net.setting log (saw (Read v) seen) × HasDoneIn old log)
 
 -- reads of the vertices from v on, each with the word that it saw
 abbrev pub reads_from : ℕ → List ℕ → List Step

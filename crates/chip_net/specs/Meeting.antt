@@ -38,8 +38,8 @@ pub record IsRun (receipt : RootKnown) (actors : List ActorKnown) (o : Outcome) 
   pub outcome : IsOutcomeOf receipt.net.setting log o
 
 -- in one legal log these actors did what they did, and so did the parts of the view that come behind them
-abbrev pub Met : Setting → View → List ActorKnown → Type 0
-Met g view actors = SomeLog g (λ log. DidTheirs g log actors
+abbrev pub HaveMet : Setting → View → List ActorKnown → Type 0
+HaveMet g view actors = SomeLog g (λ log. DidTheirs g log actors
     × ((p : ℕ) (did : List Step) → length actors ≤ p → find p view.parts ≡ Some did → did ≡ done_by g p log))
 
 -- if a root finished and then met the actors, all of that is one run with the outcome that it read

@@ -7,19 +7,19 @@ use Rattle.chip_graph.specs.More.{all_brought}
 use Rattle.chip_link.specs.Link.{claims_of}
 use Rattle.chip_part.specs.Setting.{Setting, IsSetting}
 use Rattle.chip_part.specs.Edges.{root, stopper, root_edge, graph_edges}
-use Rattle.chip_part.specs.Part.{deficit, all_fed}
+use Rattle.chip_part.specs.Part.{deficit_of, all_fed}
 use Rattle.chip_part.specs.declared.act.Act.{Act}
 use Rattle.chip_part.specs.declared.rule.Rule.{Rule}
 use Rattle.chip_part.specs.declared.rule.Rule.TheVariants as Not
 use Rattle.chip_part.specs.Acting.{act_of, FitsRoot}
-use Rattle.chip_root.specs.Root.{Root, RootStandsFor}
+use Rattle.chip_actor.specs.Root.{Root, RootStandsFor}
 use Rattle.chip_part.specs.Steps.{saw}
 use Rattle.chip_core.specs.Core.{Step, Event, Clear, Put, Settle, Seal, Feed, End, Reply, Part, opening_part}
 use Rattle.chip_core.specs.Core.{unmet_rule, reply_of}
 use Rattle.chip_core.specs.Histories.{done_by, part_by}
 use Rattle.chip_core.specs.Positions.{fed_in}
 use Rattle.chip_core.specs.Words.{word_to_note}
-use Rattle.chip_net.specs.Views.{View, find, Has, did_in, part_of_view}
+use Rattle.chip_net.specs.Views.{View, find, HasPart, did_in, part_of_view}
 use Rattle.chip_net.specs.Rule.{SomeLog}
 use Rattle.chip_net.specs.Tokens.{NetId}
 use Rattle.chip_net.specs.declared.poll.FeedFault.{FeedFault}
@@ -48,15 +48,15 @@ root_part r = part_by r.net.setting (opening_part r.net.setting) r.did
 
 -- how many of its messages aren't acknowledged, as far as it settled
 abbrev pub root_deficit : RootKnown → ℕ
-root_deficit r = deficit r.net.setting (root r.net.setting) (root_part r)
+root_deficit r = deficit_of r.net.setting (root r.net.setting) (root_part r)
 
 -- it noted the end of feeding; if no chips are fed it is noted from the beginning
 abbrev pub has_ended : RootKnown → Bool
 has_ended r = (root_part r).ended
 
 -- it is closed: nothing more is fed, and no message is outstanding
-abbrev pub IsOver : RootKnown → Type 0
-IsOver r = (root_deficit r ≡ 0) × (has_ended r ≡ true)
+abbrev pub IsRootOver : RootKnown → Type 0
+IsRootOver r = (root_deficit r ≡ 0) × (has_ended r ≡ true)
 
 -- what it fed, one after another: pairs of a vertex and a count of chips
 abbrev pub fed_by : RootKnown → List (ℕ × ℕ)
@@ -87,7 +87,7 @@ root_after r steps = record { net = r.net; did = r.did ++ steps; stopper_did = r
 -- the view of the root of this game, with what the root keeps of it
 pub record IsRoot (g : Setting) (view : View) (state : Root) : Type 0 where
   pub setting : IsSetting g
-  pub has : Has (root g) view
+  pub has : HasPart (root g) view
   pub stands : RootStandsFor g (part_of_view g (root g) view) state
   pub in_log : SomeLog g (λ log. did_in (root g) view ≡ done_by g (root g) log)
 
@@ -105,13 +105,13 @@ IsDueForRoot r x = IsFeeding r.net.setting x × (unmet_rule r.net.setting x (roo
 
 -- the same by the root's view, with the operation that the event needs
 pub record IsDueInView (g : Setting) (view : View) (x : Event) (act : Act) : Type 0 where
-  pub has : Has (root g) view
+  pub has : HasPart (root g) view
   pub feeding : IsFeeding g x
   pub met : unmet_rule g x (part_of_view g (root g) view) ≡ None
   pub needed : act ≡ act_of g x (part_of_view g (root g) view)
 
 -- one event was made and saw this
-pub record MakesEvent (old new : RootKnown) (x : Event) (seen : ℕ) : Type 0 where
+pub record RootMakesEvent (old new : RootKnown) (x : Event) (seen : ℕ) : Type 0 where
   pub record_is : new ≡ root_after old (saw x seen ∷ [])
   pub fits : FitsRoot old.net.setting (root_part old) x seen
   -- a store finds nothing
@@ -120,7 +120,7 @@ pub record MakesEvent (old new : RootKnown) (x : Event) (seen : ℕ) : Type 0 wh
 -- one event was made, and this is the reply to it
 pub record Replies (old new : RootKnown) (x : Event) (reply : Reply) : Type 0 where
   pub seen : ℕ
-  pub made : MakesEvent old new x seen
+  pub made : RootMakesEvent old new x seen
   pub reply_is : reply ≡ reply_of old.net.setting x seen (root_part old)
 
 -- nothing is claimed on a root edge that isn't put
@@ -140,7 +140,7 @@ feed_steps g vertex count place =
     ∷ []
 
 -- the root fed `count` chips to a vertex, by a message with this place
-pub record Feeds (old new : RootKnown) (vertex count place : ℕ) : Type 0 where
+pub record FeedsChips (old new : RootKnown) (vertex count place : ℕ) : Type 0 where
   pub not_ended : has_ended old ≡ false
   pub within : all_given old + count ≤ max_total
   pub place_is : place ≡ sent_to old vertex
@@ -201,7 +201,7 @@ IsPolling old now count = DoesMore old now (settles_from old.net.setting 0 count
 
 -- what a poll answers, by the root after it: without a deficit it runs only if more may be fed
 abbrev pub AnswersPoll : RootKnown → RootState → Type 0
-AnswersPoll r Closed = IsOver r
+AnswersPoll r Closed = IsRootOver r
 AnswersPoll r (Running n) = (n ≡ root_deficit r) × (n ≡ 0 → has_ended r ≡ false)
 
 -- the root settled each root edge once more, and this is the answer

@@ -5,7 +5,7 @@ use lib.ListN.{get_elem?}
 use Rattle.atomic_table.specs.Table.{State}
 use Rattle.chip_part.specs.Setting.{Setting, IsSetting, setting_of}
 use Rattle.chip_part.specs.Steps.{saw}
-use Rattle.chip_core.specs.Core.{Log, Step, Event, part_of, Fits, IsLegalLog}
+use Rattle.chip_core.specs.Core.{Log, Step, Event, part_of, FitsLog, IsLegalLog}
 use Rattle.chip_core.specs.Histories.{done_by}
 use Rattle.chip_core.specs.Words.{word_to_note, IsShown}
 use Rattle.chip_net.specs.Layout.{word_count, value_in}
@@ -45,7 +45,7 @@ pub record SomeLog (g : Setting) (P : Log → Type 0) : Type 0 where
 
 -- some legal log goes on with this step, and the parts of the view did in it what they did
 abbrev pub Stepped : Setting → Step → View → Type 0
-Stepped g x v = SomeLog g (λ log. Fits g log x × AgreesWithLog g log v)
+Stepped g x v = SomeLog g (λ log. FitsLog g log x × AgreesWithLog g log v)
 
 -- what a step tells: the part that acts did this more, the core makes the event there, and no slot was taken
 abbrev pub Grows : Setting → Event → Mine → ℕ → Mine → Type 0

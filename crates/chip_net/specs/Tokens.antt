@@ -3,7 +3,7 @@ use Rattle.std.specs.Prelude.{◌≡◌, ◌⊎◌, ℕ, ◌<◌, ◌≤◌, tru
 use Rattle.atomic_table.specs.Seated.{TableId}
 use Rattle.chip_part.specs.Setting.{Setting, IsSetting}
 use Rattle.chip_actor.specs.Actor.{Actor, StandsFor}
-use Rattle.chip_part.specs.Part.{is_passive, deficit}
+use Rattle.chip_part.specs.Part.{is_passive, deficit_of}
 use Rattle.chip_part.specs.Turn.{turn, most_steps}
 use Rattle.chip_part.specs.Counting.{work_of}
 use Rattle.chip_core.specs.Core.{Step, Part, opening_part}
@@ -11,7 +11,7 @@ use Rattle.chip_core.specs.Histories.{part_by}
 use Rattle.chip_net.specs.Layout.{word_count}
 use Rattle.chip_net.specs.Rule.{no_setting}
 use Rattle.chip_net.specs.Views.{History, View, Mine, IsAlone, did_in, part_of_view}
-use Rattle.chip_net.specs.Traces.{TraceState, Keeps, rows_of}
+use Rattle.chip_net.specs.Traces.{TraceState, Keeps, trace_rows_of}
 use Rattle.chip_net.specs.declared.actor.Turn.{Turn}
 use Rattle.chip_net.specs.declared.actor.Turn.TheVariants.{Worked, Waiting, Idle}
 
@@ -87,11 +87,11 @@ pub record IsSeated (g : Setting) (v : ℕ) (me : Mine) (trace : TraceState) : T
   pub inside : v < g.game.graph.vertices
   pub alone : IsAlone v me.0
   pub slots : me.1 ≡ []
-  pub traced : Keeps (rows_of (did_in v me.0)) trace
+  pub traced : Keeps (trace_rows_of (did_in v me.0)) trace
 
 -- and the state of the vertex stands for its part
-abbrev pub IsActor : Setting → Actor → Mine → TraceState → Type 0
-IsActor g a me trace = IsSeated g a.vertex me trace × StandsFor g (part_of_view g a.vertex me.0) a
+abbrev pub IsActorState : Setting → Actor → Mine → TraceState → Type 0
+IsActorState g a me trace = IsSeated g a.vertex me trace × StandsFor g (part_of_view g a.vertex me.0) a
 
 -- ---- the net's words as a medium
 
@@ -131,7 +131,7 @@ abbrev pub AnswersTurn : Setting → ℕ → ℕ → Part → Turn → Type 0
 AnswersTurn g v work after (Worked n) = (n ≡ work) × (0 < n)
 AnswersTurn g v work after Waiting = (work ≡ 0) × (is_passive g v after ≡ false)
 AnswersTurn g v work after Idle = (work ≡ 0) × (is_passive g v after ≡ true)
-    × ((after.parent ≡ None) ⊎ (0 < deficit g v after))
+    × ((after.parent ≡ None) ⊎ (0 < deficit_of g v after))
 
 -- the actor did exactly one turn more, and this is its answer
 pub record MakesTurn (old new : ActorKnown) (answer : Turn) : Type 0 where

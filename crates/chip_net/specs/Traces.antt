@@ -11,9 +11,9 @@ row_of (Fire v k) seen = Row.Fire k ∷ []
 row_of _ seen = []
 
 -- the rows of some steps
-abbrev pub rows_of : List Step → List TraceRow
-rows_of [] = []
-rows_of (x ∷ xs) = row_of x.event x.seen ++ rows_of xs
+abbrev pub trace_rows_of : List Step → List TraceRow
+trace_rows_of [] = []
+trace_rows_of (x ∷ xs) = row_of x.event x.seen ++ trace_rows_of xs
 
 -- a trace: its rows, how many it has room for, and whether one was lost
 pub record TraceState : Type 0 where

@@ -39,8 +39,8 @@ abbrev pub did_in : ℕ → View → List Step
 did_in p v = steps_or_none (find p v.parts)
 
 -- the part stands in the view
-abbrev pub Has : ℕ → View → Type 0
-Has p v = find p v.parts ≡ Some (did_in p v)
+abbrev pub HasPart : ℕ → View → Type 0
+HasPart p v = find p v.parts ≡ Some (did_in p v)
 
 -- the part p of the core, as what it did leaves it
 abbrev pub part_of_view : Setting → ℕ → View → Part

@@ -10,7 +10,7 @@ use Rattle.chip_core.specs.Words.{of_edge, of_acks, of_cell, of_vertex}
 use Rattle.chip_net.specs.Layout.{index_of, word_count}
 use Rattle.chip_net.specs.Views.{View, find, grow_view, view_without, view_of_one, join_views}
 use Rattle.chip_net.specs.Opening.{first_value}
-use Rattle.chip_net.specs.Traces.{rows_of}
+use Rattle.chip_net.specs.Traces.{trace_rows_of}
 use Rattle.chip_net.specs.Roots.{settles_from, feed_steps}
 use Rattle.chip_net.specs.Finish.{reads_from, no_readings, readings_after}
 
@@ -49,9 +49,9 @@ PartTakenOut =
 -- an empty cell and an acknowledgement make no row
 abbrev pub RowsOfATurn : Type 0
 RowsOfATurn =
-    (rows_of (saw (Take 2) 0 ∷ saw (Take 4) 4 ∷ saw (Settle 0) 0 ∷ saw (Fire 0 2) 0 ∷ saw (Ack 4) 0 ∷ [])
+    (trace_rows_of (saw (Take 2) 0 ∷ saw (Take 4) 4 ∷ saw (Settle 0) 0 ∷ saw (Fire 0 2) 0 ∷ saw (Ack 4) 0 ∷ [])
     ≡ Row.Take 4 4 ∷ Row.Fire 2 ∷ [])
-    × (take 1 (rows_of (saw (Take 4) 4 ∷ saw (Fire 0 2) 0 ∷ [])) ≡ Row.Take 4 4 ∷ [])
+    × (take 1 (trace_rows_of (saw (Take 4) 4 ∷ saw (Fire 0 2) 0 ∷ [])) ≡ Row.Take 4 4 ∷ [])
 
 -- a poll, and the reads of the root: vertex 0 fired twice, vertex 1 once and was halted by its limit, and a seal halted
 -- vertex 2

@@ -1,11 +1,11 @@
 ghost use Rattle.std.specs.Prelude.{◌≡◌, ◌≢◌, ℕ, ◌≤◌, [], nat_lt, length, take, Some, IfOk};
 ghost use Rattle.chip_actor.specs.Actor.{StandsFor};
 ghost use Rattle.chip_part.specs.Part.{opening_part};
-ghost use Rattle.chip_net.specs.Traces.{rows_of};
-ghost use Rattle.chip_net.specs.Tokens.{ActorKnown, MakesTurn, MakesTurnBy, IsSeated, IsActor, known, newcomer, seatless};
+ghost use Rattle.chip_net.specs.Traces.{trace_rows_of};
+ghost use Rattle.chip_net.specs.Tokens.{ActorKnown, MakesTurn, MakesTurnBy, IsSeated, IsActorState, known, newcomer, seatless};
 ghost use Rattle.chip_net.specs.Tokens.{IsOfNet, at_net};
 ghost use Rattle.chip_net.specs.Views.{find};
-ghost use Rattle.chip_net.specs.Meeting.{AreInPlace, Met};
+ghost use Rattle.chip_net.specs.Meeting.{AreInPlace, HaveMet};
 
 use crate::net::Net;
 use crate::net_words::{NetWords, Turning};
@@ -44,14 +44,14 @@ pub(crate) struct Owned {
 }
 
 impl Model for Owned {
-    ghost use Rattle.chip_net.specs.Tokens.{ActorKnown, known, table_of, me_of, IsActor};
+    ghost use Rattle.chip_net.specs.Tokens.{ActorKnown, known, table_of, me_of, IsActorState};
 
     ghost Value = { ActorKnown };
 
     ghost view = { λ a. known (table_of a.seat.me.0.parts a.seat.table_id) a.setting.value a.state.vertex a.trace.room
         (me_of a.seat.me.0.parts a.seat.me a.knew.value.me).0 };
 
-    ghost invariant = { λ a. IsActor a.setting.value a.state (me_of a.seat.me.0.parts a.seat.me a.knew.value.me) a.trace };
+    ghost invariant = { λ a. IsActorState a.setting.value a.state (me_of a.seat.me.0.parts a.seat.me a.knew.value.me) a.trace };
 }
 
 impl Owned {
@@ -172,8 +172,8 @@ impl Actor {
     /// The takes of messages and the firings of the vertex, in order, as far as there was room for them; and whether
     /// the trace is cut, since there was no room for one.
     pub fn trace(&self) -> (&[TraceRow], bool)
-        ensures rows { result.0.now ≡ take self.now.room (rows_of self.now.did) }
-        ensures cut { result.1 ≡ nat_lt self.now.room (length (rows_of self.now.did)) }
+        ensures rows { result.0.now ≡ take self.now.room (trace_rows_of self.now.did) }
+        ensures cut { result.1 ≡ nat_lt self.now.room (length (trace_rows_of self.now.did)) }
     {
         let owned: &Owned = &self.owned;
         (owned.trace.rows(), owned.trace.is_cut())
@@ -194,13 +194,13 @@ fn turn_over<J: Turning>(state: &mut ActorState, words: &mut NetWords<'_, J>) ->
     requires vertex { words.old.vertex ≡ state.old.vertex }
     requires words { IsOfNet words.old.setting.now words.old.words.now.key.value words.old.words.now.table_id }
     requires table { words.old.seat.now.table_id ≡ words.old.words.now.table_id }
-    requires actor { IsActor words.old.setting.now state.old words.old.seat.now.me words.old.trace.now }
+    requires actor { IsActorState words.old.setting.now state.old words.old.seat.now.me words.old.trace.now }
     ensures seat { words.new.seat.ghost_name ≡ words.old.seat.ghost_name }
     ensures trace { words.new.trace.ghost_name ≡ words.old.trace.ghost_name }
     ensures turn { MakesTurnBy (known words.old.seat.now.table_id words.old.setting.now state.old.vertex
         words.old.trace.now.room words.old.seat.now.me.0) (known words.new.seat.now.table_id words.old.setting.now
         state.new.vertex words.new.trace.now.room words.new.seat.now.me.0) result }
-    ensures actor { IsActor words.old.setting.now state.new words.new.seat.now.me words.new.trace.now }
+    ensures actor { IsActorState words.old.setting.now state.new words.new.seat.now.me words.new.trace.now }
 {
     state.turn(words)
 }
@@ -213,7 +213,7 @@ pub(crate) fn meet(net: &Net, seat: &mut PartSeat, actors: &mut [Actor])
     ensures seat { seat.new.table_id ≡ seat.old.table_id }
     ensures others { (p : ℕ) → length actors.old ≤ p → find p seat.new.me.0.parts ≡ find p seat.old.me.0.parts }
     ensures actors { actors.new ≡ actors.old }
-    ensures met { Met net.now.setting seat.old.me.0 actors.old }
+    ensures met { HaveMet net.now.setting seat.old.me.0 actors.old }
 {
     for index in 0..actors.len() {
         let actor = &mut actors[index];

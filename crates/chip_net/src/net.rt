@@ -32,7 +32,7 @@ impl Net {
     ghost use Rattle.chip_part.specs.Setting.{IsSetting};
     ghost use Rattle.chip_net.specs.Tokens.{AreWordsOf};
     ghost use Rattle.chip_net.specs.Rule.{Looked};
-    ghost use Rattle.chip_net.specs.Views.{find, Has, opening_view, IsAlone, join_views, no_parts};
+    ghost use Rattle.chip_net.specs.Views.{find, HasPart, opening_view, IsAlone, join_views, no_parts};
 
     /// A net for this setting, as it opens, and the seat that has every part.
     pub(crate) fn lay_out(alloc: Global, setting: Setting) -> Result<(Net, PartSeat), AllocError>
@@ -64,7 +64,7 @@ impl Net {
     /// A seat of its own for a part, with all that it did.
     pub(crate) fn take_out<J: OnePart>(&self, seat: &mut PartSeat) -> PartSeat
         requires seat { seat.old.table_id ≡ self.now.table }
-        requires part { Has J.part seat.old.me.0 }
+        requires part { HasPart J.part seat.old.me.0 }
         ensures same { seat.new.table_id ≡ seat.old.table_id }
         ensures gone { find J.part seat.new.me.0.parts ≡ None }
         ensures others { (p : ℕ) → J.part ≢ p → find p seat.new.me.0.parts ≡ find p seat.old.me.0.parts }

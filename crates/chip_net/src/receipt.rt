@@ -1,6 +1,6 @@
 ghost use Rattle.std.specs.Prelude.{◌≡◌, ◌<◌, true, length};
 ghost use Rattle.chip_link.specs.Words.{is_fired_word};
-ghost use Rattle.chip_net.specs.Roots.{IsOver};
+ghost use Rattle.chip_net.specs.Roots.{IsRootOver};
 ghost use Rattle.chip_net.specs.Finish.{ReadsAt, IsReading, no_readings};
 ghost use Rattle.chip_net.specs.Meeting.{AreInPlace, Together};
 
@@ -24,24 +24,24 @@ pub struct Receipt {
 impl Model for Receipt {
     ghost use Rattle.chip_part.specs.Edges.{root};
     ghost use Rattle.chip_part.specs.Setting.{IsSetting};
-    ghost use Rattle.chip_net.specs.Views.{Has};
+    ghost use Rattle.chip_net.specs.Views.{HasPart};
     ghost use Rattle.chip_net.specs.Roots.{RootKnown, known_root};
 
     ghost Value = { RootKnown };
 
     ghost view = { λ a. known_root a.seat.table_id a.setting.value a.seat.me.0 };
 
-    ghost invariant = { λ a. Has (root a.setting.value) a.seat.me.0 × IsSetting a.setting.value };
+    ghost invariant = { λ a. HasPart (root a.setting.value) a.seat.me.0 × IsSetting a.setting.value };
 }
 
 impl Receipt {
     ghost use Rattle.chip_part.specs.Edges.{root};
     ghost use Rattle.chip_part.specs.Setting.{IsSetting};
-    ghost use Rattle.chip_net.specs.Views.{Has};
+    ghost use Rattle.chip_net.specs.Views.{HasPart};
     ghost use Rattle.chip_net.specs.Roots.{known_root};
 
     pub(crate) fn new(seat: PartSeat, setting: Snapshot<Setting>) -> Receipt
-        requires has { Has (root setting.value) seat.me.0 }
+        requires has { HasPart (root setting.value) seat.me.0 }
         requires setting { IsSetting setting.value }
         ensures { result ≡ known_root seat.table_id setting.value seat.me.0 }
     {
@@ -63,7 +63,7 @@ impl Receipt {
     fn read(&mut self, net: &Net, vertex: u64) -> u64
         requires net { self.old.net ≡ net.now }
         requires vertex { vertex < self.old.net.setting.game.graph.vertices }
-        requires over { IsOver self.old }
+        requires over { IsRootOver self.old }
         ensures reads { ReadsAt self.old self.new vertex result }
         ensures word { is_fired_word result ≡ true }
     {
@@ -75,7 +75,7 @@ impl Receipt {
     /// Reads every fired word once, ascending.
     pub(crate) fn read_all(&mut self, net: &Net, mut readings: Readings) -> Readings
         requires net { self.old.net ≡ net.now }
-        requires over { IsOver self.old }
+        requires over { IsRootOver self.old }
         requires readings { readings ≡ no_readings self.old.net.setting.game.graph.vertices }
         ensures { IsReading self.old self.new result self.old.net.setting.game.graph.vertices }
     {

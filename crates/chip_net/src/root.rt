@@ -2,7 +2,7 @@ ghost use Rattle.std.specs.Prelude.{◌≡◌, ◌<◌, ◌≤◌, [], Some, IfO
 ghost use Rattle.chip_part.specs.Setting.{IsSetting};
 ghost use Rattle.chip_part.specs.Edges.{root, stopper};
 ghost use Rattle.chip_net.specs.Views.{find};
-ghost use Rattle.chip_net.specs.Roots.{new_root, with_stopper, IsOver, Feeds, RefusesFeed, Polls, Ends};
+ghost use Rattle.chip_net.specs.Roots.{new_root, with_stopper, IsRootOver, FeedsChips, RefusesFeed, Polls, Ends};
 ghost use Rattle.chip_net.specs.Finish.{Finishes, no_readings};
 
 use crate::net::Net;
@@ -58,7 +58,7 @@ impl Root {
         requires net { self.old.net ≡ net.now }
         requires vertex { vertex < self.old.net.setting.game.graph.vertices }
         requires count { 1 ≤ count }
-        ensures cases { MatchResult result (Feeds self.old self.new vertex count)
+        ensures cases { MatchResult result (FeedsChips self.old self.new vertex count)
             (RefusesFeed self.old self.new vertex count) }
         ensures same { self.new.net ≡ self.old.net }
     {
@@ -113,8 +113,8 @@ impl Root {
     /// sent. Before that, it gives the root back.
     pub fn finish(self, net: &Net) -> Result<(Outcome, Receipt), Root>
         requires net { self.net ≡ net.now }
-        ensures { MatchResult result (λ r. IsOver self × Finishes self r.1 r.0)
-            (λ r. (r ≡ self) × (IsOver self → ⊥)) }
+        ensures { MatchResult result (λ r. IsRootOver self × Finishes self r.1 r.0)
+            (λ r. (r ≡ self) × (IsRootOver self → ⊥)) }
     {
         if !self.actor.is_closed() {
             return Err(self);
@@ -127,7 +127,7 @@ impl Root {
 /// The end of a game that is over: the reads, and what is made of them.
 fn read_outcome(net: &Net, actor: RootActor, readings: Readings) -> (Outcome, Receipt)
     requires net { actor.net ≡ net.now }
-    requires over { IsOver actor }
+    requires over { IsRootOver actor }
     requires readings { readings ≡ no_readings actor.net.setting.game.graph.vertices }
     ensures { Finishes actor result.1 result.0 }
 {

@@ -3,14 +3,14 @@
 ghost use Rattle.std.specs.Prelude.{◌≡◌, ℕ, ◌-◌, ◌<◌, ◌≤◌, ◌==◌, ◌&&◌, [], Some, IfOk, MatchResult, true};
 ghost use Rattle.chip_part.specs.Setting.{IsSetting};
 ghost use Rattle.chip_part.specs.Edges.{root, stopper, root_edge};
-ghost use Rattle.chip_root.specs.Root.{RootStandsFor};
+ghost use Rattle.chip_actor.specs.Root.{RootStandsFor};
 ghost use Rattle.chip_core.specs.Core.{End, Settle, part_of, unmet_rule};
 ghost use Rattle.chip_core.specs.Words.{word_to_note, of_acks};
 ghost use Rattle.chip_net.specs.Layout.{index_of};
 ghost use Rattle.chip_net.specs.Rule.{Grows};
 ghost use Rattle.chip_net.specs.Views.{find};
-ghost use Rattle.chip_net.specs.Roots.{new_root, root_part, root_deficit, has_ended, IsOver, with_stopper};
-ghost use Rattle.chip_net.specs.Roots.{IsDueForRoot, IsDueInView, MakesEvent, Replies, DoesMore, settles_from};
+ghost use Rattle.chip_net.specs.Roots.{new_root, root_part, root_deficit, has_ended, IsRootOver, with_stopper};
+ghost use Rattle.chip_net.specs.Roots.{IsDueForRoot, IsDueInView, RootMakesEvent, Replies, DoesMore, settles_from};
 ghost use Rattle.chip_net.specs.Roots.{HoldsNothing, AnswersPoll, AllowsFeed, feed_fault};
 
 use crate::layout::{acks_word, cell_word, edge_word, root_acks};
@@ -19,9 +19,9 @@ use crate::poll::{FeedFault, RootState};
 use crate::receipt::Receipt;
 use crate::rule::PartSeat;
 use crate::stopper::Stopper;
+use chip_actor::RootBooks;
 use chip_link::Event;
 use chip_part::{Act, Reply, Rule, Setting};
-use chip_root::RootBooks;
 use std::alloc::{AllocError, Global};
 use std::marker::{Brand, Model};
 use std::snapshot::Snapshot;
@@ -81,7 +81,7 @@ impl RootActor {
         requires net { self.old.net ≡ net.now }
         requires vertex { vertex < self.old.net.setting.game.graph.vertices }
         requires word { word ≡ index_of self.old.net.setting (of_acks (root_edge self.old.net.setting vertex)) }
-        ensures { (seen : ℕ) × MakesEvent self.old self.new (Settle (root_edge self.old.net.setting vertex)) seen }
+        ensures { (seen : ℕ) × RootMakesEvent self.old self.new (Settle (root_edge self.old.net.setting vertex)) seen }
     {
         let seat = &mut self.seat;
         let seen = net.words().load::<Brand>(seat, word);

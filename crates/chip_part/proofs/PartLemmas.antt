@@ -19,8 +19,8 @@ use Rattle.chip_link.specs.Link.{Tail, claims_of, sent_counts, after_clear, afte
 use Rattle.chip_detect.specs.Acknowledging.{is_parent, or_else}
 use Rattle.chip_part.specs.declared.cause.Cause.TheVariants.{FiringLimit}
 use Rattle.chip_part.specs.Edges.{graph_edges, all_edges, root_edge, tail_of, head_of, mult_of, over_outs, over_ins}
-use Rattle.chip_part.specs.Part.{Cause, Part, owed, outstanding, may_ack, all_owed, pending_of, unput_count, refusals}
-use Rattle.chip_part.specs.Part.{cause, is_legal, is_passive, deficit, all_fed}
+use Rattle.chip_part.specs.Part.{Cause, Part, owed_on, outstanding_on, may_ack_on, owed_by, pending_of, unput_count, refusals}
+use Rattle.chip_part.specs.Part.{cause, is_legal, is_passive, deficit_of, all_fed}
 use Rattle.chip_part.specs.Rules.{Event, Take, Ack, Fire, Clear, Claim, Put, Halt, Settle, Feed, End, unmet_rule}
 use Rattle.chip_part.specs.Steps.{part_of, settled_after, got_after, acked_after, halt_after, fired_after, saw}
 use Rattle.chip_part.specs.Steps.{parent_after, link_after, ended_after, does, Step}
@@ -147,8 +147,8 @@ module _ (g : Setting) where
   took_more : (seen : ℕ) (got : List ℕ) → length got ≤ length (after_take seen got)
   took_more seen got = let b = length-append got (seen ∷ []) in grind (arith, nat_tests)
 
-  pub may_le : (v e : ℕ) (s : Part) → may_ack g v s e ≤ owed (s.into e)
-  may_le v e s = within_owed e s.parent (owed (s.into e)) (all_owed g v s) (deficit g v s) (is_passive g v s)
+  pub may_le : (v e : ℕ) (s : Part) → may_ack_on g v s e ≤ owed_on (s.into e)
+  may_le v e s = within_owed e s.parent (owed_on (s.into e)) (owed_by g v s) (deficit_of g v s) (is_passive g v s)
 
   chips_kept : (x : Event) (seen p : ℕ) (s : Part) → p ≡ part_of g x → Met g x s
       → s.chips + degree g.game.graph p * s.fired ≡ over_ins g p (λ e. sum (s.into e).got)
@@ -197,11 +197,11 @@ module _ (g : Setting) where
   is_parent_of o e h = grind (arith, nat_tests)
 
   abbrev pub Parents : ℕ → Part → Type 0
-  Parents p s = (e : ℕ) → s.parent ≡ Some e → (e < all_edges g) × (head_of g e ≡ p) × (0 < owed (s.into e))
+  Parents p s = (e : ℕ) → s.parent ≡ Some e → (e < all_edges g) × (head_of g e ≡ p) × (0 < owed_on (s.into e))
 
   -- more was got, or nothing
   owed_take : (e seen : ℕ) (s : Part) (i : ℕ)
-      → owed (s.into i) ≤ length (got_after (Take e) seen i (s.into i)) - (s.into i).acked
+      → owed_on (s.into i) ≤ length (got_after (Take e) seen i (s.into i)) - (s.into i).acked
   owed_take e seen s i = let b = took_more seen (s.into i).got in grind (arith, nat_tests)
 
   or_else_is : (o : Option ℕ) (e i : ℕ) → or_else o e ≡ Some i → (o ≡ Some i) ⊎ (e ≡ i)
@@ -217,7 +217,7 @@ module _ (g : Setting) where
       let c = owed_take e seen s i in let d = length-append (s.into i).got (seen ∷ []) in let a = ok i in let b = acks i in
       let o = or_else_is s.parent e i in grind (arith, nat_tests)
   parents_kept (Ack e) seen p s by may acks ok = λ i h. by_test (is_parent e s.parent
-      && eqb (may_ack g (head_of g e) s e) (owed (s.into e)))
+      && eqb (may_ack_on g (head_of g e) s e) (owed_on (s.into e)))
       (λ y. absurd (none-some i (sym (cond-true _ None s.parent y) ∙ h)))
       (λ n.
       let was : s.parent ≡ Some i = sym (cond-false _ None s.parent n) ∙ h in
@@ -228,14 +228,14 @@ module _ (g : Setting) where
         dite (ℕ_discrete e i)
             (λ same.
             let mine : is_parent e s.parent ≡ true = is_parent_of s.parent e (was ∙ ap Some (sym same)) in
-            let not_all : may_ack g (head_of g e) s e
-            ≢ owed (s.into e) = (λ z. true≢false (sym (and_from _ _ mine (eq-eqb _ _ z)) ∙ n)) in
+            let not_all : may_ack_on g (head_of g e) s e
+            ≢ owed_on (s.into e) = (λ z. true≢false (sym (and_from _ _ mine (eq-eqb _ _ z)) ∙ n)) in
             let le = may_le (head_of g e) e s in
             let has = acks e in
             subst (λ (k : ℕ). 0 < length (s.into k).got - acked_after g (Ack e) s k (s.into k)) same
-            (let c = cond_yes e e ((s.into e).acked + may_ack g (head_of g e) s e) (s.into e).acked refl in
+            (let c = cond_yes e e ((s.into e).acked + may_ack_on g (head_of g e) s e) (s.into e).acked refl in
             omega arith))
-            (λ other. let c = cond_no e i ((s.into i).acked + may_ack g (head_of g e) s e) (s.into i).acked other in
+            (λ other. let c = cond_no e i ((s.into i).acked + may_ack_on g (head_of g e) s e) (s.into i).acked other in
             omega arith),
       ))
   parents_kept _ seen p s by may acks ok = ok
@@ -314,35 +314,35 @@ module _ (g : Setting) where
       (ok.neutral l (sym (cond_yes seen 0 s.parent (or_else s.parent e) none) ∙ h)))
       (λ some. absurd (or_else-not_none s.parent e (sym (cond_no seen 0 s.parent (or_else s.parent e) some) ∙ h)))
   neutral_kept (Ack e) seen p s by may ok l h =
-      by_test (is_parent e s.parent && eqb (may_ack g (head_of g e) s e) (owed (s.into e)))
+      by_test (is_parent e s.parent && eqb (may_ack_on g (head_of g e) s e) (owed_on (s.into e)))
       (λ y.
       let both = and_parts _ _ y in
       let all_of = eqb-true _ _ both.1 in
-      let done : Bool = eqb (all_owed g (head_of g e) s) (owed (s.into e)) && is_passive g (head_of g e) s
-      && eqb (deficit g (head_of g e) s) 0 in
+      let done : Bool = eqb (owed_by g (head_of g e) s) (owed_on (s.into e)) && is_passive g (head_of g e) s
+      && eqb (deficit_of g (head_of g e) s) 0 in
       let finished : done ≡ true = by_test done (λ z. z)
-      (λ n. (let few = cond-true (is_parent e s.parent && not done) (owed (s.into e) - 1) (owed (s.into e))
+      (λ n. (let few = cond-true (is_parent e s.parent && not done) (owed_on (s.into e) - 1) (owed_on (s.into e))
       (and_from _ _ both.0 (Rattle.std.proofs.lemmas.Bool.not_from_false _ n)) in let some = may.1 in
       absurd (omega arith))) in
       let one = and_parts _ _ finished in
       let two = and_parts _ _ one.0 in
-      let only : all_owed g (head_of g e) s ≡ owed (s.into e) = eqb-true _ _ two.0 in
+      let only : owed_by g (head_of g e) s ≡ owed_on (s.into e) = eqb-true _ _ two.0 in
       subst (λ (w : ℕ). IsNeutral g w (does g (saw (Ack e) seen) s)) (sym by) record {
         no_parent = cond-true _ None s.parent y;
         passive = two.1;
         nothing_owed =
             let a = tested_move (all_edges g) (λ i. eqb (head_of g i) (head_of g e))
             (λ i. length (s.into i).got - acked_after g (Ack e) s i (s.into i))
-            (λ i. owed (s.into i)) e may.0 (eq-eqb _ _ refl)
+            (λ i. owed_on (s.into i)) e may.0 (eq-eqb _ _ refl)
             (λ i m ne on. ap (λ (n : ℕ). length (s.into i).got - n)
-            (cond_no e i ((s.into i).acked + may_ack g (head_of g e) s e) (s.into i).acked (λ z. ne (sym z)))) in
-            let c = cond_yes e e ((s.into e).acked + may_ack g (head_of g e) s e) (s.into e).acked refl in
+            (cond_no e i ((s.into i).acked + may_ack_on g (head_of g e) s e) (s.into i).acked (λ z. ne (sym z)))) in
+            let c = cond_yes e e ((s.into e).acked + may_ack_on g (head_of g e) s e) (s.into e).acked refl in
             omega arith;
         no_deficit = eqb-true _ _ one.1;
       })
       (λ n.
       let none : s.parent ≡ None = sym (cond-false _ None s.parent n) ∙ h in
-      let a = in_zero p (λ i. owed (s.into i)) (ok.neutral l none).nothing_owed e may.0 (sym by) in
+      let a = in_zero p (λ i. owed_on (s.into i)) (ok.neutral l none).nothing_owed e may.0 (sym by) in
       let b = may.1 in absurd (omega arith))
   neutral_kept (Fire v k) seen p s by may ok l h = absurd (no_fire p s ok.outs (ok.neutral l h) v k by may)
   neutral_kept (Clear e) seen p s by may ok l h = ⊎_elim
@@ -359,7 +359,7 @@ module _ (g : Setting) where
   neutral_kept (Settle e) seen p s by may ok l h =
       let old = ok.neutral l h in
       let a = tested_le (all_edges g) (λ i. eqb (tail_of g i) p)
-      (λ i. claims_of (s.out i).link - settled_after g (Settle e) seen i (s.out i)) (λ i. outstanding (s.out i))
+      (λ i. claims_of (s.out i).link - settled_after g (Settle e) seen i (s.out i)) (λ i. outstanding_on (s.out i))
       (λ i m on. grind (arith, nat_tests)) in search (rules, arith, nat_tests)
   neutral_kept _ seen p s by may ok l h = let old = ok.neutral l h in search (rules, arith, nat_tests)
 

@@ -9,7 +9,7 @@ use Rattle.chip_link.specs.Link.{claims_of}
 use Rattle.chip_part.specs.Setting.{Setting}
 use Rattle.chip_part.specs.declared.cursor.Cursor.TheVariants as At
 use Rattle.chip_part.specs.Edges.{tail_of, head_of}
-use Rattle.chip_part.specs.Part.{Part, is_running, refusals, may_ack, opening_part}
+use Rattle.chip_part.specs.Part.{Part, is_running, refusals, may_ack_on, opening_part}
 use Rattle.chip_part.specs.Rules.{Event, Take, Ack, Fire, Clear, Claim, Put, Halt, Settle}
 use Rattle.chip_part.specs.Steps.{part_of, Step, does, saw, part_after}
 use Rattle.chip_part.specs.Turn.{Phase, nothing, either_phase, where_phase, and_then, each_phase, ins_of, outs_of}
@@ -101,7 +101,7 @@ module _ (g : Setting) (v : ℕ) where
 
     abbrev pub of_acks : (place : ℕ) → P (from_acknowledging g v place)
     of_acks place = spreads.both _ _ (each (acknowledging g v) (ins_of g v)
-        (λ e at. where_so (λ s. not (eqb (may_ack g (head_of g e) s e) 0)) (one_step g v (Ack e)) (step (Ack e) (enters e at)))
+        (λ e at. where_so (λ s. not (eqb (may_ack_on g (head_of g e) s e) 0)) (one_step g v (Ack e)) (step (Ack e) (enters e at)))
         place) spreads.last
 
     -- ---- of what is left of a turn
@@ -170,7 +170,7 @@ module _ (sight : Event → ℕ) (g : Setting) (v : ℕ) where
 
   abbrev total_parent : (parent : Option ℕ) → Total (acknowledging_parent g v parent)
   total_parent None s = total_nothing s
-  total_parent (Some e) s = total_either (not (eqb (may_ack g (head_of g e) s e) 0)) (one_step g v (Ack e)) nothing
+  total_parent (Some e) s = total_either (not (eqb (may_ack_on g (head_of g e) s e) 0)) (one_step g v (Ack e)) nothing
       (total_event (Ack e) (λ seen before. nothing) (λ seen before. total_nothing)) total_nothing s
 
   abbrev pub total : Spreads g v Total

@@ -12,7 +12,7 @@ use Rattle.chip_graph.proofs.SumLemmas.{cond_yes, cond_no, by_test, sum_below_on
 use Rattle.chip_detect.specs.Acknowledging.{is_parent, is_done}
 use Rattle.chip_part.specs.Setting.{Setting}
 use Rattle.chip_part.specs.Edges.{all_edges, head_of}
-use Rattle.chip_part.specs.Part.{Part, owed, may_ack, all_owed, deficit, is_passive}
+use Rattle.chip_part.specs.Part.{Part, owed_on, may_ack_on, owed_by, deficit_of, is_passive}
 use Rattle.chip_part.specs.Kept.{KeepsPart}
 use Rattle.chip_part.specs.Laws.{IdleTurnRests}
 use Rattle.chip_part.specs.Rules.{Ack}
@@ -32,30 +32,30 @@ same_edge e i p here there = cc
 module _ (g : Setting) where
   -- nothing is owed on this edge, or it is the parent edge, with one message
   abbrev pub Little : Part → ℕ → Type 0
-  Little s e = (owed (s.into e) ≡ 0) ⊎ ((s.parent ≡ Some e) × (owed (s.into e) ≡ 1))
+  Little s e = (owed_on (s.into e) ≡ 0) ⊎ ((s.parent ≡ Some e) × (owed_on (s.into e) ≡ 1))
 
   abbrev keeps : ℕ → Part → ℕ → Bool
   keeps h s e = is_parent e s.parent
-      && not (is_done (owed (s.into e)) (all_owed g h s) (deficit g h s) (is_passive g h s))
+      && not (is_done (owed_on (s.into e)) (owed_by g h s) (deficit_of g h s) (is_passive g h s))
 
   -- all of what is owed may be acknowledged, or the edge is the parent edge and all but one
-  all_but_one : (h e : ℕ) (s : Part) → (may_ack g h s e ≡ owed (s.into e))
-      ⊎ ((s.parent ≡ Some e) × (may_ack g h s e ≡ owed (s.into e) - 1))
+  all_but_one : (h e : ℕ) (s : Part) → (may_ack_on g h s e ≡ owed_on (s.into e))
+      ⊎ ((s.parent ≡ Some e) × (may_ack_on g h s e ≡ owed_on (s.into e) - 1))
   all_but_one h e s = by_test (keeps h s e)
       (λ on. inr (parent_of e s.parent (and_parts _ _ on).0, cond-true (keeps h s e) _ _ on))
       (λ off. inl (cond-false (keeps h s e) _ _ off))
 
-  pub idle_little : (h e : ℕ) (s : Part) → may_ack g h s e ≡ 0 → Little s e
+  pub idle_little : (h e : ℕ) (s : Part) → may_ack_on g h s e ≡ 0 → Little s e
   idle_little h e s none = ⊎_elim (λ all. inl (omega arith))
-      (λ few. dite (ℕ_discrete (owed (s.into e)) 0) (λ z. inl z) (λ some. let a = few.1 in inr (few.0, omega arith)))
+      (λ few. dite (ℕ_discrete (owed_on (s.into e)) 0) (λ z. inl z) (λ some. let a = few.1 in inr (few.0, omega arith)))
       (all_but_one h e s)
 
-  module _ (s : Part) (e seen : ℕ) (some : 0 < may_ack g (head_of g e) s e) where
+  module _ (s : Part) (e seen : ℕ) (some : 0 < may_ack_on g (head_of g e) s e) where
     abbrev pub acked : Part
     acked = does g (saw (Ack e) seen) s
 
-    owed_less : owed (acked.into e) ≡ owed (s.into e) - may_ack g (head_of g e) s e
-    owed_less = let a = cond_yes e e ((s.into e).acked + may_ack g (head_of g e) s e) (s.into e).acked refl in omega arith
+    owed_less : owed_on (acked.into e) ≡ owed_on (s.into e) - may_ack_on g (head_of g e) s e
+    owed_less = let a = cond_yes e e ((s.into e).acked + may_ack_on g (head_of g e) s e) (s.into e).acked refl in omega arith
 
     -- if the parent is still there, it was
     pub was_parent : (i : ℕ) → acked.parent ≡ Some i → s.parent ≡ Some i
@@ -72,11 +72,11 @@ module _ (g : Setting) where
 
     -- one of an edge, made or not
     abbrev Acked : ℕ → Part → Part → Type 0
-    Acked e s t = ((t ≡ s) × (may_ack g (head_of g e) s e ≡ 0))
-        ⊎ ((0 < may_ack g (head_of g e) s e) × ((seen : ℕ) × (t ≡ does g (saw (Ack e) seen) s)))
+    Acked e s t = ((t ≡ s) × (may_ack_on g (head_of g e) s e ≡ 0))
+        ⊎ ((0 < may_ack_on g (head_of g e) s e) × ((seen : ℕ) × (t ≡ does g (saw (Ack e) seen) s)))
 
     acked_or_not : (e : ℕ) (s : Part) (ds : List Step) (t : Part) → acknowledging g v e s ds t → Acked e s t
-    acked_or_not e s ds t phase = by_test (eqb (may_ack g (head_of g e) s e) 0)
+    acked_or_not e s ds t phase = by_test (eqb (may_ack_on g (head_of g e) s e) 0)
         (λ none. let idle = rw none at phase in inl (idle.1, eqb-true _ _ none))
         (λ some. let made = rw some at phase in inr (grind (arith, nat_tests), (made.0, made.3.1)))
 
@@ -106,9 +106,9 @@ module _ (g : Setting) where
 
     -- and the last one, on the parent edge
     after_last : (p : Option ℕ) (s : Part) (ds : List Step) (t : Part) → s.parent ≡ p → acknowledging_parent g v p s ds t
-        → (e : ℕ) → head_of g e ≡ v → Little s e → may_ack g v t e ≡ 0
+        → (e : ℕ) → head_of g e ≡ v → Little s e → may_ack_on g v t e ≡ 0
     after_last None s ds t none (empty, same) e at little = ⊎_elim
-        (λ z. let a = may_le g v e s in let b = ap (λ (p : Part). may_ack g v p e) same in omega arith)
+        (λ z. let a = may_le g v e s in let b = ap (λ (p : Part). may_ack_on g v p e) same in omega arith)
         (λ one. absurd (none-some e (sym none ∙ one.0))) little
     after_last (Some q) s ds t parent phase e at little =
         let acked = acked_or_not q s ds t phase in
@@ -117,22 +117,22 @@ module _ (g : Setting) where
         (λ one. ⊎_elim
         (λ idle.
         let q_is : q ≡ e = same_edge q e s.parent parent (sym (ap (λ (p : Part). p.parent) idle.0) ∙ one.0) in
-        ap (λ (p : Part). may_ack g v p e) idle.0
-        ∙ subst (λ (u : ℕ). may_ack g u s e ≡ 0) at (subst (λ (i : ℕ). may_ack g (head_of g i) s i ≡ 0) q_is idle.1))
+        ap (λ (p : Part). may_ack_on g v p e) idle.0
+        ∙ subst (λ (u : ℕ). may_ack_on g u s e ≡ 0) at (subst (λ (i : ℕ). may_ack_on g (head_of g i) s i ≡ 0) q_is idle.1))
         (λ made.
         let was = was_parent s q made.1.0 made.0 e (sym (ap (λ (p : Part). p.parent) made.1.1) ∙ one.0) in
         let q_is : q ≡ e = same_edge q e s.parent parent was in
-        let a : owed (t.into q) ≡ owed (s.into q) - may_ack g (head_of g q) s q =
-        ap (λ (p : Part). owed (p.into q)) made.1.1 ∙ owed_less s q made.1.0 made.0 in
-        let b = ap (λ (i : ℕ). owed (t.into i)) q_is in
-        let c = ap (λ (i : ℕ). owed (s.into i)) q_is in
+        let a : owed_on (t.into q) ≡ owed_on (s.into q) - may_ack_on g (head_of g q) s q =
+        ap (λ (p : Part). owed_on (p.into q)) made.1.1 ∙ owed_less s q made.1.0 made.0 in
+        let b = ap (λ (i : ℕ). owed_on (t.into i)) q_is in
+        let c = ap (λ (i : ℕ). owed_on (s.into i)) q_is in
         let some = made.0 in let d = one.1 in
         absurd (⊎_elim (λ z. omega arith) (λ y. let f = y.1 in omega arith) little))
         acked)
         ((after_one q s t acked).0 e little)
 
     pub nothing_left : (s : Part) (ds : List Step) (after : Part) → turn g v s ds after → (e : ℕ)
-        → head_of g e ≡ v → may_ack g v after e ≡ 0
+        → head_of g e ≡ v → may_ack_on g v after e ≡ 0
     nothing_left s ds after
         (_, _, _, _, _, (_, _, _, _, _, (_, _, _, _, _, (_, _, _, _, _, (_, _, _, _, _, (_, _, _, _, _, (f, m, r, is, all, last)))))))
         e at =
@@ -140,26 +140,26 @@ module _ (g : Setting) where
 
     -- so a passive vertex has a deficit, if it has a parent
     module _ (s : Part) (kept : KeepsPart g v s) (passive : is_passive g v s ≡ true) (left : (e : ℕ) → e < all_edges g
-        → head_of g e ≡ v → may_ack g v s e ≡ 0) where
-      with_parent : (p : ℕ) → s.parent ≡ Some p → deficit g v s ≡ 0 → ⊥
+        → head_of g e ≡ v → may_ack_on g v s e ≡ 0) where
+      with_parent : (p : ℕ) → s.parent ≡ Some p → deficit_of g v s ≡ 0 → ⊥
       with_parent p is settled =
           let mine = kept.parents p is in
-          let whole : all_owed g v s ≡ owed (s.into p) = sum_below_one (all_edges g)
-          (λ e. cond (eqb (head_of g e) v) (owed (s.into e)) 0) p mine.0 (λ e l other. dite (ℕ_discrete (head_of g e) v)
-          (λ at. cond_yes (head_of g e) v (owed (s.into e)) 0 at ∙ ⊎_elim (λ none. none)
+          let whole : owed_by g v s ≡ owed_on (s.into p) = sum_below_one (all_edges g)
+          (λ e. cond (eqb (head_of g e) v) (owed_on (s.into e)) 0) p mine.0 (λ e l other. dite (ℕ_discrete (head_of g e) v)
+          (λ at. cond_yes (head_of g e) v (owed_on (s.into e)) 0 at ∙ ⊎_elim (λ none. none)
           (λ one. absurd (other (same_edge e p s.parent one.0 is))) (idle_little v e s (left e l at)))
-          (λ away. cond_no (head_of g e) v (owed (s.into e)) 0 away))
-          ∙ cond_yes (head_of g p) v (owed (s.into p)) 0 mine.1 in
+          (λ away. cond_no (head_of g e) v (owed_on (s.into e)) 0 away))
+          ∙ cond_yes (head_of g p) v (owed_on (s.into p)) 0 mine.1 in
           by_test (keeps v s p)
           (λ on. true≢false (sym (and_from _ _ (and_from _ _ (eq-eqb _ _ whole) passive) (eq-eqb _ _ settled))
           ∙ not-true _ (and_parts _ _ on).1))
-          (λ off. let all = cond-false (keeps v s p) (owed (s.into p) - 1) (owed (s.into p)) off in
+          (λ off. let all = cond-false (keeps v s p) (owed_on (s.into p) - 1) (owed_on (s.into p)) off in
           let none = left p mine.0 mine.1 in let some = mine.2 in absurd (omega arith))
 
-      pub rests : (s.parent ≡ None) ⊎ (0 < deficit g v s)
+      pub rests : (s.parent ≡ None) ⊎ (0 < deficit_of g v s)
       rests = by_parent s.parent refl
         where
-          by_parent : (p : Option ℕ) → s.parent ≡ p → (s.parent ≡ None) ⊎ (0 < deficit g v s)
+          by_parent : (p : Option ℕ) → s.parent ≡ p → (s.parent ≡ None) ⊎ (0 < deficit_of g v s)
           by_parent None is = inl is
           by_parent (Some p) is = inr (pos_of_ne-zero (with_parent p is))
 

@@ -21,7 +21,7 @@ use Rattle.chip_link.specs.Link.{Tail, claims_of, after_clear, after_claim}
 use Rattle.chip_part.specs.declared.cause.Cause.TheVariants.{SealedEdge, FiringLimit}
 use Rattle.chip_part.specs.declared.cursor.Cursor.TheVariants as At
 use Rattle.chip_part.specs.Edges.{graph_edges, all_edges, root_edge, tail_of, head_of}
-use Rattle.chip_part.specs.Part.{Part, Cause, is_running, may_ack, unput_count, refusals, cause}
+use Rattle.chip_part.specs.Part.{Part, Cause, is_running, may_ack_on, unput_count, refusals, cause}
 use Rattle.chip_part.specs.Rules.{Take, Ack, Fire, Clear, Claim, Put, Halt, Settle}
 use Rattle.chip_part.specs.Steps.{Step, does, saw}
 use Rattle.chip_part.specs.Turn.{nothing, either_phase, where_phase, and_then, each_phase, one_step, seeing, ins_of}
@@ -84,7 +84,7 @@ module _ (g : Setting) (v : ℕ) where
 
 -- something may be acknowledged on the edge at this place of those into the vertex
 abbrev pub acks_at : Setting → ℕ → Part → ℕ → Bool
-acks_at g v s k = not (eqb (may_ack g (head_of g (slice_index (ins_of g v) k)) s (slice_index (ins_of g v) k)) 0)
+acks_at g v s k = not (eqb (may_ack_on g (head_of g (slice_index (ins_of g v) k)) s (slice_index (ins_of g v) k)) 0)
 
 -- ---- the phases
 
@@ -449,7 +449,7 @@ module _ (g : Setting) (v : ℕ) (vertex : v < g.game.graph.vertices) (s : Part)
 
   -- acknowledgements
 
-  ack_met : (e : ℕ) → head_of g e ≡ v → not (eqb (may_ack g (head_of g e) s e) 0) ≡ true
+  ack_met : (e : ℕ) → head_of g e ≡ v → not (eqb (may_ack_on g (head_of g e) s e) 0) ≡ true
       → Rattle.chip_part.specs.Rules.unmet_rule g (Ack e) s ≡ None
   ack_met e at some = let a = positive _ some in let b = may_le g (head_of g e) e s in
       met_rules g (Ack e) s (in_inside g v vertex e at, (omega arith), a)
@@ -473,7 +473,7 @@ module _ (g : Setting) (v : ℕ) (vertex : v < g.game.graph.vertices) (s : Part)
             (omega arith) s (λ k a b. idle_ack k (none k a b)) _ after
             (each_more (acknowledging g v) (ins_of g v) (last_acknowledgement g v) next within s
             (does g (saw (Ack e) seen) s) (saw (Ack e) seen ∷ []) ds after
-            (where_yes (λ p. not (eqb (may_ack g (head_of g e) p e) 0)) (one_step g v (Ack e)) s _ _ some
+            (where_yes (λ p. not (eqb (may_ack_on g (head_of g e) p e) 0)) (one_step g v (Ack e)) s _ _ some
             (seen, [], refl, (refl, refl))) h);
       }
 
@@ -490,7 +490,7 @@ module _ (g : Setting) (v : ℕ) (vertex : v < g.game.graph.vertices) (s : Part)
       → Passes g v s (At.Ack place) At.Parent
   acks_over place none = record { fewer = omega arith; rest = each_none _ _ _ place s (λ k a b. idle_ack k (none k a b)) }
 
-  pub parent_due : (e : ℕ) → s.parent ≡ Some e → head_of g e ≡ v → not (eqb (may_ack g (head_of g e) s e) 0) ≡ true
+  pub parent_due : (e : ℕ) → s.parent ≡ Some e → head_of g e ≡ v → not (eqb (may_ack_on g (head_of g e) s e) 0) ≡ true
       → GoesBy g v s At.Parent (Ack e) At.Over
   parent_due e is at some = record {
     mine = at;
@@ -499,13 +499,13 @@ module _ (g : Setting) (v : ℕ) (vertex : v < g.game.graph.vertices) (s : Part)
     fits = λ seen. tt;
     rest = λ seen ds after h. subst
         (λ (o : Option ℕ). acknowledging_parent g v o s (saw (Ack e) seen ∷ ds) after) (sym is)
-        (where_yes (λ p. not (eqb (may_ack g (head_of g e) p e) 0)) (one_step g v (Ack e)) s _ after some
+        (where_yes (λ p. not (eqb (may_ack_on g (head_of g e) p e) 0)) (one_step g v (Ack e)) s _ after some
         (seen, ds, refl, h));
   }
 
-  pub no_parent_due : (e : ℕ) → s.parent ≡ Some e → may_ack g (head_of g e) s e ≡ 0 → rest_of_turn g v At.Parent s [] s
+  pub no_parent_due : (e : ℕ) → s.parent ≡ Some e → may_ack_on g (head_of g e) s e ≡ 0 → rest_of_turn g v At.Parent s [] s
   no_parent_due e is none = subst (λ (o : Option ℕ). acknowledging_parent g v o s [] s) (sym is)
-      (where_no (λ p. not (eqb (may_ack g (head_of g e) p e) 0)) (one_step g v (Ack e)) s (ap not (eq-eqb _ _ none)))
+      (where_no (λ p. not (eqb (may_ack_on g (head_of g e) p e) 0)) (one_step g v (Ack e)) s (ap not (eq-eqb _ _ none)))
 
   pub no_parent : s.parent ≡ None → rest_of_turn g v At.Parent s [] s
   no_parent is = subst (λ (o : Option ℕ). acknowledging_parent g v o s [] s) (sym is) (refl, refl)

@@ -10,7 +10,7 @@ use Rattle.chip_link.specs.Words.{claims_in}
 use Rattle.chip_link.specs.Link.{claims_of}
 use Rattle.chip_detect.specs.Tally.{message_limit}
 use Rattle.chip_part.specs.Edges.{graph_edges, head_of, root_edge}
-use Rattle.chip_part.specs.Part.{Part, may_ack, cause, is_by_limit}
+use Rattle.chip_part.specs.Part.{Part, may_ack_on, cause, is_by_limit}
 use Rattle.chip_part.specs.Rules.{Rule, Event, Take, Ack, Fire, Clear, Claim, Put, Halt, Settle, Seal, Read, Feed, End}
 use Rattle.chip_part.specs.Rules.{unmet_rule}
 use Rattle.chip_part.specs.Steps.{part_of}
@@ -20,7 +20,7 @@ use Rattle.chip_part.specs.Steps.{part_of}
 -- the root on its edges are of the same kinds
 abbrev pub act_of : Setting → Event → Part → Act
 act_of g (Take e) s = Do.Take e (length (s.into e).got % g.ring)
-act_of g (Ack e) s = Do.Ack e (may_ack g (head_of g e) s e)
+act_of g (Ack e) s = Do.Ack e (may_ack_on g (head_of g e) s e)
 act_of g (Fire v k) s = Do.Fire k
 act_of g (Clear e) s = Do.Clear e (claims_of (s.out e).link % g.ring)
 act_of g (Claim e) s = Do.Claim e (claims_of (s.out e).link) (claims_of (s.out e).link + 1)
@@ -62,8 +62,8 @@ abbrev pub CanDo : Setting → Part → ℕ → Event → ℕ → Type 0
 CanDo g s v x seen = (part_of g x ≡ v) × (unmet_rule g x s ≡ None) × FitsSeen s x seen
 
 -- an operation that `may` gave, with a word that it may have seen
-abbrev pub IsDue : Setting → Part → ℕ → Observed → Type 0
-IsDue g s v o = CanDo g s v (event_of v o.act) o.seen × (o.act ≡ act_of g (event_of v o.act) s)
+abbrev pub IsOperationDue : Setting → Part → ℕ → Observed → Type 0
+IsOperationDue g s v o = CanDo g s v (event_of v o.act) o.seen × (o.act ≡ act_of g (event_of v o.act) s)
 
 -- an event of the root: one of an edge that isn't the graph's, a feed, the end of feeding, or a read
 abbrev pub is_of_root : Setting → Event → Bool

@@ -8,15 +8,15 @@ use Rattle.chip_graph.specs.Sums.{sum_below}
 
 -- how many edges the graph has
 abbrev pub graph_edges : Setting → ℕ
-graph_edges g = edges.graph_edges g.game.graph
+graph_edges g = edges.own_edges g.game.graph
 
 -- how many edges there are with the root's
 abbrev pub all_edges : Setting → ℕ
-all_edges g = edges.all_edges g.game.graph
+all_edges g = edges.edges_and_roots g.game.graph
 
 -- the root, as the tail of the root edges
 abbrev pub root : Setting → ℕ
-root g = edges.root g.game.graph
+root g = edges.root_place g.game.graph
 
 -- the stopper, who seals edges
 abbrev pub stopper : Setting → ℕ
@@ -24,15 +24,15 @@ stopper g = g.game.graph.vertices + 1
 
 -- the edge from the root to v
 abbrev pub root_edge : Setting → ℕ → ℕ
-root_edge g v = edges.root_edge g.game.graph v
+root_edge g v = edges.root_edge_to g.game.graph v
 
 -- who sends on e
 abbrev pub tail_of : Setting → ℕ → ℕ
-tail_of g e = edges.tail_of g.game.graph e
+tail_of g e = edges.edge_tail g.game.graph e
 
 -- who gets what is sent on e
 abbrev pub head_of : Setting → ℕ → ℕ
-head_of g e = edges.head_of g.game.graph e
+head_of g e = edges.edge_head g.game.graph e
 
 -- the head of an edge, if the edge is there
 abbrev pub head_if : Setting → ℕ → Option ℕ

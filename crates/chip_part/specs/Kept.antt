@@ -6,7 +6,7 @@ use Rattle.chip_part.specs.Setting.{Setting}
 use Rattle.chip_link.specs.Link.{Tail, claims_of}
 use Rattle.chip_part.specs.declared.cause.Cause.TheVariants.{FiringLimit}
 use Rattle.chip_part.specs.Edges.{graph_edges, all_edges, tail_of, head_of, over_ins, chips_of_firings, root}
-use Rattle.chip_part.specs.Part.{Part, Cause, owed, may_ack, pending_of, unput_count, cause, deficit, all_owed}
+use Rattle.chip_part.specs.Part.{Part, Cause, owed_on, may_ack_on, pending_of, unput_count, cause, deficit_of, owed_by}
 use Rattle.chip_part.specs.Part.{is_passive, is_legal, all_fed, first_put}
 use Rattle.chip_part.specs.Rules.{Event, Take, Ack, Fire, Clear, Claim, Put, Halt, Settle, Seal, Read, Feed, End}
 use Rattle.chip_graph.specs.Limits.{max_total}
@@ -14,7 +14,7 @@ use Rattle.chip_graph.specs.Limits.{max_total}
 -- the rules of an event in plain facts
 abbrev pub Met : Setting → Event → Part → Type 0
 Met g (Take e) s = e < all_edges g
-Met g (Ack e) s = (e < all_edges g) × (0 < owed (s.into e)) × (0 < may_ack g (head_of g e) s e)
+Met g (Ack e) s = (e < all_edges g) × (0 < owed_on (s.into e)) × (0 < may_ack_on g (head_of g e) s e)
 Met g (Fire v k) s =
     (v < g.game.graph.vertices) × (v ≢ g.game.graph.sink) × (s.halt ≡ None) × (pending_of g v s ≡ 0) × (unput_count g v s ≡ 0) × (0 < k)
     × (s.fired + k ≤ g.game.limit) × (k * degree g.game.graph v ≤ s.chips)
@@ -27,7 +27,7 @@ Met g (Halt v) s = (v < g.game.graph.vertices) × (v ≢ g.game.graph.sink) × (
     × ((c : Cause) × (cause g v s ≡ Some c))
 Met g (Settle e) s = e < all_edges g
 Met g (Seal e) s = e < graph_edges g
-Met g (Read v) s = (v < g.game.graph.vertices) × (deficit g (root g) s ≡ 0) × (s.ended ≡ true)
+Met g (Read v) s = (v < g.game.graph.vertices) × (deficit_of g (root g) s ≡ 0) × (s.ended ≡ true)
 Met g (Feed e k) s = (graph_edges g ≤ e) × (e < all_edges g) × (s.ended ≡ false) × (0 < k)
     × (all_fed g s + k ≤ max_total) × ((s.out e).link.clear ≡ true)
 Met g End s = Unit {0}
@@ -36,8 +36,8 @@ Met g End s = Unit {0}
 pub record IsNeutral (g : Setting) (v : ℕ) (s : Part) : Type 0 where
   pub no_parent : s.parent ≡ None
   pub passive : is_passive g v s ≡ true
-  pub nothing_owed : all_owed g v s ≡ 0
-  pub no_deficit : deficit g v s ≡ 0
+  pub nothing_owed : owed_by g v s ≡ 0
+  pub no_deficit : deficit_of g v s ≡ 0
 
 -- the tail of an edge as it opens
 abbrev pub opening_tail : Setting → ℕ → Tail
@@ -68,7 +68,7 @@ pub record KeepsPart (g : Setting) (p : ℕ) (s : Part) : Type 0 where
   pub within : s.fired ≤ g.game.limit
   pub acks : (e : ℕ) → (s.into e).acked ≤ length (s.into e).got
   -- its parent is an edge into it on which it owes something
-  pub parents : (e : ℕ) → s.parent ≡ Some e → (e < all_edges g) × (head_of g e ≡ p) × (0 < owed (s.into e))
+  pub parents : (e : ℕ) → s.parent ≡ Some e → (e < all_edges g) × (head_of g e ≡ p) × (0 < owed_on (s.into e))
   -- halted by the limit it stays legal, with nothing pending
   pub at_limit : s.halt ≡ Some FiringLimit → (s.fired ≡ g.game.limit) × (pending_of g p s ≡ 0) × (is_legal g p s ≡ true)
   -- a vertex without a parent is done

@@ -4,7 +4,7 @@ use Rattle.chip_graph.specs.Multigraph.{IsGraph, sum_out, sum_in, degree}
 use Rattle.chip_graph.specs.ChipGame.{IsGame}
 use Rattle.chip_part.specs.Setting.{Setting}
 use Rattle.chip_part.specs.Edges.{root_edge, over_outs, over_ins, mult_of}
-use Rattle.chip_part.specs.Part.{Part, opening_part, deficit, is_passive}
+use Rattle.chip_part.specs.Part.{Part, opening_part, deficit_of, is_passive}
 use Rattle.chip_part.specs.Rules.{Event, unmet_rule}
 use Rattle.chip_part.specs.Steps.{Step, part_of, does}
 use Rattle.chip_part.specs.Kept.{Met, KeepsPart}
@@ -41,4 +41,4 @@ abbrev pub IdleTurnRests : Type 0
 IdleTurnRests =
     (g : Setting) (v : ℕ) (s : Part) (ds : List Step) (after : Part)
     → turn g v s ds after → work_of g s ds ≡ 0 → KeepsPart g v after → is_passive g v after ≡ true
-    → (after.parent ≡ None) ⊎ (0 < deficit g v after)
+    → (after.parent ≡ None) ⊎ (0 < deficit_of g v after)

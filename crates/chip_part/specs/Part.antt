@@ -65,16 +65,16 @@ abbrev pub is_running : Option Cause → Bool
 is_running h = is_none h
 
 -- the acknowledgements that the head of an edge owes
-abbrev pub owed : Into → ℕ
-owed i = length i.got - i.acked
+abbrev pub owed_on : Into → ℕ
+owed_on i = length i.got - i.acked
 
 -- the acknowledgements that the tail of an edge waits for
-abbrev pub outstanding : Out → ℕ
-outstanding o = claims_of o.link - o.settled
+abbrev pub outstanding_on : Out → ℕ
+outstanding_on o = claims_of o.link - o.settled
 
 -- the messages that v waits for the acknowledgement of, and so the root
-abbrev pub deficit : Setting → ℕ → Part → ℕ
-deficit g v s = over_outs g v (λ e. outstanding (s.out e))
+abbrev pub deficit_of : Setting → ℕ → Part → ℕ
+deficit_of g v s = over_outs g v (λ e. outstanding_on (s.out e))
 
 -- all chips that the root ever sent, on all root edges: those of the start, and those that were fed
 abbrev pub all_fed : Setting → Part → ℕ
@@ -86,8 +86,8 @@ AreGiven g s given = (length given ≡ g.game.graph.vertices)
     × ((v : ℕ) → v < g.game.graph.vertices → slice_index given v ≡ sum (sent_counts (s.out (root_edge g v)).link))
 
 -- all that v owes
-abbrev pub all_owed : Setting → ℕ → Part → ℕ
-all_owed g v s = over_ins g v (λ e. owed (s.into e))
+abbrev pub owed_by : Setting → ℕ → Part → ℕ
+owed_by g v s = over_ins g v (λ e. owed_on (s.into e))
 
 -- how many messages v has claimed and not put
 abbrev pub unput_count : Setting → ℕ → Part → ℕ
@@ -111,8 +111,8 @@ is_passive g v s = unput_count g v s == 0
     && (not (is_running s.halt) || (pending_of g v s == 0 && not (is_legal g v s)))
 
 -- how many messages v may acknowledge on e
-abbrev pub may_ack : Setting → ℕ → Part → ℕ → ℕ
-may_ack g v s e = acknowledgeable_count e s.parent (owed (s.into e)) (all_owed g v s) (deficit g v s) (is_passive g v s)
+abbrev pub may_ack_on : Setting → ℕ → Part → ℕ → ℕ
+may_ack_on g v s e = acknowledgeable_count e s.parent (owed_on (s.into e)) (owed_by g v s) (deficit_of g v s) (is_passive g v s)
 
 -- why v may halt, if it may
 abbrev pub cause : Setting → ℕ → Part → Option Cause

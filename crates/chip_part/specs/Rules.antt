@@ -12,7 +12,7 @@ use Rattle.chip_graph.specs.Limits.{max_total}
 use Rattle.chip_graph.specs.Multigraph.{degree}
 use Rattle.chip_part.specs.Setting.{Setting}
 use Rattle.chip_part.specs.Edges.{graph_edges, all_edges, head_of, root}
-use Rattle.chip_part.specs.Part.{Part, is_running, owed, may_ack, pending_of, unput_count, cause, deficit, all_fed}
+use Rattle.chip_part.specs.Part.{Part, is_running, owed_on, may_ack_on, pending_of, unput_count, cause, deficit_of, all_fed}
 
 -- the rule is met, and so on with the rest; else it is the answer
 abbrev pub need : Bool → Rule → Option Rule → Option Rule
@@ -34,8 +34,8 @@ abbrev pub unmet_rule : Setting → Event → Part → Option Rule
 unmet_rule g (Take e) s = need (nat_lt e (all_edges g)) NoSuch None
 unmet_rule g (Ack e) s =
     need (nat_lt e (all_edges g)) NoSuch
-    (need (not (owed (s.into e) == 0)) NothingOwed
-    (need (not (may_ack g (head_of g e) s e == 0)) Engaged None))
+    (need (not (owed_on (s.into e) == 0)) NothingOwed
+    (need (not (may_ack_on g (head_of g e) s e == 0)) Engaged None))
 unmet_rule g (Fire v k) s =
     need (nat_lt v g.game.graph.vertices) NoSuch
     (need (not (v == g.game.graph.sink)) Sink
@@ -64,7 +64,7 @@ unmet_rule g (Settle e) s = need (nat_lt e (all_edges g)) NoSuch None
 unmet_rule g (Seal e) s = need (nat_lt e (graph_edges g)) NoSuch None
 unmet_rule g (Read v) s =
     need (nat_lt v g.game.graph.vertices) NoSuch
-    (need (deficit g (root g) s == 0 && s.ended) NotClosed None)
+    (need (deficit_of g (root g) s == 0 && s.ended) NotClosed None)
 unmet_rule g (Feed e k) s =
     need (nat_le (graph_edges g) e && nat_lt e (all_edges g)) NoSuch
     (need (not s.ended) Ended

@@ -12,7 +12,7 @@ use Rattle.chip_detect.specs.Acknowledging.{is_parent, or_else}
 use Rattle.chip_graph.specs.Multigraph.{degree}
 use Rattle.chip_part.specs.Setting.{Setting}
 use Rattle.chip_part.specs.Edges.{tail_of, head_of, mult_of, root, root_edge, stopper}
-use Rattle.chip_part.specs.Part.{Part, Out, Into, Cause, owed, may_ack, cause, refusals}
+use Rattle.chip_part.specs.Part.{Part, Out, Into, Cause, owed_on, may_ack_on, cause, refusals}
 use Rattle.chip_part.specs.Rules.{Rule, Event, Take, Ack, Fire, Clear, Claim, Put, Halt, Settle, Seal, Read, Feed, End}
 use Rattle.chip_part.specs.Rules.{unmet_rule}
 
@@ -55,7 +55,7 @@ halt_after g _ s = s.halt
 -- acknowledged
 abbrev pub parent_after : Setting → Event → ℕ → Part → Option ℕ
 parent_after g (Take e) seen s = if seen == 0 then s.parent else or_else s.parent e
-parent_after g (Ack e) seen s = if is_parent e s.parent && may_ack g (head_of g e) s e == owed (s.into e) then None
+parent_after g (Ack e) seen s = if is_parent e s.parent && may_ack_on g (head_of g e) s e == owed_on (s.into e) then None
     else s.parent
 parent_after g _ seen s = s.parent
 
@@ -86,7 +86,7 @@ got_after _ seen i x = x.got
 
 -- an acknowledgement is of all that may be acknowledged
 abbrev pub acked_after : Setting → Event → Part → ℕ → Into → ℕ
-acked_after g (Ack e) s i x = if e == i then x.acked + may_ack g (head_of g e) s e else x.acked
+acked_after g (Ack e) s i x = if e == i then x.acked + may_ack_on g (head_of g e) s e else x.acked
 acked_after g _ s i x = x.acked
 
 -- the word that the first seal of the edge i saw
@@ -123,7 +123,7 @@ message_of edge place count = record { edge = edge; place = place; count = count
 -- the reply to an event whose rules are met, by the part as it was and what was seen
 abbrev pub reply_of : Setting → Event → ℕ → Part → Reply
 reply_of g (Take e) seen s = if seen == 0 then Empty else Got (message_of e (length (s.into e).got) seen)
-reply_of g (Ack e) seen s = Done (may_ack g (head_of g e) s e)
+reply_of g (Ack e) seen s = Done (may_ack_on g (head_of g e) s e)
 reply_of g (Fire v k) seen s = Done (s.fired + k)
 reply_of g (Clear e) seen s = if seen == 0 then Done (claims_of (s.out e).link) else Full
 reply_of g (Claim e) seen s = if seen == claims_of (s.out e).link

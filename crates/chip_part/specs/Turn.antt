@@ -7,7 +7,7 @@ use Rattle.chip_graph.specs.Multigraph.{edges_out, edges_in, degree}
 use Rattle.chip_part.specs.Setting.{Setting}
 use Rattle.chip_link.specs.Link.{claims_of}
 use Rattle.chip_part.specs.Edges.{root_edge, head_of}
-use Rattle.chip_part.specs.Part.{Part, is_running, pending_of, unput_count, refusals, is_legal, may_ack}
+use Rattle.chip_part.specs.Part.{Part, is_running, pending_of, unput_count, refusals, is_legal, may_ack_on}
 use Rattle.chip_part.specs.Rules.{Event, Take, Ack, Fire, Clear, Claim, Put, Halt, Settle}
 use Rattle.chip_part.specs.Steps.{Step, does, saw}
 
@@ -99,7 +99,7 @@ module _ (g : Setting) (v : ℕ) where
 
   -- an acknowledgement, if something may be acknowledged
   abbrev pub acknowledging : ℕ → Phase
-  acknowledging e = where_phase (λ s. not (may_ack g (head_of g e) s e == 0)) (one_step (Ack e))
+  acknowledging e = where_phase (λ s. not (may_ack_on g (head_of g e) s e == 0)) (one_step (Ack e))
 
   abbrev pub acknowledging_parent : Option ℕ → Phase
   acknowledging_parent None = nothing

@@ -6,7 +6,7 @@ use Rattle.chip_part.specs.Setting.{Setting, setting_of}
 use Rattle.chip_part.specs.declared.rule.Rule.TheVariants.{Halted, Engaged, NothingPending}
 use Rattle.chip_part.specs.declared.reply.Reply.TheVariants.{Done, Got, Sent, Full, Sealed, NotNow}
 use Rattle.chip_part.specs.declared.cause.Cause.TheVariants.{SealedEdge}
-use Rattle.chip_part.specs.Part.{Part, opening_part, is_passive, deficit, all_owed}
+use Rattle.chip_part.specs.Part.{Part, opening_part, is_passive, deficit_of, owed_by}
 use Rattle.chip_part.specs.Rules.{Take, Ack, Fire, Clear, Claim, Put, Halt, Settle, Seal}
 use Rattle.chip_part.specs.Turn.{IsTurn}
 use Rattle.chip_part.specs.Counting.{work_of}
@@ -68,19 +68,19 @@ SealedHalfWay =
     ≡ Got (message_of 4 0 4) ∷ Done 2 ∷ Done 0 ∷ Sent (message_of 0 0 2) ∷ Done 2
     ∷ Done 0 ∷ Sealed ∷ Done 0 ∷ [])
     × (after.halt ≡ Some SealedEdge) × (after.fired ≡ 2) × (after.chips ≡ 0) × ((after.out 1).pending ≡ 2)
-    × (is_passive g 0 after ≡ true) × (deficit g 0 after ≡ 1)
+    × (is_passive g 0 after ≡ true) × (deficit_of g 0 after ≡ 1)
     × (replies g after (saw (Fire 0 1) 0 ∷ saw (Clear 1) 0 ∷ saw (Take 2) 1 ∷ saw (Settle 0) 1 ∷ saw (Ack 2) 0
     ∷ saw (Ack 4) 0 ∷ []) ≡ NotNow Halted ∷ NotNow Halted ∷ Got (message_of 2 0 1) ∷ Done 1 ∷ Done 1 ∷ Done 1 ∷ [])
 
 -- the sink is engaged by the first of two messages, and acknowledges it last
-abbrev pub EngagingMessageLast : Type 0
-EngagingMessageLast =
+abbrev pub SinkAcknowledgesLast : Type 0
+SinkAcknowledgesLast =
     let events : List Step = saw (Take 0) 1 ∷ saw (Take 1) 1 ∷ saw (Ack 0) 0 ∷ saw (Ack 1) 0 ∷ saw (Ack 0) 0 ∷ [] in
     let after : Part = part_after two_edges (opening_part two_edges) events in
     (replies two_edges (opening_part two_edges) events
     ≡ Got (message_of 0 0 1) ∷ Got (message_of 1 0 1) ∷ NotNow Engaged
     ∷ Done 1 ∷ Done 1 ∷ [])
-    × (after.parent ≡ None) × (all_owed two_edges 1 after ≡ 0)
+    × (after.parent ≡ None) × (owed_by two_edges 1 after ≡ 0)
 
 -- the first turn of vertex 0 of the triangle, with four chips: it takes them, fires twice, and sends on both edges
 abbrev pub first_turn : List Step

@@ -1,6 +1,6 @@
 //! What holds of every part and every event, as the contracts of functions that do nothing.
 
-ghost use Rattle.chip_part.specs.Worked.{SentWithFullRing, SealedHalfWay, EngagingMessageLast, FirstTurn};
+ghost use Rattle.chip_part.specs.Worked.{SentWithFullRing, SealedHalfWay, SinkAcknowledgesLast, FirstTurn};
 ghost use Rattle.chip_part.specs.Worked.{TurnBegunInTheMiddle};
 ghost use Rattle.chip_part.specs.Laws.{RulesMean, OpeningKeeps, EventsKeep, SumsAddRootEdges, TurnIsBounded};
 ghost use Rattle.chip_part.specs.Laws.{IdleTurnRests};
@@ -10,7 +10,7 @@ ghost use Rattle.chip_part.specs.Cursor.{UnderWayIsBounded};
 pub fn worked_parts()
     ensures full_ring { SentWithFullRing }
     ensures sealed_half_way { SealedHalfWay }
-    ensures engaging_message_last { EngagingMessageLast }
+    ensures engaging_message_last { SinkAcknowledgesLast }
 {}
 
 /// The rules of an event in plain facts, and what a part keeps by every event that it may make.

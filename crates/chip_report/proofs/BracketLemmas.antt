@@ -9,9 +9,9 @@ use Rattle.chip_report.proofs.Names.{AllDigits, digits_value, ParsesUnsigned, Bo
 use Rattle.chip_report.proofs.Names.{ne_eqb, nat_tests, take_at, get_or_at, get_or_append_left, get_or-map, map-append}
 use Rattle.chip_report.proofs.Names.{length-map, All-nil, All-cons, All-append, All-from_get_or, slice_split_none}
 use Rattle.chip_report.proofs.Names.{slice_split_at, position_or_len_is, IsAscii-append, IsAscii-nil, IsAscii-cons}
-use Rattle.chip_report.proofs.Names.{comma, array_text, Gives, opening_bracket, closing_bracket, first_list}
-use Rattle.chip_report.proofs.Names.{text_behind_list, text_behind_lists, spelled_number, numbers_of, list_at}
-use Rattle.chip_report.proofs.Names.{AreListed, IsNoNumber, IsNoList, HasNoList, ReportFault}
+use Rattle.chip_report.proofs.Names.{comma, array_text, GivesReport, opening_bracket, closing_bracket, first_list}
+use Rattle.chip_report.proofs.Names.{text_behind_list, text_behind_lists, spelled_number, numbers_spelled, list_at}
+use Rattle.chip_report.proofs.Names.{AreReportNumbers, IsNoNumber, IsNoList, HasNoList, ReportFault}
 use Rattle.std.proofs.Common.{decimal}
 use Rattle.std.proofs.lemmas.Fmt.{decimal_is_IsNumeral, decimal_nonempty, digits_decimal, parse-decimal}
 use Rattle.std.proofs.lemmas.Fmt.{IsAscii-decimal}
@@ -97,7 +97,7 @@ numbers-decimals (n ∷ ns) fit =
     ∙ ap (λ (more : List ℕ). n ∷ more) (numbers-decimals ns (tail_fits n ns fit))
 
 numbers_of-some : (list : List ℕ) → 0 < length list
-    → numbers_of list ≡ map spelled_number (slice_split (λ b. eqb b comma) list)
+    → numbers_spelled list ≡ map spelled_number (slice_split (λ b. eqb b comma) list)
 numbers_of-some [] some = absurd (omega arith)
 numbers_of-some (b ∷ bs) some = refl
 
@@ -106,7 +106,7 @@ joined-some n [] fits = decimal_nonempty n fits
 joined-some n (m ∷ ms) fits =
     let some = decimal_nonempty n fits in omega (arith, length-append (decimal n) (comma ∷ joined (m ∷ ms)))
 
-numbers_of-joined : (ns : List ℕ) → AreShort ns → numbers_of (joined ns) ≡ ns
+numbers_of-joined : (ns : List ℕ) → AreShort ns → numbers_spelled (joined ns) ≡ ns
 numbers_of-joined [] fit = refl
 numbers_of-joined (n ∷ ns) fit =
     numbers_of-some (joined (n ∷ ns)) (joined-some n ns (head_fits n ns fit))
@@ -146,7 +146,7 @@ number_more xs x numbers n before is =
     rw (before, is) (simp map-append)
 
 pub numbers_of-shown : (list : List ℕ) (xs : List (Bor (List ℕ))) (numbers : List ℕ) → 0 < length list
-    → shown xs ≡ pieces list → numbers ≡ map spelled_number (shown xs) → numbers ≡ numbers_of list
+    → shown xs ≡ pieces list → numbers ≡ map spelled_number (shown xs) → numbers ≡ numbers_spelled list
 numbers_of-shown list xs numbers some all is = let spelled = numbers_of-some list some in cc
 
 -- no more numbers than pieces
@@ -186,7 +186,7 @@ is_plain (b ∷ bs) = (nat_lt b 128 && not (eqb b opening_bracket)) && is_plain 
 -- a part whose list has at most `most` numbers
 pub record IsPart (most : ℕ) (part : Part) : Type 0 where
   pub plain : is_plain part.0 ≡ true
-  pub listed : AreListed most part.1
+  pub listed : AreReportNumbers most part.1
 
 no_opening : (bs : List ℕ) → is_plain bs ≡ true → All (λ b. b ≢ opening_bracket) bs
 no_opening [] e = All-nil (λ b. b ≢ opening_bracket)
@@ -235,10 +235,10 @@ none_listed most text none front ns rest plain listed e =
 -- the numbers of the first list, as they are taken
 pub taken : (most : ℕ) (text rest list : List ℕ) (result : Result (Vec ℕ Global) ReportFault) → list ≡ first_list text
     → rest ≡ text_behind_list text
-    → Gives (λ numbers. (numbers.items ≡ numbers_of list) × (length numbers.items ≤ most)) (IsNoList most list) result
-    → Gives (λ numbers. (numbers.items ≡ numbers_of (first_list text)) × (rest ≡ text_behind_list text)
+    → GivesReport (λ numbers. (numbers.items ≡ numbers_spelled list) × (length numbers.items ≤ most)) (IsNoList most list) result
+    → GivesReport (λ numbers. (numbers.items ≡ numbers_spelled (first_list text)) × (rest ≡ text_behind_list text)
     × (length numbers.items ≤ most)) (HasNoList most text) result
-taken most text rest list (Ok numbers) first left is = (is.0 ∙ ap numbers_of first, left, is.1)
+taken most text rest list (Ok numbers) first left is = (is.0 ∙ ap numbers_spelled first, left, is.1)
 taken most text rest list (Err f) first left (inl memory) = inl memory
 taken most text rest list (Err f) first left (inr none) =
     inr (none.0, none_listed most text (rw first at none.1))
@@ -249,7 +249,7 @@ pub list_at-text_of : (most : ℕ) (parts : List Part) (end : List ℕ) → AllB
     → k < length parts → list_at k (text_of parts end) ≡ (get_or parts k ([], [])).1
 list_at-text_of most [] end are k l = absurd (omega arith)
 list_at-text_of most (part ∷ parts) end are zero l =
-    ap numbers_of (first_list-part part.0 part.1 (text_of parts end) (no_opening part.0 are.0.plain) are.0.listed.1)
+    ap numbers_spelled (first_list-part part.0 part.1 (text_of parts end) (no_opening part.0 are.0.plain) are.0.listed.1)
     ∙ numbers_of-joined part.1 are.0.listed.1
 list_at-text_of most (part ∷ parts) end are (suc k) l =
     ap (list_at k) (behind_list-part part.0 part.1 (text_of parts end) (no_opening part.0 are.0.plain) are.0.listed.1)

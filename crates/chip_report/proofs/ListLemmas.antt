@@ -3,7 +3,7 @@
 use Rattle.chip_report.proofs.Names.{◌≡◌, ℕ, zero, suc, ◌+◌, ◌<◌, ◌≤◌, Bool, true, false, nat_lt, List, length, get_or}
 use Rattle.chip_report.proofs.Names.{Result, Ok, Err, refl, sym, ◌∙◌, arith, lt-ltb, ltb-true, add-one, All, Contains}
 use Rattle.chip_report.proofs.Names.{slice_index, IsAllAdjacentAnswer, IsStrictlyIncreasing, IsNonDecreasing}
-use Rattle.chip_report.proofs.Names.{IsBinarySearchResult, nat_cmp, is_ok, AreApart, false≢true, get_or_default_zero}
+use Rattle.chip_report.proofs.Names.{IsBinarySearchResult, nat_cmp, is_ok, AreDisjoint, false≢true, get_or_default_zero}
 use Rattle.std.proofs.lemmas.List.Sorted.{searched, IsNonDecreasingBy-from_all_adjacent}
 
 -- what `is_sorted_by` answers by `<`
@@ -57,7 +57,7 @@ abbrev pub ApartBelow : List ℕ → List ℕ → ℕ → Type 0
 ApartBelow over sealed i = (k : ℕ) → k < i → Contains sealed (slice_index over k) → ⊥
 
 pub AreApart-from_below : (over sealed : List ℕ) (i : ℕ) → length over ≤ i → ApartBelow over sealed i
-    → AreApart over sealed
+    → AreDisjoint over sealed
 AreApart-from_below over sealed i all below v in_over in_sealed =
     let is : v ≡ slice_index over in_over.0 = sym in_over.2 ∙ get_or_default_zero over in_over.0 v in_over.1 in
     below in_over.0 (omega (arith, in_over.1)) (rw is at in_sealed)

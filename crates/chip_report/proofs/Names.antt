@@ -40,12 +40,12 @@ pub use Rattle.chip_sequence.specs.Sittings.{IsResumed, max_prior}
 pub use Rattle.chip_sequence.specs.declared.outcome.Outcome.{Outcome}
 pub use Rattle.chip_sequence.specs.declared.resumed.Resumed.{Resumed}
 pub use Rattle.chip_report.specs.Laws.{RoundTrip, RoundTripTwo}
-pub use Rattle.chip_report.specs.OutcomeParts.{AreApart, AreCounts, AreHalted}
+pub use Rattle.chip_report.specs.OutcomeParts.{AreDisjoint, AreReportCounts, AreHalted}
 pub use Rattle.chip_report.specs.ReportLists.{opening_bracket, closing_bracket, first_list, text_behind_list}
-pub use Rattle.chip_report.specs.ReportLists.{text_behind_lists, spelled_number, numbers_of, list_at, AreListed}
+pub use Rattle.chip_report.specs.ReportLists.{text_behind_lists, spelled_number, numbers_spelled, list_at, AreReportNumbers}
 pub use Rattle.chip_report.specs.ReportLists.{IsNoNumber, IsNoList, HasNoList}
 pub use Rattle.chip_report.specs.ReportText.{comma, array_text, bool_text, is_empty, is_closed, member_text}
-pub use Rattle.chip_report.specs.Reportable.{Gives, Content, content, IsReportOf, GrowsForALine, IsNoReportWithin}
+pub use Rattle.chip_report.specs.Reportable.{GivesReport, Content, content, IsReportOf, GrowsForALine, IsNoReportWithin}
 pub use Rattle.chip_report.specs.Sink.{bytes_out, goes_on, last_write, writes}
 pub use Rattle.chip_report.specs.Versions.{IsReportIn, IsNoReportIn, IsToldBy, content_by_text, text_in}
 pub use Rattle.chip_report.specs.declared.fault.ReportFault.{ReportFault}

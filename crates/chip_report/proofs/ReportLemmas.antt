@@ -4,9 +4,9 @@ use Rattle.chip_report.proofs.Names.{◌≡◌, ◌≢◌, ℕ, ◌<◌, ◌≤�
 use Rattle.chip_report.proofs.Names.{codes, Result, Ok, Err, inl, inr, refl, sym, ap, ◌∙◌, subst, arith, append_assoc}
 use Rattle.chip_report.proofs.Names.{replicate, rules, ◌⊎◌, ◌&&◌, All, IsUtf8, IsErrAnd, AllByRecursion, false≢true}
 use Rattle.chip_report.proofs.Names.{IsUtf8-from_ascii, length-replicate, All-replicate, Outcome, Resumed, IsOutcome}
-use Rattle.chip_report.proofs.Names.{IsResumed, max_prior, SizeLimits, max_limit, max_total, max_vertices, AreCounts}
+use Rattle.chip_report.proofs.Names.{IsResumed, max_prior, SizeLimits, max_limit, max_total, max_vertices, AreReportCounts}
 use Rattle.chip_report.proofs.Names.{AreHalted, bool_text, array_text, is_empty, is_closed, RoundTrip, Content, content}
-use Rattle.chip_report.proofs.Names.{IsReportOf, GrowsForALine, Gives, list_at, text_behind_lists, AreListed, HasNoList}
+use Rattle.chip_report.proofs.Names.{IsReportOf, GrowsForALine, GivesReport, list_at, text_behind_lists, AreReportNumbers, HasNoList}
 use Rattle.chip_report.proofs.Names.{IsReportIn, IsNoReportIn, IsToldBy, content_by_text, text_in, ReportFault}
 use Rattle.chip_report.specs.ReportText.{report_text}
 use Rattle.chip_report.specs.ReportTwo.{IsReportTwoOf, SittingContent, sitting_content}
@@ -77,7 +77,7 @@ in_parts false r = in_parts_one r.outcome
 -- the numbers are those of an outcome that a game can have
 abbrev AreOfOutcome : Content → Type 0
 AreOfOutcome t =
-    AreCounts t.fired (length t.fired) max_limit × AreCounts t.chips (length t.fired) max_total
+    AreReportCounts t.fired (length t.fired) max_limit × AreReportCounts t.chips (length t.fired) max_total
     × AreHalted t.over t.sealed (length t.fired)
 
 -- the numbers are those of a sitting
@@ -90,12 +90,12 @@ outcome_then o h = search rules
 outcome_if : (o : Outcome) → AreOfOutcome (content o) → IsOutcome o
 outcome_if o h = search rules
 
-pub outcome_by_counts : (o : Outcome) (vertices : ℕ) → AreCounts o.fired.items vertices max_limit
-    → AreCounts o.chips.items vertices max_total → AreHalted o.over.items o.sealed.items vertices → IsOutcome o
+pub outcome_by_counts : (o : Outcome) (vertices : ℕ) → AreReportCounts o.fired.items vertices max_limit
+    → AreReportCounts o.chips.items vertices max_total → AreHalted o.over.items o.sealed.items vertices → IsOutcome o
 outcome_by_counts o vertices fired chips halted =
     outcome_if o
     (subst
-    (λ (n : ℕ). AreCounts o.fired.items n max_limit × AreCounts o.chips.items n max_total
+    (λ (n : ℕ). AreReportCounts o.fired.items n max_limit × AreReportCounts o.chips.items n max_total
     × AreHalted o.over.items o.sealed.items n)
     (sym fired.0) (fired, chips, halted))
 
@@ -113,11 +113,11 @@ sitting_if r h = record { outcome_fits = outcome_if r.outcome h.0; prior_each = 
 
 -- numbers that a report lists, at most `most` of each kind
 pub record AreListedAll (most : ℕ) (t : SittingContent) : Type 0 where
-  pub fired : AreListed most t.last.fired
-  pub chips : AreListed most t.last.chips
-  pub over : AreListed most t.last.over
-  pub prior : AreListed most t.prior
-  pub sealed : AreListed most t.last.sealed
+  pub fired : AreReportNumbers most t.last.fired
+  pub chips : AreReportNumbers most t.last.chips
+  pub over : AreReportNumbers most t.last.over
+  pub prior : AreReportNumbers most t.prior
+  pub sealed : AreReportNumbers most t.last.sealed
 
 listed : (most : ℕ) (t : SittingContent) → AreOfSitting t → length t.last.fired ≤ most → AreListedAll most t
 listed most t h few =
@@ -283,7 +283,7 @@ not_that_sitting went_on limits bytes found e none = none_in went_on limits byte
 -- what a call refuses is refused for the same reason
 pub passed_on : {T P Q : Type 0} (IsRight : T → Type 0) (result : Result T ReportFault) (f : ReportFault)
     → IsErrAnd result (λ e. e ≡ f) → (f ≡ fault.NoMemory) ⊎ ((f ≡ fault.NotReport) × P) → (P → Q)
-    → Gives IsRight Q result
+    → GivesReport IsRight Q result
 passed_on IsRight (Ok x) f is why then = absurd is
 passed_on IsRight (Err g) f is (inl memory) then = inl (is ∙ memory)
 passed_on IsRight (Err g) f is (inr none) then = inr (is ∙ none.0, then none.1)
@@ -293,7 +293,7 @@ pub none_taken : (went_on : Bool) (limits : SizeLimits) (text : List ℕ) (most 
     → k < lists_in went_on → (rest : List ℕ) → rest ≡ text_behind_lists k text
     → (result : Result Resumed ReportFault) (f : ReportFault) → IsErrAnd result (λ e. e ≡ f)
     → (f ≡ fault.NoMemory) ⊎ ((f ≡ fault.NotReport) × HasNoList most rest)
-    → Gives (IsToldBy went_on limits text) (IsNoReportIn went_on limits text) result
+    → GivesReport (IsToldBy went_on limits text) (IsNoReportIn went_on limits text) result
 none_taken went_on limits text most k same l rest at result f is why =
     passed_on (IsToldBy went_on limits text) result f is why (λ none.
     none_without_list went_on limits text k l (rw (same, at) at none))

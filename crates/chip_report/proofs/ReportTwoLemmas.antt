@@ -3,7 +3,7 @@
 use Rattle.chip_report.proofs.Names.{◌≡◌, ◌≢◌, ℕ, Bool, true, false, List, [], ◌∷◌, ◌++◌, codes, Result, Ok, Err, inl}
 use Rattle.chip_report.proofs.Names.{inr, refl, sym, ap, ◌∙◌, arith, append_assoc, append_cancel_right, same_from_push}
 use Rattle.chip_report.proofs.Names.{SizeLimits, Outcome, Resumed, IsResumed, RoundTripTwo, IsReportOf}
-use Rattle.chip_report.proofs.Names.{IsNoReportWithin, Gives, IsReportIn, IsNoReportIn, ReportFault}
+use Rattle.chip_report.proofs.Names.{IsNoReportWithin, GivesReport, IsReportIn, IsNoReportIn, ReportFault}
 use Rattle.chip_report.specs.ReportTwo.{report_two_text, IsReportTwoOf, IsNoReportTwoWithin, IsAnyReportWithin}
 use Rattle.chip_report.specs.ReportTwo.{IsNoReportAtAllWithin, sitting_content}
 use Rattle.chip_report.proofs.ReportLemmas.{version, by_outcome, by_sitting, first_content, report_ends, one_content}
@@ -37,8 +37,8 @@ none_at_all limits bytes none none_two r (inr went_on, fits) = none_two r (went_
 pub read_by_end : (went_on : Bool) (limits : SizeLimits) (bytes : List ℕ)
     → (went_on ≡ true → (front : List ℕ) × (bytes ≡ front ++ version true))
     → (went_on ≡ false → (front : List ℕ) → bytes ≢ front ++ version true) → (result : Result Resumed ReportFault)
-    → Gives (IsReportIn went_on limits bytes) (IsNoReportIn went_on limits bytes) result
-    → Gives (IsAnyReportWithin limits bytes) (IsNoReportAtAllWithin limits bytes) result
+    → GivesReport (IsReportIn went_on limits bytes) (IsNoReportIn went_on limits bytes) result
+    → GivesReport (IsAnyReportWithin limits bytes) (IsNoReportAtAllWithin limits bytes) result
 read_by_end true limits bytes ends none (Ok r) is = (inr is.0, is.1)
 read_by_end false limits bytes ends none (Ok r) is = (inl (is.0.0, is.1), is.0.1)
 read_by_end went_on limits bytes ends none (Err f) (inl memory) = inl memory

@@ -1,6 +1,6 @@
 -- Serves ReportLists.antt, Versions.antt.
 -- Worked texts and lists, computed on the definitions.
-use Rattle.chip_report.proofs.Names.{◌≡◌, true, false, [], ◌∷◌, codes, refl, first_list, text_behind_list, numbers_of}
+use Rattle.chip_report.proofs.Names.{◌≡◌, true, false, [], ◌∷◌, codes, refl, first_list, text_behind_list, numbers_spelled}
 use Rattle.chip_report.proofs.Names.{content_by_text}
 
 -- the small triangle, played to its end
@@ -26,8 +26,8 @@ rest : text_behind_list (codes "a[1,2],[3]") ≡ codes ",[3]"
 rest = refl
 
 -- a list without a number, and one with leading zeros
-no_number : numbers_of [] ≡ []
+no_number : numbers_spelled [] ≡ []
 no_number = refl
 
-leading_zeros : numbers_of (codes "007,10") ≡ 7 ∷ 10 ∷ []
+leading_zeros : numbers_spelled (codes "007,10") ≡ 7 ∷ 10 ∷ []
 leading_zeros = refl

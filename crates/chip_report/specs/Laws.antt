@@ -8,7 +8,7 @@ use Rattle.chip_graph.specs.Limits.{SizeLimits}
 use Rattle.chip_sequence.specs.declared.outcome.Outcome.{Outcome}
 use Rattle.chip_sequence.specs.Outcomes.{IsOutcome}
 use Rattle.chip_report.specs.ReportText.{report_text}
-use Rattle.chip_report.specs.Reportable.{content, FitsIn, IsReportOf, IsReportWithin, IsNoReportWithin, Gives}
+use Rattle.chip_report.specs.Reportable.{content, FitsIn, IsReportOf, IsReportWithin, IsNoReportWithin, GivesReport}
 use Rattle.chip_report.specs.declared.fault.ReportFault.{ReportFault}
 use Rattle.chip_report.specs.declared.fault.ReportFault.TheVariants as fault
 
@@ -22,7 +22,7 @@ OneOutcome = (one other : Outcome) → IsOutcome one → IsOutcome other → rep
 abbrev pub RoundTrip : Type 0
 RoundTrip = (limits : SizeLimits) (outcome : Outcome) → IsOutcome outcome → FitsIn limits outcome
     → (answer : Result Outcome ReportFault)
-    → Gives (IsReportWithin limits (report_text outcome)) (IsNoReportWithin limits (report_text outcome)) answer
+    → GivesReport (IsReportWithin limits (report_text outcome)) (IsNoReportWithin limits (report_text outcome)) answer
     → ((read : Outcome) × (answer ≡ Ok read) × (content read ≡ content outcome)) ⊎ (answer ≡ Err fault.NoMemory)
 
 -- sittings with the same report have the same numbers
@@ -35,7 +35,7 @@ OneSitting = (one other : Resumed) → IsResumed one → IsResumed other
 abbrev pub RoundTripTwo : Type 0
 RoundTripTwo = (limits : SizeLimits) (r : Resumed) → IsResumed r → FitsIn limits r.outcome
     → (answer : Result Resumed ReportFault)
-    → Gives (IsAnyReportWithin limits (report_two_text r)) (IsNoReportAtAllWithin limits (report_two_text r)) answer
+    → GivesReport (IsAnyReportWithin limits (report_two_text r)) (IsNoReportAtAllWithin limits (report_two_text r)) answer
     → ((read : Resumed) × (answer ≡ Ok read) × (sitting_content read ≡ sitting_content r))
     ⊎ (answer ≡ Err fault.NoMemory)
 

@@ -31,19 +31,19 @@ abbrev pub spelled_number : List ℕ → ℕ
 spelled_number digits = digits_value 10 (without_leading_plus digits)
 
 -- the numbers that a list spells
-abbrev pub numbers_of : List ℕ → List ℕ
-numbers_of [] = []
-numbers_of (b ∷ bs) = map spelled_number (slice_split (λ c. c == comma) (b ∷ bs))
+abbrev pub numbers_spelled : List ℕ → List ℕ
+numbers_spelled [] = []
+numbers_spelled (b ∷ bs) = map spelled_number (slice_split (λ c. c == comma) (b ∷ bs))
 
 -- the numbers of the list behind the first `lists` lists
 abbrev pub list_at : ℕ → List ℕ → List ℕ
-list_at lists text = numbers_of (first_list (text_behind_lists lists text))
+list_at lists text = numbers_spelled (first_list (text_behind_lists lists text))
 
 -- ---- what no report has
 
 -- numbers that a list of a report may have: each fits, and there are at most `most`
-abbrev pub AreListed : ℕ → List ℕ → Type 0
-AreListed most numbers = (length numbers ≤ most) × All (λ n. n < 2 ^ 64) numbers
+abbrev pub AreReportNumbers : ℕ → List ℕ → Type 0
+AreReportNumbers most numbers = (length numbers ≤ most) × All (λ n. n < 2 ^ 64) numbers
 
 -- no number is written so
 abbrev pub IsNoNumber : List ℕ → Type 0
@@ -51,9 +51,9 @@ IsNoNumber digits = (n : ℕ) → n < 2 ^ 64 → digits ≢ decimal n
 
 -- no such numbers are written so
 abbrev pub IsNoList : ℕ → List ℕ → Type 0
-IsNoList most list = (numbers : List ℕ) → AreListed most numbers → list ≢ join_with_byte comma (map decimal numbers)
+IsNoList most list = (numbers : List ℕ) → AreReportNumbers most numbers → list ≢ join_with_byte comma (map decimal numbers)
 
 -- in the first brackets no such numbers are written
 abbrev pub HasNoList : ℕ → List ℕ → Type 0
-HasNoList most text = (front numbers rest : List ℕ) → All (λ b. b ≢ opening_bracket) front → AreListed most numbers
+HasNoList most text = (front numbers rest : List ℕ) → All (λ b. b ≢ opening_bracket) front → AreReportNumbers most numbers
     → text ≢ front ++ (array_text numbers ++ rest)

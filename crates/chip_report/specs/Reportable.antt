@@ -45,6 +45,6 @@ abbrev pub GrowsForALine : {T : Type 0} → List ℕ → Result T ReportFault �
 GrowsForALine bytes result = IfErr result (λ f. f ≡ fault.NoMemory → (json : List ℕ) × (bytes ≡ json ++ 10 ∷ []))
 
 -- a value that is right, or `NotReport` if there is none; memory may always run out
-abbrev pub Gives : {T : Type 0} → (T → Type 0) → Type 0 → Result T ReportFault → Type 0
-Gives IsRight HasNone (Ok value) = IsRight value
-Gives IsRight HasNone (Err f) = (f ≡ fault.NoMemory) ⊎ ((f ≡ fault.NotReport) × HasNone)
+abbrev pub GivesReport : {T : Type 0} → (T → Type 0) → Type 0 → Result T ReportFault → Type 0
+GivesReport IsRight HasNone (Ok value) = IsRight value
+GivesReport IsRight HasNone (Err f) = (f ≡ fault.NoMemory) ⊎ ((f ≡ fault.NotReport) × HasNone)

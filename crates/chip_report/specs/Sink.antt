@@ -17,7 +17,7 @@ abbrev pub bytes_out : {W : Type 0} → (W → Option (List ℕ)) → Sink W →
 bytes_out contents sink = contents sink.writer.now
 
 -- nothing was written yet
-pub record IsFresh {W : Type 0} (sink : Sink W) : Type 0 where
+pub record IsUnwritten {W : Type 0} (sink : Sink W) : Type 0 where
   pub none : writes sink ≡ 0
   pub first : last_write sink ≡ last.NotYet
 
@@ -29,6 +29,6 @@ goes_on last.Nothing = false
 goes_on last.Failure = false
 
 -- how a write went
-abbrev pub last_by : {E : Type 0} → Result ℕ E → LastWrite
-last_by (Ok count) = if count == 0 then last.Nothing else last.Bytes
-last_by (Err e) = last.Failure
+abbrev pub last_write_by : {E : Type 0} → Result ℕ E → LastWrite
+last_write_by (Ok count) = if count == 0 then last.Nothing else last.Bytes
+last_write_by (Err e) = last.Failure

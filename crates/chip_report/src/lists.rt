@@ -1,8 +1,8 @@
 //! The lists of numbers in a text, be it a report or not.
 
 ghost use Rattle.std.specs.Prelude.{◌≡◌, ◌≤◌, length, IsUtf8, MatchOption};
-ghost use Rattle.chip_report.specs.Reportable.{Gives};
-ghost use Rattle.chip_report.specs.ReportLists.{first_list, text_behind_list, spelled_number, numbers_of};
+ghost use Rattle.chip_report.specs.Reportable.{GivesReport};
+ghost use Rattle.chip_report.specs.ReportLists.{first_list, text_behind_list, spelled_number, numbers_spelled};
 ghost use Rattle.chip_report.specs.ReportLists.{IsNoNumber, IsNoList, HasNoList};
 
 use crate::fault::ReportFault;
@@ -19,7 +19,7 @@ pub(crate) struct Lists<'t> {
 impl<'t> Lists<'t> {
     /// The lists of a text.
     pub(crate) fn new(text: &'t [u8]) -> Result<Lists<'t>, ReportFault>
-        ensures { Gives (λ lists. lists.rest.now ≡ text.now) (IsUtf8 text.now → ⊥) result }
+        ensures { GivesReport (λ lists. lists.rest.now ≡ text.now) (IsUtf8 text.now → ⊥) result }
     {
         match str::from_utf8(text) {
             Ok(rest) => Ok(Lists { rest }),
@@ -29,7 +29,7 @@ impl<'t> Lists<'t> {
 
     /// Takes the numbers between the next brackets, if they are at most `most`.
     pub(crate) fn take(&mut self, alloc: Global, most: u64) -> Result<Vec<u64>, ReportFault>
-        ensures { Gives (λ numbers. (numbers.items ≡ numbers_of (first_list self.old.rest.now))
+        ensures { GivesReport (λ numbers. (numbers.items ≡ numbers_spelled (first_list self.old.rest.now))
             × (self.new.rest.now ≡ text_behind_list self.old.rest.now) × (length numbers.items ≤ most))
             (HasNoList most self.old.rest.now) result }
     {
@@ -46,7 +46,7 @@ impl<'t> Lists<'t> {
 
 /// The numbers of a list, if they are at most `most`.
 fn numbers_of(alloc: Global, most: u64, list: &str) -> Result<Vec<u64>, ReportFault>
-    ensures { Gives (λ numbers. (numbers.items ≡ numbers_of list.now) × (length numbers.items ≤ most))
+    ensures { GivesReport (λ numbers. (numbers.items ≡ numbers_spelled list.now) × (length numbers.items ≤ most))
         (IsNoList most list.now) result }
 {
     let mut numbers = Vec::new(alloc);

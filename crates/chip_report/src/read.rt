@@ -2,7 +2,7 @@
 
 ghost use Rattle.std.specs.Prelude.{◌≡◌, IfOk};
 ghost use Rattle.chip_graph.specs.Limits.{standard};
-ghost use Rattle.chip_report.specs.Reportable.{IsReportWithin, IsNoReportWithin, Gives, GrowsForALine};
+ghost use Rattle.chip_report.specs.Reportable.{IsReportWithin, IsNoReportWithin, GivesReport, GrowsForALine};
 ghost use Rattle.chip_report.specs.ReportTwo.{IsAnyReportWithin, IsNoReportAtAllWithin};
 ghost use Rattle.chip_report.specs.Versions.{IsReportIn, IsNoReportIn, IsToldBy, text_in};
 
@@ -16,7 +16,7 @@ use std::alloc::{AllocError, Global};
 
 /// The outcome whose report the bytes are, within the standard limits.
 pub fn read_report(alloc: Global, bytes: &[u8]) -> Result<Outcome, ReportFault>
-    ensures outcome { Gives (IsReportWithin standard bytes.now) (IsNoReportWithin standard bytes.now) result }
+    ensures outcome { GivesReport (IsReportWithin standard bytes.now) (IsNoReportWithin standard bytes.now) result }
     ensures memory { GrowsForALine bytes.now result }
 {
     read_report_within(alloc, Limits::standard(), bytes)
@@ -28,7 +28,7 @@ pub fn read_report_within(
     limits: Limits,
     bytes: &[u8],
 ) -> Result<Outcome, ReportFault>
-    ensures outcome { Gives (IsReportWithin limits bytes.now) (IsNoReportWithin limits bytes.now) result }
+    ensures outcome { GivesReport (IsReportWithin limits bytes.now) (IsNoReportWithin limits bytes.now) result }
     ensures memory { GrowsForALine bytes.now result }
 {
     let resumed = read_version(alloc, limits, false, bytes)?;
@@ -37,7 +37,7 @@ pub fn read_report_within(
 
 /// The sitting whose report the bytes are, within the standard limits.
 pub fn read_any(alloc: Global, bytes: &[u8]) -> Result<Resumed, ReportFault>
-    ensures sitting { Gives (IsAnyReportWithin standard bytes.now) (IsNoReportAtAllWithin standard bytes.now) result }
+    ensures sitting { GivesReport (IsAnyReportWithin standard bytes.now) (IsNoReportAtAllWithin standard bytes.now) result }
     ensures memory { GrowsForALine bytes.now result }
 {
     read_any_within(alloc, Limits::standard(), bytes)
@@ -48,7 +48,7 @@ pub fn read_any(alloc: Global, bytes: &[u8]) -> Result<Resumed, ReportFault>
 ///
 /// Only the report of a sitting that went on ends in version 2, so the bytes are read as one version.
 pub fn read_any_within(alloc: Global, limits: Limits, bytes: &[u8]) -> Result<Resumed, ReportFault>
-    ensures sitting { Gives (IsAnyReportWithin limits bytes.now) (IsNoReportAtAllWithin limits bytes.now) result }
+    ensures sitting { GivesReport (IsAnyReportWithin limits bytes.now) (IsNoReportAtAllWithin limits bytes.now) result }
     ensures memory { GrowsForALine bytes.now result }
 {
     let went_on = bytes.ends_with(b",\"version\":2}\n");
@@ -65,7 +65,7 @@ fn read_version(
     went_on: bool,
     bytes: &[u8],
 ) -> Result<Resumed, ReportFault>
-    ensures sitting { Gives (IsReportIn went_on limits bytes.now) (IsNoReportIn went_on limits bytes.now) result }
+    ensures sitting { GivesReport (IsReportIn went_on limits bytes.now) (IsNoReportIn went_on limits bytes.now) result }
     ensures memory { GrowsForALine bytes.now result }
 {
     if !bytes.ends_with(b"\n") {
@@ -97,7 +97,7 @@ fn sitting_of_text(
     went_on: bool,
     text: &[u8],
 ) -> Result<Resumed, ReportFault>
-    ensures { Gives (IsToldBy went_on limits text.now) (IsNoReportIn went_on limits text.now) result }
+    ensures { GivesReport (IsToldBy went_on limits text.now) (IsNoReportIn went_on limits text.now) result }
 {
     let most = limits.vertices();
     let mut lists = Lists::new(text)?;

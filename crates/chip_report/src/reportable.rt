@@ -4,7 +4,7 @@ ghost use Rattle.std.specs.Prelude.{◌≡◌, ◌↔◌, true, Contains};
 ghost use Rattle.std.specs.List.Sorted.{IsStrictlyIncreasing};
 ghost use Rattle.chip_sequence.specs.Outcomes.{IsOutcome};
 ghost use Rattle.chip_sequence.specs.Sittings.{IsResumed};
-ghost use Rattle.chip_report.specs.OutcomeParts.{AreCounts, IsAscendingBelow, AreApart, AreHalted};
+ghost use Rattle.chip_report.specs.OutcomeParts.{AreReportCounts, IsAscendingBelow, AreDisjoint, AreHalted};
 
 use chip_graph::{MAX_LIMIT, MAX_TOTAL, MAX_VERTICES};
 use chip_sequence::{MAX_PRIOR, Outcome, Resumed};
@@ -31,7 +31,7 @@ fn is_outcome(outcome: &Outcome) -> bool
 
 /// Whether the numbers are one for each vertex, none above `most`.
 fn are_counts(numbers: &[u64], vertices: usize, most: u64) -> bool
-    ensures { (result ≡ true) ↔ AreCounts numbers.now vertices most }
+    ensures { (result ≡ true) ↔ AreReportCounts numbers.now vertices most }
 {
     numbers.len() == vertices
         && 0 < vertices
@@ -65,7 +65,7 @@ fn is_ascending(list: &[u64]) -> bool
 /// Whether no vertex stands in both of two lists, of which the second ascends.
 fn are_apart(over: &[u64], sealed: &[u64]) -> bool
     requires { IsStrictlyIncreasing sealed.now }
-    ensures { (result ≡ true) ↔ AreApart over.now sealed.now }
+    ensures { (result ≡ true) ↔ AreDisjoint over.now sealed.now }
 {
     for vertex in over {
         if is_in(sealed, *vertex) {

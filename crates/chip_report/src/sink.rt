@@ -3,7 +3,7 @@
 ghost use Rattle.std.specs.Prelude.{◌≡◌, ◌+◌, ◌^◌, ◌<◌, true};
 ghost use Rattle.std.specs.Io.{WritesAtMost};
 ghost use Rattle.std.specs.Io.KnownBytes.{WriteAppends};
-ghost use Rattle.chip_report.specs.Sink.{IsFresh, bytes_out, goes_on, last_by, last_write, writes};
+ghost use Rattle.chip_report.specs.Sink.{IsUnwritten, bytes_out, goes_on, last_write_by, last_write, writes};
 
 use std::io;
 use std::io::Write;
@@ -34,7 +34,7 @@ impl<'w, W: Write> Sink<'w, W> {
     pub fn new(writer: &'w mut W) -> Sink<'w, W>
         ensures lent { result.writer.ghost_name ≡ writer.entry.ghost_name }
         ensures same { result.writer.now ≡ writer.old }
-        ensures fresh { IsFresh result }
+        ensures fresh { IsUnwritten result }
     {
         Sink {
             writer,
@@ -63,7 +63,7 @@ impl<'w, W: Write> Sink<'w, W> {
         requires few { writes self.old + 1 < 2 ^ 64 }
         ensures lent { self.new.writer.ghost_name ≡ self.old.writer.ghost_name }
         ensures counted { writes self.new ≡ writes self.old + 1 }
-        ensures noted { last_write self.new ≡ last_by result }
+        ensures noted { last_write self.new ≡ last_write_by result }
         ensures bound { WritesAtMost result bytes.now }
         ensures bytes { WriteAppends (bytes_out W.contents self.old) (bytes_out W.contents self.new) result bytes.now }
     {

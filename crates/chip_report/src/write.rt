@@ -1,7 +1,7 @@
 //! Exact writing: all the bytes, or a fault that says how many were written.
 
 ghost use Rattle.std.specs.Prelude.{◌≡◌, ◌≤◌, length, is_ok};
-ghost use Rattle.chip_report.specs.Sink.{IsFresh, bytes_out, goes_on, last_write, writes};
+ghost use Rattle.chip_report.specs.Sink.{IsUnwritten, bytes_out, goes_on, last_write, writes};
 ghost use Rattle.chip_report.specs.Written.{WritesAll};
 
 use crate::sink::Sink;
@@ -33,7 +33,7 @@ impl WriteFault {
 /// A write that fails for whatever reason, also an interruption, is a fault, and so is one that takes no byte. No write
 /// follows it.
 pub fn write_all_to<W: Write>(sink: &mut Sink<'_, W>, bytes: &[u8]) -> Result<(), WriteFault>
-    requires { IsFresh sink.old }
+    requires { IsUnwritten sink.old }
     ensures bytes { WritesAll (bytes_out W.contents sink.old) (bytes_out W.contents sink.new) bytes.now result }
 
     // At any writer.

@@ -39,8 +39,8 @@ use Rattle.chip_net.specs.Traces.{row_of}
 use Rattle.chip_net.specs.Traces as traces
 use Rattle.chip_net.proofs.ActingLemmas.{rows_push}
 use Rattle.chip_trace.specs.Interleaving.{fires, chips_taken, takes_of, opening, messages, goes_into, next_message}
-use Rattle.chip_trace.specs.Interleaving.{is_met, Placed, rows_of, AreMet, trace_of, IsInterleaving, with_firing}
-use Rattle.chip_trace.specs.Interleaving.{firings}
+use Rattle.chip_trace.specs.Interleaving.{is_row_enabled, Placed, rows_of, AreRowsEnabled, trace_of, IsInterleaving, with_firing}
+use Rattle.chip_trace.specs.Interleaving.{row_firings}
 use Rattle.chip_trace.proofs.PrefixLemmas.{slice_get_keeps}
 use Rattle.chip_trace.proofs.RowLemmas.{fires-append, chips_taken-append, takes_of-append, rows_of-append, AreMet-push}
 use Rattle.chip_run.specs.Replaying.{row_at_vertex, rows_in, traces_in, times_of, HasOneEach, AreGivenOnce}
@@ -123,9 +123,9 @@ times_push u v (Row.Fire k) fired rows is =
     let a = sum_by-cons (λ (f : ℕ × ℕ). cond (eqb f.0 v) f.1 0) (u, k) fired in
     let b = sum_by-cons (λ (n : ℕ). n) k (fires rows) in grind (arith, nat_tests)
 
-times_are : (xs : List Placed) (v : ℕ) → times_of v (firings xs) ≡ sum (fires (rows_of xs v))
+times_are : (xs : List Placed) (v : ℕ) → times_of v (row_firings xs) ≡ sum (fires (rows_of xs v))
 times_are [] v = refl
-times_are (x ∷ xs) v = times_push x.vertex v x.row (firings xs) (rows_of xs v) (times_are xs v)
+times_are (x ∷ xs) v = times_push x.vertex v x.row (row_firings xs) (rows_of xs v) (times_are xs v)
 
 -- ---- what one event adds
 
@@ -169,7 +169,7 @@ record RowsTell (g : Setting) (v : ℕ) (rows : List TraceRow) (s : Part) : Type
 module _ (g : Setting) where
   -- what v recorded in a log
   abbrev recorded : Log → ℕ → List TraceRow
-  recorded log v = traces.rows_of (done_by g v log)
+  recorded log v = traces.trace_rows_of (done_by g v log)
 
   -- the rows of a log that are v's are those that it recorded
   rows_are : (log : Log) (v : ℕ) → rows_of (rows_in g log) v ≡ recorded log v
@@ -263,7 +263,7 @@ module _ (g : Setting) where
         })))
         (λ other. rw (ne_eqb p v other) (tells log legal.0 v))
 
-    pub times_fired : (log : Log) → IsLegalLog g log → (v : ℕ) → times_of v (firings (rows_in g log)) ≡ fired_by g log v
+    pub times_fired : (log : Log) → IsLegalLog g log → (v : ℕ) → times_of v (row_firings (rows_in g log)) ≡ fired_by g log v
     times_fired log legal v = times_are (rows_in g log) v ∙ rw (rows_are log v) (tells log legal v).fired
 
     traces_are : (log : Log) → IsLegalLog g log → (v : ℕ) → rows_of (rows_in g log) v ≡ trace_of (traces_in g log) v
@@ -316,7 +316,7 @@ module _ (g : Setting) where
         (sent.0, sent.1 ∙ sym (cond-false (ltb e m) own first (le-ltb e m (omega arith)))))
 
     take_met : (log : Log) → IsLegalLog g log → Opens log → (e seen : ℕ) → e < all_edges g
-        → seen ≡ sees g log (Take e) → seen ≢ 0 → is_met whole (recorded log) (head_of g e) (Row.Take e seen) ≡ true
+        → seen ≡ sees g log (Take e) → seen ≢ 0 → is_row_enabled whole (recorded log) (head_of g e) (Row.Take e seen) ≡ true
     take_met log legal opened e seen below is some =
         let t : Tail = (out_in g log e).link in
         let n : ℕ = length (into_in g log e).got in
@@ -330,7 +330,7 @@ module _ (g : Setting) where
         rw (goes, next) (eq-eqb found seen (sym is))
 
     fire_met : (log : Log) → IsLegalLog g log → (v k : ℕ) → Met g (Fire v k) (part_in g log v)
-        → is_met whole (recorded log) v (Row.Fire k) ≡ true
+        → is_row_enabled whole (recorded log) v (Row.Fire k) ≡ true
     fire_met log legal v k may =
         let d : ℕ = degree g.game.graph v in
         let told = tells game log legal v in
@@ -341,14 +341,14 @@ module _ (g : Setting) where
         grind (arith, nat_tests)
 
     -- it is met behind the rows of the log
-    met_behind : (log : Log) (v : ℕ) (row : TraceRow) → AreMet whole [] (rows_in g log)
-        → is_met whole (recorded log) v row ≡ true → AreMet whole [] (rows_in g log ++ row_at_vertex v row ∷ [])
+    met_behind : (log : Log) (v : ℕ) (row : TraceRow) → AreRowsEnabled whole [] (rows_in g log)
+        → is_row_enabled whole (recorded log) v row ≡ true → AreRowsEnabled whole [] (rows_in g log ++ row_at_vertex v row ∷ [])
     met_behind log v row all met = AreMet-push whole [] (rows_in g log) (row_at_vertex v row) all
-        (subst (λ (used : ℕ → List TraceRow). is_met whole used v row ≡ true) (λ i u. sym (rows_are log u) i) met)
+        (subst (λ (used : ℕ → List TraceRow). is_row_enabled whole used v row ≡ true) (λ i u. sym (rows_are log u) i) met)
 
     met_more : (x : Event) (seen : ℕ) (log : Log) → IsLegalLog g log → Opens log
-        → Met g x (part_in g log (part_of g x)) → seen ≡ sees g log x → AreMet whole [] (rows_in g log)
-        → AreMet whole [] (rows_in g log ++ map (row_at_vertex (part_of g x)) (row_of x seen))
+        → Met g x (part_in g log (part_of g x)) → seen ≡ sees g log x → AreRowsEnabled whole [] (rows_in g log)
+        → AreRowsEnabled whole [] (rows_in g log ++ map (row_at_vertex (part_of g x)) (row_of x seen))
     met_more (Take e) seen log legal opened may is all = dite (ℕ_discrete seen 0)
         (λ none. rw (eq-eqb seen 0 none, append-nil) all)
         (λ some. rw (ne_eqb seen 0 some)
@@ -357,7 +357,7 @@ module _ (g : Setting) where
         met_behind log v (Row.Fire k) all (fire_met log legal v k may)
     met_more x seen log legal opened may is all = rw append-nil all
 
-    all_met : (log : Log) → IsLegalLog g log → Opens log → AreMet whole [] (rows_in g log)
+    all_met : (log : Log) → IsLegalLog g log → Opens log → AreRowsEnabled whole [] (rows_in g log)
     all_met [] legal opened = tt
     all_met (x ∷ log) legal opened = let before = opens_before x log legal opened in
         met_more x.event x.seen log legal.0 before (met_here g x log legal) legal.1.1 (all_met log legal.0 before)

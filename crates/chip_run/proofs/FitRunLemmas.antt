@@ -21,7 +21,7 @@ use Rattle.chip_core.proofs.PositionLemmas.{counts_are}
 use Rattle.chip_net.specs.Tokens.{NetId, ActorKnown, no_actor}
 use Rattle.chip_net.specs.Roots.{RootKnown, root_after}
 use Rattle.chip_net.specs.Finish.{reads_from}
-use Rattle.chip_net.specs.Traces.{rows_of}
+use Rattle.chip_net.specs.Traces.{trace_rows_of}
 use Rattle.chip_net.specs.Meeting.{DidTheirs, IsRun}
 use Rattle.chip_net.proofs.ReadingLemmas.{reads_feed_none}
 use Rattle.chip_crew.specs.Plans.{is_fed_plan}
@@ -76,12 +76,12 @@ module _ (shared : Sharing) (g : ChipGame) (feeds : Left) (plan : Plan) (f : Fin
       let one = given_once t game ring log legal chips (fed_all ∙ feeds_are) (subst (AreGivenOnce g) feeds_are once) in
       let count = is.finished.actors.count ∙ ap (λ (s : Setting). s.game.graph.vertices) is.opened.setting in
       let all : all_rows actors ≡ traces_in t log =
-      fill_by_all (λ v. rows_of (done_by t v log)) (all_rows actors) g.graph.vertices []
-      (length-map actors (λ a. rows_of a.did) ∙ count) (λ v l.
+      fill_by_all (λ v. trace_rows_of (done_by t v log)) (all_rows actors) g.graph.vertices []
+      (length-map actors (λ a. trace_rows_of a.did) ∙ count) (λ v l.
       let inside : v < length actors = subst (λ (n : ℕ). v < n) (sym count) l in
       let here = slice_get-get_or actors v no_actor inside in
-      get_or-map (λ a. rows_of a.did) actors v no_actor [] inside ∙ ap rows_of (did v _ here)
-      ∙ ap (λ (u : ℕ). rows_of (done_by t u log)) (is.finished.actors.order v _ here).1) in
+      get_or-map (λ a. trace_rows_of a.did) actors v no_actor [] inside ∙ ap trace_rows_of (did v _ here)
+      ∙ ap (λ (u : ℕ). trace_rows_of (done_by t u log)) (is.finished.actors.order v _ here).1) in
       let same = one_more g (pairs feeds) (played_game t log) is.whole (rw fed_all at more)
       (has_more g feeds is.whole is.whole_is) in
       subst (λ (h : ChipGame). FitTogether h (all_rows actors) f.outcome) same (record {
@@ -141,7 +141,7 @@ all_kept : (actors : List ActorKnown) → is_any_cut actors ≡ false → map ro
 all_kept [] uncut = refl
 all_kept (a ∷ rest) uncut =
     let parts = or_parts (is_cut a) (is_any_cut rest) uncut in
-    let all = take_all a.room (rows_of a.did) (ltb-false a.room (length (rows_of a.did)) parts.0) in
+    let all = take_all a.room (trace_rows_of a.did) (ltb-false a.room (length (trace_rows_of a.did)) parts.0) in
     rw (all, all_kept rest parts.1) refl
 
 pub uncut_traces_fit : UncutTracesFit

@@ -23,7 +23,7 @@ use Rattle.chip_crew.specs.declared.fault.CrewFault.{CrewFault}
 use Rattle.chip_crew.specs.declared.fault.CrewFault.TheVariants as crew
 use Rattle.chip_run.specs.Feeding.{ForText, MeansFed, MeansFedGame, feeds_of}
 use Rattle.chip_run.specs.Recording.{rows_kept, RecordsIfAsked, FailsToRecord}
-use Rattle.chip_run.specs.RunCommand.{RunAnswers, RunAnswersFor, Outputs, KeepsBoth, IsNotPlayed, Plays, WritesReport}
+use Rattle.chip_run.specs.RunCommand.{RunAnswers, RunAnswersFor, Outputs, KeepsBoth, IsNotPlayed, PlaysByCrew, WritesReport}
 use Rattle.chip_run.specs.RunCommand.{RunReads, RunReports, ReportsFed}
 use Rattle.chip_run.specs.RunCommand.{fault_of_crew, ReportsSome, ReportsSomeRun}
 use Rattle.chip_graph.specs.Multigraph.{Multigraph, IsGraph}
@@ -80,7 +80,7 @@ means_fed limits graph_text chips_text feed_text limit g feeds vertices same gam
 -- the report of a crew that finished the game went out behind its trace, or its output failed
 pub delivered_run : (shared : Sharing) (g : ChipGame) (feeds : Left) (plan : Plan) (old new : Option (List ℕ))
     (old_trace new_trace : Option (Option (List ℕ))) (actors : List ActorKnown) (text : List ℕ) (status : ℕ)
-    (cut : Bool) → Plays shared g feeds plan actors text status → RecordsIfAsked actors old_trace new_trace cut
+    (cut : Bool) → PlaysByCrew shared g feeds plan actors text status → RecordsIfAsked actors old_trace new_trace cut
     → (result : Result Ended Fault) → Delivers old new text (record { status = status; cut = cut }) result
     → RunAnswersFor shared g feeds plan (record { report = old; trace = old_trace })
     (record { report = new; trace = new_trace }) result
@@ -144,7 +144,7 @@ whole_fits g fits (Some feeds) within whole is =
 
 -- what a crew plays is the report of some game
 pub plays_some : (shared : Sharing) (g : ChipGame) (feeds : Left) (plan : Plan) (actors : List ActorKnown)
-    (text : List ℕ) (status : ℕ) → Plays shared g feeds plan actors text status → ReportsSome text status
+    (text : List ℕ) (status : ℕ) → PlaysByCrew shared g feeds plan actors text status → ReportsSome text status
 plays_some shared g feeds plan actors text status plays = let whole = plays.reports in
     (whole.0, whole.2, whole.3)
 

@@ -6,7 +6,7 @@ use Rattle.std.specs.Option.{ForSome}
 use Rattle.chip_graph.specs.Limits.{SizeLimits}
 use Rattle.chip_graph.specs.ChipGame.{ChipGame}
 use Rattle.chip_file.specs.ChipsText.{chips_of_text, chips_text_fault}
-use Rattle.chip_command.specs.Inputs.{Reads, MeansGame, RefusesInputs, RefusesText}
+use Rattle.chip_command.specs.Inputs.{ReadsWithin, MeansGame, RefusesInputs, RefusesText}
 use Rattle.chip_command.specs.declared.fault.Fault.{Fault}
 
 -- whether a vertex, with how many chips it has, has any
@@ -20,7 +20,7 @@ feeds_of chips = filter has_chips (enumerate_from 0 chips)
 -- a text has these feeds for `vertices` vertices
 abbrev pub MeansFeeds : SizeLimits → List ℕ → ℕ → List (ℕ × ℕ) → Type 0
 MeansFeeds limits text vertices feeds =
-    (chips : List ℕ) × Reads limits text (chips_of_text vertices text ≡ Some chips) × (feeds ≡ feeds_of chips)
+    (chips : List ℕ) × ReadsWithin limits text (chips_of_text vertices text ≡ Some chips) × (feeds ≡ feeds_of chips)
 
 -- why it has none
 abbrev pub RefusesFeeds : SizeLimits → List ℕ → ℕ → Fault → Type 0

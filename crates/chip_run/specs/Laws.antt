@@ -6,7 +6,7 @@ use Rattle.chip_graph.specs.More.{HasMore}
 use Rattle.chip_core.specs.Core.{fired_by}
 use Rattle.chip_core.specs.Positions.{played_game}
 use Rattle.chip_core.specs.Laws.{ForEveryLog}
-use Rattle.chip_trace.specs.Interleaving.{IsInterleaving, firings}
+use Rattle.chip_trace.specs.Interleaving.{IsInterleaving, row_firings}
 use Rattle.chip_command.specs.Inputs.{MeansGame}
 use Rattle.chip_command.specs.OneReport.{PlainWrote}
 use Rattle.chip_command.specs.Sitting.{TellsPlayFrom}
@@ -61,7 +61,7 @@ RunTellsPlay =
 abbrev pub LogsFit : Type 0
 LogsFit = ForEveryLog (λ g log. HasOneEach g log
     → IsInterleaving (played_game g log) (traces_in g log) (rows_in g log)
-    × ((v : ℕ) → times_of v (firings (rows_in g log)) ≡ fired_by g log v))
+    × ((v : ℕ) → times_of v (row_firings (rows_in g log)) ≡ fired_by g log v))
 
 -- so it is with each legal log of a game that is not fed
 abbrev pub UnfedLogsFit : Type 0

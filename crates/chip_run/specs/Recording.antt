@@ -4,7 +4,7 @@ use Rattle.std.specs.List.{list_any}
 use Rattle.std.specs.Io.KnownBytes.{Appends}
 use Rattle.chip_link.specs.declared.trace.TraceRow.{TraceRow}
 use Rattle.chip_net.specs.Tokens.{ActorKnown}
-use Rattle.chip_net.specs.Traces.{rows_of}
+use Rattle.chip_net.specs.Traces.{trace_rows_of}
 use Rattle.chip_trace.specs.TraceText.{trace_text, WritesText}
 use Rattle.chip_trace.specs.declared.fault.TraceFault.TheVariants as trace
 use Rattle.chip_command.specs.declared.fault.Fault.{Fault}
@@ -12,11 +12,11 @@ use Rattle.chip_command.specs.declared.fault.Fault.TheVariants as fault
 
 -- the takes and firings of an actor for which it had room
 abbrev pub rows_kept : ActorKnown → List TraceRow
-rows_kept a = take a.room (rows_of a.did)
+rows_kept a = take a.room (trace_rows_of a.did)
 
 -- whether there was one for which it had no room
 abbrev pub is_cut : ActorKnown → Bool
-is_cut a = nat_lt a.room (length (rows_of a.did))
+is_cut a = nat_lt a.room (length (trace_rows_of a.did))
 
 -- whether that is so of one of these actors
 abbrev pub is_any_cut : List ActorKnown → Bool

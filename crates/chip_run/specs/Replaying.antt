@@ -12,8 +12,8 @@ use Rattle.chip_part.specs.Setting.{Setting}
 use Rattle.chip_core.specs.Core.{Log, part_of, out_in, root_edge}
 use Rattle.chip_core.specs.Histories.{done_by}
 use Rattle.chip_net.specs.Tokens.{ActorKnown}
-use Rattle.chip_net.specs.Traces.{row_of, rows_of}
-use Rattle.chip_trace.specs.Interleaving.{Placed, IsInterleaving, firings}
+use Rattle.chip_net.specs.Traces.{row_of, trace_rows_of}
+use Rattle.chip_trace.specs.Interleaving.{Placed, IsInterleaving, row_firings}
 use Rattle.chip_trace.specs.TraceText.{trace_text}
 use Rattle.chip_run.specs.Recording.{RecordsIfAsked}
 use Rattle.chip_run.specs.RunCommand.{Outputs}
@@ -29,7 +29,7 @@ rows_in g (x ∷ log) = rows_in g log ++ map (row_at_vertex (part_of g x.event))
 
 -- what each vertex recorded in a log
 abbrev pub traces_in : Setting → Log → List (List TraceRow)
-traces_in g log = map (λ v. rows_of (done_by g v log)) (range_with_len 0 g.game.graph.vertices)
+traces_in g log = map (λ v. trace_rows_of (done_by g v log)) (range_with_len 0 g.game.graph.vertices)
 
 -- on each root edge one message was sent at most: no vertex was given chips more than once
 abbrev pub HasOneEach : Setting → Log → Type 0
@@ -41,7 +41,7 @@ AreGivenOnce g feeds = (v : ℕ) → v < g.graph.vertices → (slice_index g.sta
 
 -- all rows of these actors, also those for which they had no room
 abbrev pub all_rows : List ActorKnown → List (List TraceRow)
-all_rows actors = map (λ a. rows_of a.did) actors
+all_rows actors = map (λ a. trace_rows_of a.did) actors
 
 -- how often v fires in these firings
 abbrev pub times_of : ℕ → List (ℕ × ℕ) → ℕ
@@ -51,7 +51,7 @@ times_of v fired = sum_by (λ firing. if firing.0 == v then firing.1 else 0) fir
 pub record FitTogether (g : ChipGame) (traces : List (List TraceRow)) (o : Outcome) : Type 0 where
   pub rows : List Placed
   pub interleaving : IsInterleaving g traces rows
-  pub fired : (v : ℕ) → times_of v (firings rows) ≡ slice_index o.fired.items v
+  pub fired : (v : ℕ) → times_of v (row_firings rows) ≡ slice_index o.fired.items v
 
 -- a report went out, and a trace if one is asked for: all rows of the actors, cut or not, fit together, with the
 -- counts of the report

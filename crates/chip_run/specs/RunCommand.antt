@@ -54,7 +54,7 @@ ReportsFed g feeds text status =
     (whole : ChipGame) × IsWhole g feeds whole × IsGame whole × Reports whole text status
 
 -- a crew finished the game with these actors, and text and status are its report and its status
-pub record Plays (shared : Sharing) (g : ChipGame) (feeds : Left) (plan : Plan)
+pub record PlaysByCrew (shared : Sharing) (g : ChipGame) (feeds : Left) (plan : Plan)
     (actors : List ActorKnown) (text : List ℕ) (status : ℕ) : Type 0 where
   pub crew : Finished
   pub finished : IsFinished shared g feeds plan crew
@@ -76,13 +76,13 @@ pub record KeepsBoth (old new : Outputs) : Type 0 where
 -- of the report; or the trace did, and the output of the report failed
 abbrev pub RunAnswersFor : Sharing → ChipGame → Left → Plan → Outputs → Outputs → Result Ended Fault → Type 0
 RunAnswersFor shared g feeds plan old new (Ok ended) =
-    (actors : List ActorKnown) × (text : List ℕ) × Plays shared g feeds plan actors text ended.status
+    (actors : List ActorKnown) × (text : List ℕ) × PlaysByCrew shared g feeds plan actors text ended.status
     × RecordsIfAsked actors old.trace new.trace ended.cut × Appends old.report new.report text
 RunAnswersFor shared g feeds plan old new (Err f) =
     (IsNotPlayed shared g feeds plan f × KeepsBoth old new)
-    ⊎ ((actors : List ActorKnown) × (text : List ℕ) × (status : ℕ) × Plays shared g feeds plan actors text status
+    ⊎ ((actors : List ActorKnown) × (text : List ℕ) × (status : ℕ) × PlaysByCrew shared g feeds plan actors text status
     × FailsToRecord actors old.trace new.trace f × Keeps old.report new.report)
-    ⊎ ((actors : List ActorKnown) × (text : List ℕ) × (status : ℕ) × Plays shared g feeds plan actors text status
+    ⊎ ((actors : List ActorKnown) × (text : List ℕ) × (status : ℕ) × PlaysByCrew shared g feeds plan actors text status
     × (cut : Bool) × RecordsIfAsked actors old.trace new.trace cut
     × (w : WriteFault) × (f ≡ fault.Write w) × WritesAll old.report new.report text (Err w))
 

@@ -3,11 +3,11 @@
 ghost use Rattle.std.specs.Prelude.{◌≡◌, ℕ, false, None, option_map, IfOk, IfErr};
 ghost use Rattle.chip_graph.specs.Limits.{standard};
 ghost use Rattle.chip_graph.specs.ChipGame.{IsGame};
-ghost use Rattle.chip_command.specs.FaultNumbers.{number_of};
+ghost use Rattle.chip_command.specs.FaultNumbers.{command_fault_number};
 ghost use Rattle.chip_command.specs.Statuses.{number_of_status};
 ghost use Rattle.chip_crew.specs.FaultNumbers.{crew_fault_number};
 ghost use Rattle.chip_crew.specs.declared.plan.Sharing.TheVariants.{Queue};
-ghost use Rattle.chip_run.specs.RunCommand.{RunReads, RunReports, ReportsSomeRun, Plays, IsNotPlayed, plan_of};
+ghost use Rattle.chip_run.specs.RunCommand.{RunReads, RunReports, ReportsSomeRun, PlaysByCrew, IsNotPlayed, plan_of};
 
 use crate::feeding::read_fed;
 use crate::recording::record_if_asked;
@@ -155,7 +155,7 @@ fn play<R: Threads + Wait + Sync, K: Gate + Sync>(
     requires seal { options.plan.seal ≡ None }
     requires gate { (worker turn : ℕ) → K.may_answer gate.now worker turn false → ⊥ }
     requires game { IsGame game }
-    ensures played { IfOk result (λ p. Plays options.sharing game (option_map (λ fed. fed.items) feeds) options.plan
+    ensures played { IfOk result (λ p. PlaysByCrew options.sharing game (option_map (λ fed. fed.items) feeds) options.plan
         p.1.items p.0.text.items (number_of_status p.0.status)) }
     ensures fault { IfErr result
         (IsNotPlayed options.sharing game (option_map (λ fed. fed.items) feeds) options.plan) }
@@ -173,7 +173,7 @@ fn play<R: Threads + Wait + Sync, K: Gate + Sync>(
 /// A crew's fault, without the root. Its number is the same.
 fn fault_of_crew(fault: CrewFault) -> Fault
     ensures fault { result ≡ Rattle.chip_run.specs.RunCommand.fault_of_crew fault }
-    ensures number { number_of result ≡ crew_fault_number fault }
+    ensures number { command_fault_number result ≡ crew_fault_number fault }
 {
     match fault {
         CrewFault::Plan => Fault::Plan,

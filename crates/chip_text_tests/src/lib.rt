@@ -1,6 +1,9 @@
-//! Texts read and written, with values from outside: what no contract says of `chip_file`, `chip_report` and `chip_trace`.
+//! Texts read and written, with values from outside: what no contract says of `chip_file`, `chip_report` and `chip_trace`,
+//! and of `chip_log`, which judges the logs that are read.
 #![tactic(auto)]
 
+#[cfg(test)]
+mod claims;
 #[cfg(test)]
 mod file;
 #[cfg(test)]

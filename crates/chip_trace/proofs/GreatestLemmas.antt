@@ -2,19 +2,19 @@
 -- Where no next row is met, each vertex has used as many rows as any partial interleaving lets it use.
 use Rattle.chip_trace.proofs.Names.{◌≡◌, ℕ, ◌<◌, ◌≤◌, true, false, List, [], ◌∷◌, ◌++◌, length, refl, sym, ap, ◌∙◌}
 use Rattle.chip_trace.proofs.Names.{arith, append_assoc, append-nil, length-append, Some, nat_tests, cond_yes, dite}
-use Rattle.chip_trace.proofs.Names.{ℕ_discrete, TraceRow, ChipGame, is_met, Placed, rows_of, AreMet, trace_of}
+use Rattle.chip_trace.proofs.Names.{ℕ_discrete, TraceRow, ChipGame, is_row_enabled, Placed, rows_of, AreRowsEnabled, trace_of}
 use Rattle.chip_trace.proofs.Names.{IsPartial, IsInterleaving, next_row, IsGreatestProgress}
 use Rattle.chip_trace.proofs.PrefixLemmas.{same_beginning, longer_beginning, slice_get_seam}
 use Rattle.chip_trace.proofs.RowLemmas.{rows_of-append, met_stays}
 
 module _ (g : ChipGame) (traces : List (List TraceRow)) (xs : List Placed) (partial : IsPartial g traces xs)
-    (settled : (v : ℕ) (row : TraceRow) → next_row traces xs v ≡ Some row → is_met g (rows_of xs) v row ≡ false) where
+    (settled : (v : ℕ) (row : TraceRow) → next_row traces xs v ≡ Some row → is_row_enabled g (rows_of xs) v row ≡ false) where
   -- behind a beginning that goes no further anywhere, the next row goes no further either
   one_more : (ys before rest : List Placed) (v : ℕ) (row : TraceRow)
       → before ++ record { vertex = v; row = row } ∷ rest ≡ ys →
       ((u : ℕ) → (left : List TraceRow) × (rows_of ys u ++ left ≡ trace_of traces u)) →
       ((u : ℕ) → length (rows_of before u) ≤ length (rows_of xs u)) →
-      is_met g (rows_of before) v row ≡ true → length (rows_of before v) < length (rows_of xs v)
+      is_row_enabled g (rows_of before) v row ≡ true → length (rows_of before v) < length (rows_of xs v)
   one_more ys before rest v row is in_order within met = dite
       (ℕ_discrete (length (rows_of before v)) (length (rows_of xs v))) (λ same. absurd (impossible same))
       (λ other. let l = within v in omega arith)
@@ -56,7 +56,7 @@ module _ (g : ChipGame) (traces : List (List TraceRow)) (xs : List Placed) (part
   -- no list goes further from a beginning that goes no further
   no_further : (ys before rest : List Placed) → before ++ rest ≡ ys →
       ((u : ℕ) → (left : List TraceRow) × (rows_of ys u ++ left ≡ trace_of traces u)) →
-      AreMet g before rest →
+      AreRowsEnabled g before rest →
       ((u : ℕ) → length (rows_of before u) ≤ length (rows_of xs u)) → (u : ℕ)
       → length (rows_of ys u) ≤ length (rows_of xs u)
   no_further ys before [] is in_order met within u = rw (← is, append-nil before) (within u)

@@ -6,7 +6,7 @@ use Rattle.chip_trace.proofs.Names.{length-append, dite, ℕ_discrete, get_or-se
 use Rattle.chip_trace.proofs.Names.{length-replicate, slice_get_within, length-set, and_parts, nat_tests, TraceRow}
 use Rattle.chip_trace.proofs.Names.{Take, Fire, sum_below, Multigraph, ChipGame, sum_below_move, takes_of, goes_into}
 use Rattle.chip_trace.proofs.Names.{Placed, rows_of, trace_of, with_firing, RunnerState, at_start, runner_of}
-use Rattle.chip_trace.proofs.Names.{ReplayProgress, runner_at, rows_used, IsReached, IsKept, MayUse, UsesRow, rows_left}
+use Rattle.chip_trace.proofs.Names.{ReplayProgress, runner_at, rows_used, IsReplayReached, IsReplayKept, MayUse, UsesRow, rows_left}
 use Rattle.chip_trace.proofs.PrefixLemmas.{take_slice_get}
 use Rattle.chip_trace.proofs.RowLemmas.{fires-append, chips_taken-append, takes_of-append, rows_of-append}
 use Rattle.chip_trace.proofs.RowLemmas.{firings-append, met_stays, AreMet-push}
@@ -31,7 +31,7 @@ moves v (Fire k) p q uses = uses.0
 
 -- v uses its next row, which is met
 module _ (g : ChipGame) (traces : List (List TraceRow)) (p q : ReplayProgress) (v : ℕ) (row : TraceRow)
-    (kept : IsKept g traces p) (is_vertex : v < g.graph.vertices) (may : MayUse g traces p v row)
+    (kept : IsReplayKept g traces p) (is_vertex : v < g.graph.vertices) (may : MayUse g traces p v row)
     (uses : UsesRow v row p q) where
   abbrev x : Placed
   x = record { vertex = v; row = row }
@@ -64,7 +64,7 @@ module _ (g : ChipGame) (traces : List (List TraceRow)) (p q : ReplayProgress) (
   kept_more : (after row (runner_at p v)).chips ≤ (after row (runner_at p v)).used * 2 ^ 64
       → length q.taken.items ≡ length p.taken.items →
       ((u e : ℕ) → goes_into g.graph u e ≡ true → get_or q.taken.items e 0 ≡ takes_of e (rows_used traces q u)) →
-      q.firings.items ≡ p.firings.items ++ with_firing v row [] → IsKept g traces q
+      q.firings.items ≡ p.firings.items ++ with_firing v row [] → IsReplayKept g traces q
   kept_more few each taken fired = record {
     runner_each = ap length (moves v row p q uses) ∙ length-set p.runners.items v _ ∙ kept.runner_each;
     taken_each = each ∙ kept.taken_each;
@@ -89,7 +89,7 @@ module _ (g : ChipGame) (traces : List (List TraceRow)) (p q : ReplayProgress) (
       xs : List Placed
       xs = kept.reached.0
 
-      was : IsReached g traces p xs
+      was : IsReplayReached g traces p xs
       was = kept.reached.1
 
   -- one row fewer is left
@@ -110,7 +110,7 @@ module _ (g : ChipGame) (traces : List (List TraceRow)) (p q : ReplayProgress) (
 
 -- a row that may be used is kept well
 pub kept_after : (g : ChipGame) (traces : List (List TraceRow)) (p q : ReplayProgress) (v : ℕ) (row : TraceRow)
-    → IsKept g traces p → v < g.graph.vertices → MayUse g traces p v row → UsesRow v row p q → IsKept g traces q
+    → IsReplayKept g traces p → v < g.graph.vertices → MayUse g traces p v row → UsesRow v row p q → IsReplayKept g traces q
 kept_after g traces p q v (Take edge count) kept is_vertex may uses =
     kept_more g traces p q v (Take edge count) kept is_vertex may uses
     (let few = kept.few_chips v in let fits = may.fits.3 in omega arith)
@@ -139,7 +139,7 @@ kept_after g traces p q v (Fire k) kept is_vertex may uses =
 -- before the first row
 pub kept_start : (g : ChipGame) (traces : List (List TraceRow)) (p : ReplayProgress)
     → p.runners.items ≡ replicate g.graph.vertices at_start →
-    p.taken.items ≡ replicate (length g.graph.edges + g.graph.vertices) 0 → p.firings.items ≡ [] → IsKept g traces p
+    p.taken.items ≡ replicate (length g.graph.edges + g.graph.vertices) 0 → p.firings.items ≡ [] → IsReplayKept g traces p
 kept_start g traces p start none fired =
     record {
       runner_each = ap length start ∙ length-replicate g.graph.vertices at_start;

@@ -4,7 +4,7 @@ use Rattle.chip_trace.proofs.Names.{◌≡◌, ℕ, ◌+◌, ◌-◌, ◌*◌, �
 use Rattle.chip_trace.proofs.Names.{map, sym, ap, ◌∙◌, arith, eq-eqb, slice_get, slice_index, Option, Some, nat_lt}
 use Rattle.chip_trace.proofs.Names.{and_from, nat_tests, TraceRow, Take, Fire, Multigraph, edge_at, ChipGame, fires}
 use Rattle.chip_trace.proofs.Names.{takes_of, opening, messages, goes_into, next_message, has_count, RunnerState}
-use Rattle.chip_trace.proofs.Names.{ReplayProgress, runner_at, rows_used, row_after, IsKept, MayUse}
+use Rattle.chip_trace.proofs.Names.{ReplayProgress, runner_at, rows_used, row_after, IsReplayKept, MayUse}
 
 -- an edge into a vertex is an edge
 pub into_is_edge : (G : Multigraph) (v e : ℕ) → v < G.vertices → goes_into G v e ≡ true
@@ -17,7 +17,7 @@ takes_of-le e [] = omega arith
 takes_of-le e (Take edge count ∷ rows) = let a = takes_of-le e rows in grind (arith, nat_tests)
 takes_of-le e (Fire k ∷ rows) = let a = takes_of-le e rows in omega arith
 
-module _ (g : ChipGame) (traces : List (List TraceRow)) (p : ReplayProgress) (v : ℕ) (kept : IsKept g traces p) where
+module _ (g : ChipGame) (traces : List (List TraceRow)) (p : ReplayProgress) (v : ℕ) (kept : IsReplayKept g traces p) where
   -- the messages by what is kept of the tails
   pub kept_messages : (e : ℕ)
       → messages g (λ u. (runner_at p u).fires) e ≡ messages g (λ u. fires (rows_used traces p u)) e

@@ -18,26 +18,26 @@ pub use mathlib.Core.Logic.{dite}
 pub use native.Mathlib.Decide.{ℕ_discrete, dec_lt}
 pub use Rattle.chip_graph.proofs.SumLemmas.{cond_yes, sum_below_move, by_test}
 pub use Rattle.chip_graph.specs.ChipGame.{ChipGame}
-pub use Rattle.chip_graph.specs.Edges.{head_of, all_edges}
+pub use Rattle.chip_graph.specs.Edges.{edge_head, edges_and_roots}
 pub use Rattle.chip_graph.specs.Limits.{max_limit}
 pub use Rattle.chip_graph.specs.Multigraph.{Multigraph, edge_at, degree}
 pub use Rattle.chip_graph.specs.Sums.{sum_below, filter_below}
 pub use Rattle.chip_link.specs.declared.trace.TraceRow.{TraceRow}
 pub use Rattle.chip_link.specs.declared.trace.TraceRow.TheVariants.{Take, Fire}
 pub use Rattle.chip_report.specs.Sink.{bytes_out}
-pub use Rattle.chip_trace.specs.Agenda.{AgendaState}
-pub use Rattle.chip_trace.specs.Interleaving.{is_met, Placed, rows_of, AreMet, trace_of, IsPartial, IsInterleaving}
+pub use Rattle.chip_trace.specs.Agenda.{ReplayAgenda}
+pub use Rattle.chip_trace.specs.Interleaving.{is_row_enabled, Placed, rows_of, AreRowsEnabled, trace_of, IsPartial, IsInterleaving}
 pub use Rattle.chip_trace.specs.Interleaving.{takes_of, goes_into, with_firing, fires, opening, messages, next_message}
-pub use Rattle.chip_trace.specs.Interleaving.{has_count, chips_taken, firings}
-pub use Rattle.chip_trace.specs.Kept.{runner_at, rows_used, IsReached, IsKept, MayUse, UsesRow, rows_left, row_after}
+pub use Rattle.chip_trace.specs.Interleaving.{has_count, chips_taken, row_firings}
+pub use Rattle.chip_trace.specs.Kept.{runner_at, rows_used, IsReplayReached, IsReplayKept, MayUse, UsesRow, rows_left, row_after}
 pub use Rattle.chip_trace.specs.Kept.{kept_fires, kept_chips, kept_taken, kept_edges, kept_vertices, kept_left}
-pub use Rattle.chip_trace.specs.Kept.{work_left, GoesOn, IsSettled, IsWrongAt, IsUnusedAt, NoneBelow, IsToBlame, Finds}
+pub use Rattle.chip_trace.specs.Kept.{work_left, ReplayGoesOn, IsReplayBlocked, IsWrongAt, IsUnusedAt, NoneBelow, IsToBlame, Finds}
 pub use Rattle.chip_trace.specs.Left.{messages_left, chips_held, legal_left, left_of, left_after}
 pub use Rattle.chip_trace.specs.Progress.{next_row, IsGreatestProgress, is_wrong, HasWrongRow, HasUnusedRow, IsLeast}
 pub use Rattle.chip_trace.specs.Progress.{IsBlamed, IsStuck}
 pub use Rattle.chip_trace.specs.Replay.{IsReplayed}
 pub use Rattle.chip_trace.specs.Runner.{RunnerState, at_start, runner_of}
-pub use Rattle.chip_trace.specs.TraceText.{row_text, rows_text, lines_from, header, WritesText}
+pub use Rattle.chip_trace.specs.TraceText.{trace_row_text, trace_rows_text, lines_from, header, WritesText}
 pub use Rattle.chip_trace.specs.declared.look.Finding.{Finding}
 pub use Rattle.chip_trace.specs.declared.progress.ReplayProgress.{ReplayProgress}
 pub use Rattle.chip_trace.specs.declared.remaining.Left.{Left}

@@ -2,24 +2,24 @@
 -- What is left, by what is kept: it is what the used rows leave, and it grows edge by edge and vertex by vertex.
 use Rattle.chip_trace.proofs.Names.{◌≡◌, ℕ, ◌+◌, ◌<◌, ◌≤◌, ◌==◌, nat_le, not, ◌&&◌, Bool, true, false, List, [], ◌∷◌}
 use Rattle.chip_trace.proofs.Names.{◌++◌, map, sym, ap, ◌∙◌, arith, add-one, append-nil, nat_tests, lt-ltb, le-ltb}
-use Rattle.chip_trace.proofs.Names.{map-append, TraceRow, filter_below, Multigraph, degree, head_of, ChipGame, Messages}
+use Rattle.chip_trace.proofs.Names.{map-append, TraceRow, filter_below, Multigraph, degree, edge_head, ChipGame, Messages}
 use Rattle.chip_trace.proofs.Names.{fires, chips_taken, takes_of, goes_into, messages_left, chips_held, legal_left}
-use Rattle.chip_trace.proofs.Names.{left_of, left_after, RunnerState, ReplayProgress, rows_used, IsKept, kept_fires}
+use Rattle.chip_trace.proofs.Names.{left_of, left_after, RunnerState, ReplayProgress, rows_used, IsReplayKept, kept_fires}
 use Rattle.chip_trace.proofs.Names.{kept_chips, kept_taken, kept_edges, kept_vertices, kept_left}
 
 -- an edge goes into its head
-into_head : (G : Multigraph) (e : ℕ) → goes_into G (head_of G e) e ≡ true
+into_head : (G : Multigraph) (e : ℕ) → goes_into G (edge_head G e) e ≡ true
 into_head G e = grind (arith, nat_tests)
 
-module _ (g : ChipGame) (traces : List (List TraceRow)) (p : ReplayProgress) (kept : IsKept g traces p) where
+module _ (g : ChipGame) (traces : List (List TraceRow)) (p : ReplayProgress) (kept : IsReplayKept g traces p) where
   same_fires : ◌≡◌ {A = ℕ → List ℕ} (kept_fires p) (λ v. fires (rows_used traces p v))
   same_fires = λ i v. ap (λ (r : RunnerState). r.fires) (kept.runners v) i
 
   same_chips : ◌≡◌ {A = ℕ → ℕ} (kept_chips p) (λ v. chips_taken (rows_used traces p v))
   same_chips = λ i v. ap (λ (r : RunnerState). r.chips) (kept.runners v) i
 
-  same_taken : ◌≡◌ {A = ℕ → ℕ} (kept_taken p) (λ e. takes_of e (rows_used traces p (head_of g.graph e)))
-  same_taken = λ i e. kept.taken (head_of g.graph e) e (into_head g.graph e) i
+  same_taken : ◌≡◌ {A = ℕ → ℕ} (kept_taken p) (λ e. takes_of e (rows_used traces p (edge_head g.graph e)))
+  same_taken = λ i e. kept.taken (edge_head g.graph e) e (into_head g.graph e) i
 
   pub left_is : kept_left g p ≡ left_after g (rows_used traces p)
   left_is = λ i. left_of g (same_fires i) (same_chips i) (same_taken i)

@@ -3,8 +3,8 @@
 use Rattle.chip_trace.proofs.Names.{and_parts, and_from, nat_tests, ◌≡◌, ℕ, ◌+◌, ◌*◌, true, List, [], ◌∷◌, ◌++◌, length}
 use Rattle.chip_trace.proofs.Names.{map, refl, ap, ◌∙◌, arith, append_assoc, append-nil, eq-eqb, Option, Some, nat_lt}
 use Rattle.chip_trace.proofs.Names.{map-append, TraceRow, Take, Fire, edge_at, ChipGame, by_test, fires, chips_taken}
-use Rattle.chip_trace.proofs.Names.{takes_of, messages, goes_into, next_message, has_count, is_met, Placed, rows_of}
-use Rattle.chip_trace.proofs.Names.{AreMet, with_firing, firings}
+use Rattle.chip_trace.proofs.Names.{takes_of, messages, goes_into, next_message, has_count, is_row_enabled, Placed, rows_of}
+use Rattle.chip_trace.proofs.Names.{AreRowsEnabled, with_firing, row_firings}
 use Rattle.chip_trace.proofs.PrefixLemmas.{slice_get_keeps}
 
 -- ---- rows and more rows
@@ -29,7 +29,7 @@ rows_of-append [] ys v = refl
 rows_of-append (x ∷ xs) ys v = let more = rows_of-append xs ys v in grind (arith, nat_tests)
 
 pub firings-append : (xs : List Placed) (v : ℕ) (row : TraceRow)
-    → firings (xs ++ record { vertex = v; row = row } ∷ []) ≡ firings xs ++ with_firing v row []
+    → row_firings (xs ++ record { vertex = v; row = row } ∷ []) ≡ row_firings xs ++ with_firing v row []
 firings-append [] v row = refl
 firings-append (x ∷ xs) v row = let more = firings-append xs v row in grind arith
 
@@ -60,8 +60,8 @@ more_messages g used later e goes = by_test (nat_lt e (length g.graph.edges))
 
 -- v itself has used no more rows, and the others have used these rows and perhaps more
 pub met_stays : (g : ChipGame) (used later : ℕ → List TraceRow) (v : ℕ) (row : TraceRow) → used v ≡ later v
-    → ((u : ℕ) → (more : List TraceRow) × (used u ++ more ≡ later u)) → is_met g used v row ≡ true
-    → is_met g later v row ≡ true
+    → ((u : ℕ) → (more : List TraceRow) × (used u ++ more ≡ later u)) → is_row_enabled g used v row ≡ true
+    → is_row_enabled g later v row ≡ true
 met_stays g used later v (Fire k) same goes met = rw same at met
 met_stays g used later v (Take edge count) same goes met =
     let parts = and_parts (goes_into g.graph v edge) (has_count (next_message g used v edge) count) met in
@@ -73,8 +73,8 @@ met_stays g used later v (Take edge count) same goes met =
 
 -- ---- lists in which each row is met
 
-pub AreMet-push : (g : ChipGame) (before xs : List Placed) (x : Placed) → AreMet g before xs
-    → is_met g (rows_of (before ++ xs)) x.vertex x.row ≡ true → AreMet g before (xs ++ x ∷ [])
+pub AreMet-push : (g : ChipGame) (before xs : List Placed) (x : Placed) → AreRowsEnabled g before xs
+    → is_row_enabled g (rows_of (before ++ xs)) x.vertex x.row ≡ true → AreRowsEnabled g before (xs ++ x ∷ [])
 AreMet-push g before [] x all met = (rw (append-nil before) at met, tt)
 AreMet-push g before (y ∷ ys) x all met = (
   all.0,

@@ -2,20 +2,20 @@
 -- What follows once no next row is met: an interleaving and what it leaves, or a vertex to blame.
 use Rattle.chip_trace.proofs.Names.{◌≡◌, ℕ, ◌<◌, ◌≤◌, List, [], ◌++◌, length, drop, sym, ap, ◌∙◌, arith, inl, inr}
 use Rattle.chip_trace.proofs.Names.{subst, true, slice_get, Some, None, ◌⊎◌, dite, dec_lt, take_all, take-append-drop}
-use Rattle.chip_trace.proofs.Names.{get_or_past, slice_get_within, TraceRow, ChipGame, is_met, Placed, rows_of}
+use Rattle.chip_trace.proofs.Names.{get_or_past, slice_get_within, TraceRow, ChipGame, is_row_enabled, Placed, rows_of}
 use Rattle.chip_trace.proofs.Names.{trace_of, IsPartial, is_wrong, next_row, HasWrongRow, HasUnusedRow, IsLeast}
 use Rattle.chip_trace.proofs.Names.{IsBlamed, IsGreatestProgress, IsStuck, RunnerState, ReplayProgress, Replayed}
-use Rattle.chip_trace.proofs.Names.{left_after, IsReplayed, runner_at, rows_used, row_after, IsReached, IsKept}
-use Rattle.chip_trace.proofs.Names.{IsSettled, IsWrongAt, IsUnusedAt, NoneBelow, IsToBlame, kept_left}
+use Rattle.chip_trace.proofs.Names.{left_after, IsReplayed, runner_at, rows_used, row_after, IsReplayReached, IsReplayKept}
+use Rattle.chip_trace.proofs.Names.{IsReplayBlocked, IsWrongAt, IsUnusedAt, NoneBelow, IsToBlame, kept_left}
 use Rattle.chip_trace.proofs.GreatestLemmas.{settled_is_greatest, none_whole}
 use Rattle.chip_trace.proofs.RemainingLemmas.{left_is}
 
-module _ (g : ChipGame) (traces : List (List TraceRow)) (p : ReplayProgress) (kept : IsKept g traces p)
+module _ (g : ChipGame) (traces : List (List TraceRow)) (p : ReplayProgress) (kept : IsReplayKept g traces p)
     (each : length traces ≡ g.graph.vertices) where
   abbrev xs : List Placed
   xs = kept.reached.0
 
-  abbrev was : IsReached g traces p xs
+  abbrev was : IsReplayReached g traces p xs
   was = kept.reached.1
 
   same_rows : ◌≡◌ {A = ℕ → List TraceRow} (rows_of xs) (rows_used traces p)
@@ -69,13 +69,13 @@ module _ (g : ChipGame) (traces : List (List TraceRow)) (p : ReplayProgress) (ke
       left = left ∙ left_is g traces p kept ∙ (λ i. left_after g (λ v. all_used v i));
     }
 
-  module _ (settled : IsSettled g traces p) where
+  module _ (settled : IsReplayBlocked g traces p) where
     greatest : IsGreatestProgress g traces xs
     greatest =
         settled_is_greatest g traces xs partial
         (λ v row next.
         let here : row_after traces p v ≡ Some row = sym (same_next v) ∙ next in
-        ap (λ (used : ℕ → List TraceRow). is_met g used v row) same_rows
+        ap (λ (used : ℕ → List TraceRow). is_row_enabled g used v row) same_rows
         ∙ settled v (unused_is_vertex v (next_is_unused v row here)) row here)
 
     -- no row but the used ones can be used, and this vertex is to blame

@@ -1,11 +1,11 @@
 -- Serves Interleaving.antt, Kept.antt, Progress.antt.
 -- What a look at a row says of whether it is wrong.
 use Rattle.chip_trace.proofs.Names.{◌≡◌, ℕ, true, false, List, refl, ap, arith, not, TraceRow, Take, Fire, ChipGame}
-use Rattle.chip_trace.proofs.Names.{is_met, is_wrong, ReplayProgress, Finding, rows_used, Finds, IsWrongAt, nat_tests}
+use Rattle.chip_trace.proofs.Names.{is_row_enabled, is_wrong, ReplayProgress, Finding, rows_used, Finds, IsWrongAt, nat_tests}
 use Rattle.chip_trace.specs.declared.look.Finding.TheVariants as finding
 
 -- a row that is met is not wrong
-pub met_not_wrong : (g : ChipGame) (used : ℕ → List TraceRow) (v : ℕ) (row : TraceRow) → is_met g used v row ≡ true
+pub met_not_wrong : (g : ChipGame) (used : ℕ → List TraceRow) (v : ℕ) (row : TraceRow) → is_row_enabled g used v row ≡ true
     → is_wrong g used v row ≡ false
 met_not_wrong g used v (Fire k) met = ap not met
 met_not_wrong g used v (Take edge count) met = grind (arith, nat_tests)

@@ -1,7 +1,7 @@
 -- Serves Interleaving.antt, Progress.antt, Left.antt.
 -- Worked rows: the run of the triangle from four chips, whole, cut, and with a take of another count; and what is left.
 use Rattle.chip_trace.proofs.Names.{◌≡◌, true, false, List, [], ◌∷◌, refl, Take, Fire, ChipGame, max_limit, Placed}
-use Rattle.chip_trace.proofs.Names.{AreMet, firings, rows_of, is_met, is_wrong, left_after, Messages, CanFire, AtLimit}
+use Rattle.chip_trace.proofs.Names.{AreRowsEnabled, row_firings, rows_of, is_row_enabled, is_wrong, left_after, Messages, CanFire, AtLimit}
 
 -- the triangle with four chips on vertex 0; its root edges are 4, 5 and 6
 abbrev triangle : ChipGame
@@ -24,10 +24,10 @@ run =
     ∷ record { vertex = 0; row = Take 2 1 } ∷ record { vertex = 2; row = Take 1 2 }
     ∷ record { vertex = 2; row = Take 3 1 } ∷ []
 
-run_is_met : AreMet triangle [] run
+run_is_met : AreRowsEnabled triangle [] run
 run_is_met = (refl, (refl, (refl, (refl, (refl, (refl, (refl, tt)))))))
 
-run_fires : firings run ≡ (0, 2) ∷ (1, 1) ∷ []
+run_fires : row_firings run ≡ (0, 2) ∷ (1, 1) ∷ []
 run_fires = refl
 
 -- a take of one chip where the message has two is wrong
@@ -36,7 +36,7 @@ other_count_is_wrong : is_wrong triangle
 other_count_is_wrong = refl
 
 -- a take of a message that is not there yet is not met, and waits
-no_message_is_not_met : is_met triangle (rows_of []) 1 (Take 0 2) ≡ false
+no_message_is_not_met : is_row_enabled triangle (rows_of []) 1 (Take 0 2) ≡ false
 no_message_is_not_met = refl
 
 no_message_waits : is_wrong triangle (rows_of []) 1 (Take 0 2) ≡ false

@@ -3,13 +3,13 @@ use Rattle.std.specs.Prelude.{ℕ, ◌<◌, length, All}
 use Rattle.chip_trace.specs.declared.agenda.Agenda.TheInside.{Inside}
 
 -- what an `Agenda` shows: of how many vertices it is, and how many it has that are to be looked at
-pub record AgendaState : Type 0 where
+pub record ReplayAgenda : Type 0 where
   pub vertices : ℕ
   pub due : ℕ
 
 -- the fields, counted
-abbrev pub state_of : Inside → AgendaState
-state_of a = record { vertices = length a.waiting.items; due = length a.due.items }
+abbrev pub agenda_state : Inside → ReplayAgenda
+agenda_state a = record { vertices = length a.waiting.items; due = length a.due.items }
 
 -- all that it names are vertices
 pub record NamesVertices (a : Inside) : Type 0 where

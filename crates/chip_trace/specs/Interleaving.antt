@@ -1,4 +1,4 @@
--- Interleavings of recorded runs: all rows of all vertices in one list, each met where it stands.
+-- Interleavings of recorded runs: all rows of all vertices in one list, each enabled where it stands.
 use Rattle.std.specs.Prelude.{◌≡◌, ℕ, zero, suc, ◌+◌, ◌-◌, ◌*◌, ◌==◌, nat_lt, nat_le, Bool, true, false, ◌&&◌, not}
 use Rattle.std.specs.Prelude.{if◌then◌else◌, List, [], ◌∷◌, ◌++◌, length, map, sum, slice_get, slice_index}
 use Rattle.std.specs.Prelude.{slice_index_or, Option, Some, None}
@@ -27,7 +27,7 @@ takes_of e [] = 0
 takes_of e (Take edge count ∷ rows) = (if edge == e then 1 else 0) + takes_of e rows
 takes_of e (Fire k ∷ rows) = takes_of e rows
 
--- ---- when a row is met
+-- ---- when a row is enabled
 
 -- the message with which a root edge opens, if its vertex has chips at the start
 abbrev pub opening : ℕ → List ℕ
@@ -61,10 +61,10 @@ abbrev pub may_fire : ChipGame → ℕ → ℕ → ℕ → ℕ → Bool
 may_fire g v fired chips k = not (v == g.graph.sink) && nat_lt 0 k
     && (nat_le (fired + k) g.limit && nat_le ((fired + k) * degree g.graph v) chips)
 
--- whether a row of v is met, once each vertex has used these rows
-abbrev pub is_met : ChipGame → (ℕ → List TraceRow) → ℕ → TraceRow → Bool
-is_met g used v (Take edge count) = goes_into g.graph v edge && has_count (next_message g used v edge) count
-is_met g used v (Fire k) = may_fire g v (sum (fires (used v))) (chips_taken (used v)) k
+-- whether a row of v is enabled, once each vertex has used these rows
+abbrev pub is_row_enabled : ChipGame → (ℕ → List TraceRow) → ℕ → TraceRow → Bool
+is_row_enabled g used v (Take edge count) = goes_into g.graph v edge && has_count (next_message g used v edge) count
+is_row_enabled g used v (Fire k) = may_fire g v (sum (fires (used v))) (chips_taken (used v)) k
 
 -- ---- interleavings
 
@@ -78,24 +78,24 @@ abbrev pub rows_of : List Placed → ℕ → List TraceRow
 rows_of [] v = []
 rows_of (x ∷ xs) v = if x.vertex == v then x.row ∷ rows_of xs v else rows_of xs v
 
--- each row of a list is met where it stands, behind the rows before it
-abbrev pub AreMet : ChipGame → List Placed → List Placed → Type 0
-AreMet g before [] = Unit {0}
-AreMet g before (x ∷ xs) = (is_met g (rows_of before) x.vertex x.row ≡ true) × AreMet g (before ++ x ∷ []) xs
+-- each row of a list is enabled where it stands, after the rows before it
+abbrev pub AreRowsEnabled : ChipGame → List Placed → List Placed → Type 0
+AreRowsEnabled g before [] = Unit {0}
+AreRowsEnabled g before (x ∷ xs) = (is_row_enabled g (rows_of before) x.vertex x.row ≡ true) × AreRowsEnabled g (before ++ x ∷ []) xs
 
 -- the trace of v
 abbrev pub trace_of : List (List TraceRow) → ℕ → List TraceRow
 trace_of traces v = slice_index_or traces v []
 
--- some rows of the traces in one list: of each vertex the first ones, in their order, and each met where it stands
+-- some rows of the traces in one list: of each vertex the first ones, in their order, and each enabled where it stands
 pub record IsPartial (g : ChipGame) (traces : List (List TraceRow)) (xs : List Placed) : Type 0 where
   pub in_order : (v : ℕ) → (rest : List TraceRow) × (rows_of xs v ++ rest ≡ trace_of traces v)
-  pub met : AreMet g [] xs
+  pub met : AreRowsEnabled g [] xs
 
--- all rows of the traces in one list: those of each vertex in their order, and each met where it stands
+-- all rows of the traces in one list: those of each vertex in their order, and each enabled where it stands
 pub record IsInterleaving (g : ChipGame) (traces : List (List TraceRow)) (xs : List Placed) : Type 0 where
   pub whole : (v : ℕ) → rows_of xs v ≡ trace_of traces v
-  pub met : AreMet g [] xs
+  pub met : AreRowsEnabled g [] xs
 
 -- a row's firing with its vertex, if it is one, before later ones
 abbrev pub with_firing : ℕ → TraceRow → List (ℕ × ℕ) → List (ℕ × ℕ)
@@ -103,6 +103,6 @@ with_firing v (Take edge count) later = later
 with_firing v (Fire k) later = (v, k) ∷ later
 
 -- the firings in a list of rows, each with its vertex, in their order
-abbrev pub firings : List Placed → List (ℕ × ℕ)
-firings [] = []
-firings (x ∷ xs) = with_firing x.vertex x.row (firings xs)
+abbrev pub row_firings : List Placed → List (ℕ × ℕ)
+row_firings [] = []
+row_firings (x ∷ xs) = with_firing x.vertex x.row (row_firings xs)

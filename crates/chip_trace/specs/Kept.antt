@@ -10,8 +10,8 @@ use Rattle.chip_graph.specs.ChipGame.{ChipGame}
 use Rattle.chip_trace.specs.declared.progress.ReplayProgress.{ReplayProgress}
 use Rattle.chip_trace.specs.declared.look.Finding.{Finding}
 use Rattle.chip_trace.specs.declared.look.Finding.TheVariants as finding
-use Rattle.chip_trace.specs.Agenda.{AgendaState}
-use Rattle.chip_trace.specs.Interleaving.{takes_of, goes_into, is_met, Placed, rows_of, AreMet, trace_of, firings}
+use Rattle.chip_trace.specs.Agenda.{ReplayAgenda}
+use Rattle.chip_trace.specs.Interleaving.{takes_of, goes_into, is_row_enabled, Placed, rows_of, AreRowsEnabled, trace_of, row_firings}
 use Rattle.chip_trace.specs.Progress.{is_wrong, IsLeast}
 use Rattle.chip_trace.specs.Left.{messages_left, chips_held, legal_left, left_of}
 use Rattle.chip_trace.specs.declared.remaining.Left.{Left}
@@ -58,21 +58,21 @@ rows_used traces p v = take (runner_at p v).used (trace_of traces v)
 abbrev pub row_after : List (List TraceRow) → ReplayProgress → ℕ → Option TraceRow
 row_after traces p v = slice_get (trace_of traces v) (runner_at p v).used
 
--- the rows used so far stand in some list in which each is met, and the firings are those of that list
-pub record IsReached (g : ChipGame) (traces : List (List TraceRow)) (p : ReplayProgress)
+-- the rows used so far stand in some list in which each is enabled, and the firings are those of that list
+pub record IsReplayReached (g : ChipGame) (traces : List (List TraceRow)) (p : ReplayProgress)
     (xs : List Placed) : Type 0 where
-  pub met : AreMet g [] xs
+  pub met : AreRowsEnabled g [] xs
   pub rows : (v : ℕ) → rows_of xs v ≡ rows_used traces p v
-  pub fired : p.firings.items ≡ firings xs
+  pub fired : p.firings.items ≡ row_firings xs
 
--- what is kept for vertices and edges is what the used rows come to, and these were met one after another
-pub record IsKept (g : ChipGame) (traces : List (List TraceRow)) (p : ReplayProgress) : Type 0 where
+-- what is kept for vertices and edges is what the used rows come to, and these were enabled one after another
+pub record IsReplayKept (g : ChipGame) (traces : List (List TraceRow)) (p : ReplayProgress) : Type 0 where
   pub runner_each : length p.runners.items ≡ g.graph.vertices
   pub taken_each : length p.taken.items ≡ length g.graph.edges + g.graph.vertices
   pub runners : (v : ℕ) → runner_at p v ≡ runner_of (rows_used traces p v)
   pub few_chips : (v : ℕ) → (runner_at p v).chips ≤ (runner_at p v).used * 2 ^ 64
   pub taken : (v e : ℕ) → goes_into g.graph v e ≡ true → slice_index p.taken.items e ≡ takes_of e (rows_used traces p v)
-  pub reached : (xs : List Placed) × IsReached g traces p xs
+  pub reached : (xs : List Placed) × IsReplayReached g traces p xs
 
 -- v uses a row: what it took or fired is noted
 abbrev pub UsesRow : ℕ → TraceRow → ReplayProgress → ReplayProgress → Type 0
@@ -97,27 +97,27 @@ UsesRow v (Fire k) p q =
     × (q.firings.items ≡ p.firings.items ++ (v, k) ∷ [])
 
 -- the numbers that note a row fit their types
-abbrev pub FitsRow : ℕ → TraceRow → ReplayProgress → Type 0
-FitsRow v (Take edge count) p = (edge < length p.taken.items) × (slice_index p.taken.items edge + 1 < 2 ^ 64)
+abbrev pub FitsTypes : ℕ → TraceRow → ReplayProgress → Type 0
+FitsTypes v (Take edge count) p = (edge < length p.taken.items) × (slice_index p.taken.items edge + 1 < 2 ^ 64)
     × ((runner_at p v).chips + count < 2 ^ 128) × (count < 2 ^ 64)
-FitsRow v (Fire k) p = sum (runner_at p v).fires + k < 2 ^ 64
+FitsTypes v (Fire k) p = sum (runner_at p v).fires + k < 2 ^ 64
 
 -- how many rows are unused
 abbrev pub rows_left : List (List TraceRow) → ReplayProgress → ℕ
 rows_left traces p = sum_below (length p.runners.items) (λ v. length (trace_of traces v) - (runner_at p v).used)
 
--- the next row of v is met, and there is room to note that it is used
+-- the next row of v is enabled, and there is room to note that it is used
 pub record MayUse (g : ChipGame) (traces : List (List TraceRow)) (p : ReplayProgress) (v : ℕ)
     (row : TraceRow) : Type 0 where
   pub next : row_after traces p v ≡ Some row
-  pub met : is_met g (rows_used traces p) v row ≡ true
+  pub met : is_row_enabled g (rows_used traces p) v row ≡ true
   pub room : (runner_at p v).used + 1 < 2 ^ 64
-  pub fits : FitsRow v row p
+  pub fits : FitsTypes v row p
 
--- no next row is met
-abbrev pub IsSettled : ChipGame → List (List TraceRow) → ReplayProgress → Type 0
-IsSettled g traces p = (v : ℕ) → v < g.graph.vertices → (row : TraceRow) → row_after traces p v ≡ Some row
-    → is_met g (rows_used traces p) v row ≡ false
+-- no next row is enabled
+abbrev pub IsReplayBlocked : ChipGame → List (List TraceRow) → ReplayProgress → Type 0
+IsReplayBlocked g traces p = (v : ℕ) → v < g.graph.vertices → (row : TraceRow) → row_after traces p v ≡ Some row
+    → is_row_enabled g (rows_used traces p) v row ≡ false
 
 -- v has a next row, and it is wrong
 abbrev pub IsWrongAt : ChipGame → List (List TraceRow) → ReplayProgress → ℕ → Type 0
@@ -133,9 +133,9 @@ abbrev pub NoneBelow : ℕ → (ℕ → Type 0) → Type 0
 NoneBelow n P = (v : ℕ) → v < n → P v → ⊥
 
 -- what a search for the least vertex below n with a property answers
-abbrev pub IsFirst : ℕ → (ℕ → Type 0) → Option ℕ → Type 0
-IsFirst n P None = NoneBelow n P
-IsFirst n P (Some v) = (v < n) × IsLeast P v
+abbrev pub IsLeastFound : ℕ → (ℕ → Type 0) → Option ℕ → Type 0
+IsLeastFound n P None = NoneBelow n P
+IsLeastFound n P (Some v) = (v < n) × IsLeast P v
 
 -- the vertex to blame, if rows are left: the least one whose next row is wrong, else the least one with a next row
 abbrev pub IsToBlame : ChipGame → List (List TraceRow) → ReplayProgress → Option ℕ → Type 0
@@ -149,17 +149,17 @@ abbrev pub Finds : ChipGame → List (List TraceRow) → ReplayProgress → ℕ 
 Finds g traces p v finding.Done = row_after traces p v ≡ None
 Finds g traces p v (finding.Met row) = MayUse g traces p v row
 Finds g traces p v finding.Wrong = (row : TraceRow) × (row_after traces p v ≡ Some row)
-    × (is_met g (rows_used traces p) v row ≡ false) × (is_wrong g (rows_used traces p) v row ≡ true)
+    × (is_row_enabled g (rows_used traces p) v row ≡ false) × (is_wrong g (rows_used traces p) v row ≡ true)
 Finds g traces p v (finding.Waits edge) = (row : TraceRow) × (row_after traces p v ≡ Some row)
-    × (is_met g (rows_used traces p) v row ≡ false) × (is_wrong g (rows_used traces p) v row ≡ false)
+    × (is_row_enabled g (rows_used traces p) v row ≡ false) × (is_wrong g (rows_used traces p) v row ≡ false)
 
 -- how much is left to do: rows to use, and behind them vertices to look at
-abbrev pub work_left : List (List TraceRow) → ReplayProgress → AgendaState → ℕ
+abbrev pub work_left : List (List TraceRow) → ReplayProgress → ReplayAgenda → ℕ
 work_left traces p a = rows_left traces p * 2 ^ 64 + a.due
 
 -- a replay goes on from p and a to q and b: it keeps what it keeps, and has no more left to do
-pub record GoesOn (g : ChipGame) (traces : List (List TraceRow)) (p : ReplayProgress) (a : AgendaState)
-    (q : ReplayProgress) (b : AgendaState) : Type 0 where
-  pub kept : IsKept g traces q
+pub record ReplayGoesOn (g : ChipGame) (traces : List (List TraceRow)) (p : ReplayProgress) (a : ReplayAgenda)
+    (q : ReplayProgress) (b : ReplayAgenda) : Type 0 where
+  pub kept : IsReplayKept g traces q
   pub same : b.vertices ≡ a.vertices
   pub work : work_left traces q b ≤ work_left traces p a

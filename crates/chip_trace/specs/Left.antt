@@ -3,7 +3,7 @@ use Rattle.std.specs.Prelude.{ℕ, ◌-◌, ◌*◌, nat_lt, if◌then◌else◌
 use Rattle.chip_link.specs.declared.trace.TraceRow.{TraceRow}
 use Rattle.chip_graph.specs.Sums.{filter_below}
 use Rattle.chip_graph.specs.Multigraph.{degree}
-use Rattle.chip_graph.specs.Edges.{all_edges, head_of}
+use Rattle.chip_graph.specs.Edges.{edges_and_roots, edge_head}
 use Rattle.chip_graph.specs.ChipGame.{ChipGame}
 use Rattle.chip_sequence.specs.Firing.{legal_vertices}
 use Rattle.chip_trace.specs.Interleaving.{fires, chips_taken, takes_of, messages}
@@ -28,10 +28,10 @@ legal_left g fired v = if nat_lt (sum (fired v)) g.limit then CanFire v else AtL
 abbrev pub left_of : ChipGame → (ℕ → List ℕ) → (ℕ → ℕ) → (ℕ → ℕ) → List Left
 left_of g fired chips taken =
     map (λ e. Messages e (messages_left g fired taken e))
-    (filter_below (λ e. nat_lt 0 (messages_left g fired taken e)) (all_edges g.graph))
+    (filter_below (λ e. nat_lt 0 (messages_left g fired taken e)) (edges_and_roots g.graph))
     ++ map (legal_left g fired) (legal_vertices g.graph (chips_held g fired chips))
 
 -- what is left once each vertex has used these rows
 abbrev pub left_after : ChipGame → (ℕ → List TraceRow) → List Left
 left_after g used =
-    left_of g (λ v. fires (used v)) (λ v. chips_taken (used v)) (λ e. takes_of e (used (head_of g.graph e)))
+    left_of g (λ v. fires (used v)) (λ v. chips_taken (used v)) (λ e. takes_of e (used (edge_head g.graph e)))

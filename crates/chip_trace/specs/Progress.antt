@@ -4,7 +4,7 @@ use Rattle.std.specs.Prelude.{Some, None, ◌⊎◌}
 use Rattle.chip_link.specs.declared.trace.TraceRow.{TraceRow}
 use Rattle.chip_link.specs.declared.trace.TraceRow.TheVariants.{Take, Fire}
 use Rattle.chip_graph.specs.ChipGame.{ChipGame}
-use Rattle.chip_trace.specs.Interleaving.{goes_into, next_message, is_met, Placed, rows_of, trace_of, IsPartial}
+use Rattle.chip_trace.specs.Interleaving.{goes_into, next_message, is_row_enabled, Placed, rows_of, trace_of, IsPartial}
 use Rattle.chip_trace.specs.Interleaving.{IsInterleaving}
 
 -- a partial interleaving in which each vertex has used as many rows as in any other
@@ -21,12 +21,12 @@ abbrev pub has_other_count : Option ℕ → ℕ → Bool
 has_other_count None count = false
 has_other_count (Some message) count = not (message == count)
 
--- whether the next row of v is wrong: a firing that is not met, a take of an edge that does not go into v, or one whose
+-- whether the next row of v is wrong: a firing that is not enabled, a take of an edge that does not go into v, or one whose
 -- message has another count
 abbrev pub is_wrong : ChipGame → (ℕ → List TraceRow) → ℕ → TraceRow → Bool
 is_wrong g used v (Take edge count) = not (goes_into g.graph v edge)
     || has_other_count (next_message g used v edge) count
-is_wrong g used v (Fire k) = not (is_met g used v (Fire k))
+is_wrong g used v (Fire k) = not (is_row_enabled g used v (Fire k))
 
 -- v has a next row, and it is wrong
 abbrev pub HasWrongRow : ChipGame → List (List TraceRow) → List Placed → ℕ → Type 0

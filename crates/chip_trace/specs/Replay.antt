@@ -5,13 +5,13 @@ use Rattle.chip_graph.specs.ChipGame.{ChipGame}
 use Rattle.chip_trace.specs.declared.fault.ReplayFault.{ReplayFault}
 use Rattle.chip_trace.specs.declared.fault.ReplayFault.TheVariants.{Stuck, NoMemory}
 use Rattle.chip_trace.specs.declared.replaying.Replayed.{Replayed}
-use Rattle.chip_trace.specs.Interleaving.{Placed, IsInterleaving, trace_of, firings}
+use Rattle.chip_trace.specs.Interleaving.{Placed, IsInterleaving, trace_of, row_firings}
 use Rattle.chip_trace.specs.Progress.{IsStuck}
 use Rattle.chip_trace.specs.Left.{left_after}
 
 -- the firings of some interleaving, in its order
 abbrev pub AreFirings : ChipGame → List (List TraceRow) → List (ℕ × ℕ) → Type 0
-AreFirings g traces fired = (xs : List Placed) × IsInterleaving g traces xs × (fired ≡ firings xs)
+AreFirings g traces fired = (xs : List Placed) × IsInterleaving g traces xs × (fired ≡ row_firings xs)
 
 -- a replay that used all rows: the firings of some interleaving, and what all rows leave, which is the same in each
 pub record IsReplayed (g : ChipGame) (traces : List (List TraceRow)) (replayed : Replayed) : Type 0 where

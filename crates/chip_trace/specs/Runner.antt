@@ -19,9 +19,9 @@ abbrev pub runner_of : List TraceRow → RunnerState
 runner_of rows = record { used = length rows; fires = fires rows; chips = chips_taken rows }
 
 -- the fields without what follows from them
-abbrev pub state_of : Inside → RunnerState
-state_of a = record { used = a.used; fires = a.fires.items; chips = a.chips }
+abbrev pub runner_state : Inside → RunnerState
+runner_state a = record { used = a.used; fires = a.fires.items; chips = a.chips }
 
 -- the number of firings is their sum
-abbrev pub IsCounted : Inside → Type 0
-IsCounted a = a.fired ≡ sum a.fires.items
+abbrev pub AreFiringsCounted : Inside → Type 0
+AreFiringsCounted a = a.fired ≡ sum a.fires.items

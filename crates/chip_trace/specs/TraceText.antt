@@ -12,19 +12,19 @@ abbrev pub header : List ℕ
 header = codes "vertex,kind,edge,count\n"
 
 -- the line of a row of v; a firing has no edge, and 0 stands in its place
-abbrev pub row_text : ℕ → TraceRow → List ℕ
-row_text v (Take edge count) = decimal v ++ codes ",take," ++ decimal edge ++ codes "," ++ decimal count ++ codes "\n"
-row_text v (Fire k) = decimal v ++ codes ",fire,0," ++ decimal k ++ codes "\n"
+abbrev pub trace_row_text : ℕ → TraceRow → List ℕ
+trace_row_text v (Take edge count) = decimal v ++ codes ",take," ++ decimal edge ++ codes "," ++ decimal count ++ codes "\n"
+trace_row_text v (Fire k) = decimal v ++ codes ",fire,0," ++ decimal k ++ codes "\n"
 
 -- the lines of the rows of v
-abbrev pub rows_text : ℕ → List TraceRow → List ℕ
-rows_text v [] = []
-rows_text v (row ∷ rows) = row_text v row ++ rows_text v rows
+abbrev pub trace_rows_text : ℕ → List TraceRow → List ℕ
+trace_rows_text v [] = []
+trace_rows_text v (row ∷ rows) = trace_row_text v row ++ trace_rows_text v rows
 
 -- the lines of the traces of the vertices from v on
 abbrev pub lines_from : ℕ → List (List TraceRow) → List ℕ
 lines_from v [] = []
-lines_from v (trace ∷ traces) = rows_text v trace ++ lines_from (suc v) traces
+lines_from v (trace ∷ traces) = trace_rows_text v trace ++ lines_from (suc v) traces
 
 -- the text of the traces, the vertices ascending
 abbrev pub trace_text : List (List TraceRow) → List ℕ

@@ -10,13 +10,13 @@ pub(crate) struct Agenda {
 }
 
 impl Model for Agenda {
-    ghost use Rattle.chip_trace.specs.Agenda.{AgendaState};
+    ghost use Rattle.chip_trace.specs.Agenda.{ReplayAgenda};
 
-    ghost Value = { AgendaState };
+    ghost Value = { ReplayAgenda };
 
-    ghost use Rattle.chip_trace.specs.Agenda.{state_of, NamesVertices};
+    ghost use Rattle.chip_trace.specs.Agenda.{agenda_state, NamesVertices};
 
-    ghost view = { state_of };
+    ghost view = { agenda_state };
 
     ghost invariant = { NamesVertices };
 }

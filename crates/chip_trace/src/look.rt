@@ -2,9 +2,9 @@
 
 ghost use Rattle.std.specs.Prelude.{◌≡◌, ◌+◌, ◌^◌, ◌<◌, length, map, sum, slice_get, slice_index, OnSome};
 ghost use Rattle.chip_graph.specs.ChipGame.{IsGame};
-ghost use Rattle.chip_graph.specs.Edges.{all_edges};
+ghost use Rattle.chip_graph.specs.Edges.{edges_and_roots};
 ghost use Rattle.chip_trace.specs.Interleaving.{messages, goes_into, may_fire};
-ghost use Rattle.chip_trace.specs.Kept.{runner_at, row_after, IsKept, Finds};
+ghost use Rattle.chip_trace.specs.Kept.{runner_at, row_after, IsReplayKept, Finds};
 
 use crate::progress::ReplayProgress;
 use crate::runner::Runner;
@@ -33,7 +33,7 @@ pub(crate) fn look_at(
 ) -> Finding
     requires is_vertex { vertex < game.now.graph.vertices }
     requires trace_each { length traces.now ≡ game.now.graph.vertices }
-    requires kept { IsKept game.now (map (λ t. t.items) traces.now) progress.now }
+    requires kept { IsReplayKept game.now (map (λ t. t.items) traces.now) progress.now }
     ensures { Finds game.now (map (λ t. t.items) traces.now) progress.now vertex result }
 {
     match next_row(traces, progress, vertex) {
@@ -86,8 +86,8 @@ fn goes_into(graph: &Graph, vertex: u64, edge: u64) -> bool
 /// The first message of this edge that was not taken, if there is one.
 fn next_message(game: &Game, progress: &ReplayProgress, edge: u64) -> Option<u128>
     requires runner_each { length progress.now.runners.items ≡ game.now.graph.vertices }
-    requires taken_each { length progress.now.taken.items ≡ all_edges game.now.graph }
-    requires is_edge { edge < all_edges game.now.graph }
+    requires taken_each { length progress.now.taken.items ≡ edges_and_roots game.now.graph }
+    requires is_edge { edge < edges_and_roots game.now.graph }
     ensures { result
         ≡ slice_get (messages game.now (λ u. (runner_at progress.now u).fires) edge)
         (slice_index progress.now.taken.items edge) }

@@ -16,14 +16,14 @@ pub(crate) struct ReplayProgress {
 
 impl ReplayProgress {
     ghost use Rattle.std.specs.Prelude.{◌≡◌, ◌+◌, ◌^◌, ◌<◌, [], length, replicate, IfOk};
-    ghost use Rattle.chip_graph.specs.Edges.{all_edges};
+    ghost use Rattle.chip_graph.specs.Edges.{edges_and_roots};
     ghost use Rattle.chip_trace.specs.Runner.{at_start};
-    ghost use Rattle.chip_trace.specs.Kept.{runner_at, UsesRow, FitsRow};
+    ghost use Rattle.chip_trace.specs.Kept.{runner_at, UsesRow, FitsTypes};
 
     /// No row used.
     pub(crate) fn new(alloc: Global, game: &Game) -> Result<ReplayProgress, AllocError>
         ensures runners { IfOk result (λ p. p.runners.items ≡ replicate game.now.graph.vertices at_start) }
-        ensures taken { IfOk result (λ p. p.taken.items ≡ replicate (all_edges game.now.graph) 0) }
+        ensures taken { IfOk result (λ p. p.taken.items ≡ replicate (edges_and_roots game.now.graph) 0) }
         ensures firings { IfOk result (λ p. p.firings.items ≡ []) }
     {
         let vertices = game.graph().vertices();
@@ -46,7 +46,7 @@ impl ReplayProgress {
     pub(crate) fn use_row(&mut self, vertex: u64, row: TraceRow) -> Result<(), AllocError>
         requires has_runner { vertex < length self.old.runners.items }
         requires room { (runner_at self.old vertex).used + 1 < 2 ^ 64 }
-        requires fits { FitsRow vertex row self.old }
+        requires fits { FitsTypes vertex row self.old }
         ensures { IfOk result (λ _. UsesRow vertex row self.old self.new) }
     {
         match row {

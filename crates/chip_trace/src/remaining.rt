@@ -2,7 +2,7 @@
 
 ghost use Rattle.std.specs.Prelude.{◌≡◌, ◌<◌, IfOk, length, nat_le, ◌==◌, ◌&&◌, not};
 ghost use Rattle.chip_graph.specs.Multigraph.{degree};
-ghost use Rattle.chip_graph.specs.Edges.{all_edges};
+ghost use Rattle.chip_graph.specs.Edges.{edges_and_roots};
 ghost use Rattle.chip_trace.specs.Left.{messages_left, chips_held, legal_left};
 ghost use Rattle.chip_trace.specs.Kept.{kept_fires, kept_chips, kept_taken, kept_left};
 
@@ -28,7 +28,7 @@ pub(crate) fn all_left(
     progress: &ReplayProgress,
 ) -> Result<Vec<Left>, AllocError>
     requires runner_each { length progress.now.runners.items ≡ game.now.graph.vertices }
-    requires taken_each { length progress.now.taken.items ≡ all_edges game.now.graph }
+    requires taken_each { length progress.now.taken.items ≡ edges_and_roots game.now.graph }
     ensures { IfOk result (λ left. left.items ≡ kept_left game.now progress.now) }
 {
     let mut left = Vec::new(alloc);
@@ -49,8 +49,8 @@ pub(crate) fn all_left(
 /// How many messages of this edge were sent and not taken.
 fn messages_left(game: &Game, progress: &ReplayProgress, edge: u64) -> u64
     requires runner_each { length progress.now.runners.items ≡ game.now.graph.vertices }
-    requires taken_each { length progress.now.taken.items ≡ all_edges game.now.graph }
-    requires is_edge { edge < all_edges game.now.graph }
+    requires taken_each { length progress.now.taken.items ≡ edges_and_roots game.now.graph }
+    requires is_edge { edge < edges_and_roots game.now.graph }
     ensures { result ≡ messages_left game.now (kept_fires progress.now) (kept_taken progress.now) edge }
 {
     let sent = match game.graph().edge(edge) {

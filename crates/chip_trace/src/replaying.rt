@@ -1,7 +1,7 @@
 //! Replaying recorded runs.
 
 ghost use Rattle.std.specs.Prelude.{◌≡◌, ◌+◌, ◌^◌, ◌<◌, ℕ, length, map, IfOk, MatchOption, MatchResult};
-ghost use Rattle.chip_trace.specs.Kept.{runner_at, IsKept, UsesRow, FitsRow, MayUse, IsSettled, GoesOn};
+ghost use Rattle.chip_trace.specs.Kept.{runner_at, IsReplayKept, UsesRow, FitsTypes, MayUse, IsReplayBlocked, ReplayGoesOn};
 ghost use Rattle.chip_trace.specs.Replay.{AreFirings, IsReplayed, IsReplayFault};
 
 use crate::agenda::Agenda;
@@ -33,7 +33,7 @@ fn use_met(
     requires is_vertex { vertex < agenda.old.vertices }
     requires has_runner { vertex < length progress.old.runners.items }
     requires room { (runner_at progress.old vertex).used + 1 < 2 ^ 64 }
-    requires fits { FitsRow vertex row progress.old }
+    requires fits { FitsTypes vertex row progress.old }
     ensures uses { IfOk result (λ _. UsesRow vertex row progress.old progress.new) }
     ensures same { agenda.new.vertices ≡ agenda.old.vertices }
     ensures few { agenda.new.due < agenda.old.due + 2 ^ 64 }
@@ -56,8 +56,8 @@ fn advance(
     requires is_vertex { vertex < game.now.graph.vertices }
     requires trace_each { length traces.now ≡ game.now.graph.vertices }
     requires agenda_each { agenda.old.vertices ≡ game.now.graph.vertices }
-    requires kept { IsKept game.now (map (λ t. t.items) traces.now) progress.old }
-    ensures { IfOk result (λ _. GoesOn game.now (map (λ t. t.items) traces.now) progress.old agenda.old progress.new
+    requires kept { IsReplayKept game.now (map (λ t. t.items) traces.now) progress.old }
+    ensures { IfOk result (λ _. ReplayGoesOn game.now (map (λ t. t.items) traces.now) progress.old agenda.old progress.new
         agenda.new) }
 {
     loop {
@@ -83,8 +83,8 @@ fn run_agenda(
 ) -> Result<(), AllocError>
     requires trace_each { length traces.now ≡ game.now.graph.vertices }
     requires agenda_each { agenda.old.vertices ≡ game.now.graph.vertices }
-    requires kept { IsKept game.now (map (λ t. t.items) traces.now) progress.old }
-    ensures { IfOk result (λ _. GoesOn game.now (map (λ t. t.items) traces.now) progress.old agenda.old progress.new
+    requires kept { IsReplayKept game.now (map (λ t. t.items) traces.now) progress.old }
+    ensures { IfOk result (λ _. ReplayGoesOn game.now (map (λ t. t.items) traces.now) progress.old agenda.old progress.new
         agenda.new) }
 {
     while let Some(vertex) = agenda.next() {
@@ -100,9 +100,9 @@ fn first_met(
     progress: &ReplayProgress,
 ) -> Option<(u64, TraceRow)>
     requires trace_each { length traces.now ≡ game.now.graph.vertices }
-    requires kept { IsKept game.now (map (λ t. t.items) traces.now) progress.now }
+    requires kept { IsReplayKept game.now (map (λ t. t.items) traces.now) progress.now }
     ensures { MatchOption result
-        (IsSettled game.now (map (λ t. t.items) traces.now) progress.now)
+        (IsReplayBlocked game.now (map (λ t. t.items) traces.now) progress.now)
         (λ found. (found.0 < game.now.graph.vertices)
         × MayUse game.now (map (λ t. t.items) traces.now) progress.now found.0 found.1) }
 {
@@ -125,9 +125,9 @@ fn settle(
 ) -> Result<(), AllocError>
     requires trace_each { length traces.now ≡ game.now.graph.vertices }
     requires agenda_each { agenda.old.vertices ≡ game.now.graph.vertices }
-    requires kept { IsKept game.now (map (λ t. t.items) traces.now) progress.old }
-    ensures kept { IfOk result (λ _. IsKept game.now (map (λ t. t.items) traces.now) progress.new) }
-    ensures settled { IfOk result (λ _. IsSettled game.now (map (λ t. t.items) traces.now) progress.new) }
+    requires kept { IsReplayKept game.now (map (λ t. t.items) traces.now) progress.old }
+    ensures kept { IfOk result (λ _. IsReplayKept game.now (map (λ t. t.items) traces.now) progress.new) }
+    ensures settled { IfOk result (λ _. IsReplayBlocked game.now (map (λ t. t.items) traces.now) progress.new) }
 {
     loop {
         run_agenda(game, traces, progress, agenda)?;

@@ -15,11 +15,11 @@ impl Model for Runner {
 
     ghost Value = { RunnerState };
 
-    ghost use Rattle.chip_trace.specs.Runner.{state_of, IsCounted};
+    ghost use Rattle.chip_trace.specs.Runner.{runner_state, AreFiringsCounted};
 
-    ghost view = { state_of };
+    ghost view = { runner_state };
 
-    ghost invariant = { IsCounted };
+    ghost invariant = { AreFiringsCounted };
 }
 
 impl Runner {

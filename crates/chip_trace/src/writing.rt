@@ -1,8 +1,8 @@
 //! Recorded runs as text.
 
 ghost use Rattle.std.specs.Prelude.{◌≡◌, ◌≤◌, ◌↔◌, ◌++◌, false, length, map, Err, IfOk, string_bytes};
-ghost use Rattle.chip_report.specs.Sink.{IsFresh, bytes_out, goes_on, last_write, writes};
-ghost use Rattle.chip_trace.specs.TraceText.{row_text, rows_text, trace_text, WritesText};
+ghost use Rattle.chip_report.specs.Sink.{IsUnwritten, bytes_out, goes_on, last_write, writes};
+ghost use Rattle.chip_trace.specs.TraceText.{trace_row_text, trace_rows_text, trace_text, WritesText};
 ghost use Rattle.chip_trace.specs.declared.fault.TraceFault.TheVariants as fault;
 
 use crate::fault::TraceFault;
@@ -20,7 +20,7 @@ pub fn write_trace_to<W: Write>(
     traces: &[&[TraceRow]],
     sink: &mut Sink<'_, W>,
 ) -> Result<(), TraceFault>
-    requires { IsFresh sink.old }
+    requires { IsUnwritten sink.old }
     ensures text { WritesText (bytes_out W.contents sink.old) (bytes_out W.contents sink.new)
         (trace_text (map (λ t. t.now) traces.now)) result }
 
@@ -63,7 +63,7 @@ fn text_of(alloc: Global, traces: &[&[TraceRow]]) -> Result<String, AllocError>
 
 /// Appends the lines of the rows of one vertex.
 fn push_rows(text: &mut String, vertex: u64, rows: &[TraceRow]) -> Result<(), AllocError>
-    ensures { IfOk result (λ _. string_bytes text.new ≡ string_bytes text.old ++ rows_text vertex rows.now) }
+    ensures { IfOk result (λ _. string_bytes text.new ≡ string_bytes text.old ++ trace_rows_text vertex rows.now) }
 {
     for row in rows {
         push_row(text, vertex, *row)?;
@@ -73,7 +73,7 @@ fn push_rows(text: &mut String, vertex: u64, rows: &[TraceRow]) -> Result<(), Al
 
 /// Appends the line of a row.
 fn push_row(text: &mut String, vertex: u64, row: TraceRow) -> Result<(), AllocError>
-    ensures { IfOk result (λ _. string_bytes text.new ≡ string_bytes text.old ++ row_text vertex row) }
+    ensures { IfOk result (λ _. string_bytes text.new ≡ string_bytes text.old ++ trace_row_text vertex row) }
 {
     match row {
         TraceRow::Take { edge, count } => writeln!(text, "{vertex},take,{edge},{count}"),

@@ -6,7 +6,7 @@ use Rattle.chip_world.proofs.Names.{append_assoc, reverse_onto, dite, ℕ_discre
 use Rattle.chip_world.proofs.Names.{StandsFor, SomePart, WhateverPart, AreOf, Meets, MakesTurnOver}
 use Rattle.chip_world.proofs.Names.{MeetsEvent, MakesEvent, IsAnswered, Log, Step, Event, Reply, Rule, Part, part_of}
 use Rattle.chip_world.proofs.Names.{part_in, unmet_rule, does, sees, word_of_part, root, answer, part_else}
-use Rattle.chip_world.proofs.Names.{saw, vertex_of, WorldState, StandsForLog, IsActor, MakesStep, TurnWords, Holds}
+use Rattle.chip_world.proofs.Names.{saw, vertex_of, WorldState, StandsForLog, IsActor, MakesStep, TurnWords, WordsHold}
 use Rattle.chip_world.proofs.Names.{IsTurnAfter}
 use Rattle.chip_world.proofs.VertexLemmas.{found}
 use Rattle.chip_part.specs.declared.cursor.Cursor.TheVariants as At
@@ -39,7 +39,7 @@ module _ (g : Setting) (log : Log) (w : WorldState) (stands : StandsForLog g log
       abbrev shared : TurnWords
       shared = record { words = w.words; fired = fired }
 
-      held : Holds shared g a.vertex log (part_in g log v)
+      held : WordsHold shared g a.vertex log (part_in g log v)
       held = rw actor.vertex_is record {
         inside = inside;
         is_setting = stands.is_setting;
@@ -51,10 +51,10 @@ module _ (g : Setting) (log : Log) (w : WorldState) (stands : StandsForLog g log
       }
 
       -- a turn may begin over the words, and an event of the vertex be made
-      pub meets_turn : Meets (Holds shared) a (At.Take 0)
+      pub meets_turn : Meets (WordsHold shared) a (At.Take 0)
       meets_turn = (g, log, part_in g log v, held, actor.stands, tt)
 
-      pub meets_event : (x : Event) → part_of g x ≡ v → MeetsEvent (Holds shared) a x
+      pub meets_event : (x : Event) → part_of g x ≡ v → MeetsEvent (WordsHold shared) a x
       meets_event x own = (g, log, part_in g log v, held, actor.stands, own ∙ sym actor.vertex_is)
 
       -- steps of the vertex leave the world of the log that is longer by them
@@ -62,7 +62,7 @@ module _ (g : Setting) (log : Log) (w : WorldState) (stands : StandsForLog g log
         abbrev pub after : WorldState
         after = record w { actors = set w.actors v b; words = new.words }
 
-        leads : (more : List Step) (t : Part) → Holds new g v (reverse more ++ log) t → AreOf g v more
+        leads : (more : List Step) (t : Part) → WordsHold new g v (reverse more ++ log) t → AreOf g v more
             → StandsFor g t b → b.vertex ≡ v → StandsForLog g (reverse more ++ log) after
         leads more t now mine b_stands vertex =
             let longer : Log = reverse more ++ log in
@@ -85,7 +85,7 @@ module _ (g : Setting) (log : Log) (w : WorldState) (stands : StandsForLog g log
                   stands.root_stands;
             }
 
-        pub turn_leads : (count : ℕ) → MakesTurnOver (Holds shared) a (Holds new) b count
+        pub turn_leads : (count : ℕ) → MakesTurnOver (WordsHold shared) a (WordsHold new) b count
             → (longer : Log) × StandsForLog g longer after × IsTurnAfter g v log longer
         turn_leads count makes =
             let made = rw actor.vertex_is at (makes g log (part_in g log v) held actor.stands) in
@@ -96,12 +96,12 @@ module _ (g : Setting) (log : Log) (w : WorldState) (stands : StandsForLog g log
             )
 
         pub event_leads : (x : Event) (reply : Reply) → part_of g x ≡ v
-            → MakesEvent (Holds shared) a x (Holds new) b reply → MakesStep g log x after reply
+            → MakesEvent (WordsHold shared) a x (WordsHold new) b reply → MakesStep g log x after reply
         event_leads x reply own makes = rw own (by (unmet_rule g x (part_in g log v)) refl
             (rw actor.vertex_is at (makes g log (part_in g log v) held actor.stands (own ∙ sym actor.vertex_is))))
           where
             by : (o : Option Rule) → unmet_rule g x (part_in g log v) ≡ o
-                → IsAnswered (Holds new) g v log (part_in g log v) x b reply o
+                → IsAnswered (WordsHold new) g v log (part_in g log v) x b reply o
                 → StandsForLog g (answer g log x o).0 after × (reply ≡ (answer g log x o).1)
             by (Some rule) is (kept, says) = (leads [] (part_in g log v) kept.held tt kept.stands kept.vertex, says)
             by None is (seen, kept, says) =

@@ -7,7 +7,7 @@ use Rattle.chip_world.proofs.Names.{saw, met_rules, Log, Step, Settle, Rule, par
 use Rattle.chip_world.proofs.Names.{IsClosed, answer, log_after, tail_of, work_in, steps_at_most, fed_so_far}
 use Rattle.chip_world.proofs.Names.{AreFiringBounds, HasEnd, RootHasPut, HasTurn, HasRound, part_kept, run_legal}
 use Rattle.chip_world.proofs.Names.{log_after-append, work_grows, round_closes, ends_longer, few_after, Drive, Closed}
-use Rattle.chip_world.proofs.Names.{Unfinished, AreTurns, root_settles, IsRound, AreRounds, IsDrive}
+use Rattle.chip_world.proofs.Names.{Unfinished, AreTurns, root_settles, IsWorldRound, AreOpenRounds, IsDrive}
 use Rattle.std.proofs.Common.{Contains}
 use Rattle.chip_world.proofs.OwnTurnLemmas.{turn_is_own, done_turn}
 
@@ -90,7 +90,7 @@ module _ (g : Setting) (game : IsGame g.game) (some_ring : 0 < g.ring) where
     legal : IsLegalLog g after
     has : HasRound g before more
 
-  rounded : (before after : Log) → IsLegalLog g before → IsRound g before after → Round before after
+  rounded : (before after : Log) → IsLegalLog g before → IsWorldRound g before after → Round before after
   rounded before after legal (between, turns, settles) =
       let n : ℕ = g.game.graph.vertices in
       let first = turned n before between legal turns in
@@ -119,7 +119,7 @@ module _ (g : Setting) (game : IsGame g.game) (some_ring : 0 < g.ring) where
     tells : IsClosed g after ⊎ (n + work_in g before ≤ work_in g after)
 
   drove : (n : ℕ) (before after : Log) → IsLegalLog g before → HasEnd g before → RootHasPut g before
-      → AreRounds g n before after → Drove n before after
+      → AreOpenRounds g n before after → Drove n before after
   drove zero before after legal end put same =
       let worked = ap (work_in g) same in
       record { more = []; longer = same; legal = rw same legal; tells = inr (omega arith) }

@@ -2,17 +2,17 @@
 -- A turn, a round and a drive follow from the log before them.
 use Rattle.chip_world.proofs.Names.{◌≡◌, ℕ, zero, suc, ◌<◌, ◌≤◌, Bool, true, false, not, eqb, List, [], ◌∷◌, ◌++◌}
 use Rattle.chip_world.proofs.Names.{reverse, Option, Some, None, refl, sym, arith, append_assoc}
-use Rattle.chip_world.proofs.Names.{reverse_onto, dite, ℕ_discrete, dec_lt, Setting, Part, may_ack, head_of, Event, Ack}
+use Rattle.chip_world.proofs.Names.{reverse_onto, dite, ℕ_discrete, dec_lt, Setting, Part, may_ack_on, head_of, Event, Ack}
 use Rattle.chip_world.proofs.Names.{Phase, nothing, either_phase, and_then, seeing, one_step, acknowledging_parent}
-use Rattle.chip_world.proofs.Names.{turn, saw, of_turn, legal_before, Log, Step, does, part_in, Fits, IsLegalLog}
-use Rattle.chip_world.proofs.Names.{Drive, Closed, Unfinished, WorldState, Leads, NoOtherDrive}
-use Rattle.chip_world.proofs.Names.{IsTurnAfter, AreTurns, IsRound, AreRounds, AnswersDrive, IsDrive, IsOpen}
+use Rattle.chip_world.proofs.Names.{turn, saw, of_turn, legal_before, Log, Step, does, part_in, FitsLog, IsLegalLog}
+use Rattle.chip_world.proofs.Names.{Drive, Closed, Unfinished, WorldState, LeadsWorld, NoOtherDrive}
+use Rattle.chip_world.proofs.Names.{IsTurnAfter, AreTurns, IsWorldRound, AreOpenRounds, AnswersDrive, IsDrive, IsRootOpen}
 
 module _ (g : Setting) where
   -- each event fits after the log and those in front of it
   abbrev Follow : Log → List Step → Type 0
   Follow log [] = Unit {0}
-  Follow log (x ∷ xs) = Fits g log x × Follow (x ∷ log) xs
+  Follow log (x ∷ xs) = FitsLog g log x × Follow (x ∷ log) xs
 
   -- the log after them
   abbrev made : Log → List Step → Log
@@ -64,7 +64,7 @@ module _ (g : Setting) where
 
     by_parent : (parent : Option ℕ) → Determined (acknowledging_parent g v parent)
     by_parent None log s = by_nothing log s
-    by_parent (Some e) log s = either (not (eqb (may_ack g (head_of g e) s e) 0)) log s
+    by_parent (Some e) log s = either (not (eqb (may_ack_on g (head_of g e) s e) 0)) log s
       where
         either : (b : Bool) → Determined (either_phase b (one_step g v (Ack e)) nothing)
         either true = by_seeing (Ack e) (λ seen before. nothing) (λ seen before. by_nothing)
@@ -93,26 +93,26 @@ module _ (g : Setting) where
   turns_determined (suc v) before after after' (m, firsts, last) (m', firsts', last') =
       turn_determined v m' after after' (rw (turns_determined v before m m' firsts firsts') at last) last'
 
-  round_determined : (before after after' : Log) → IsRound g before after → IsRound g before after' → after ≡ after'
+  round_determined : (before after after' : Log) → IsWorldRound g before after → IsWorldRound g before after' → after ≡ after'
   round_determined before after after' (m, turns, settled) (m', turns', settled') =
       let same = turns_determined g.game.graph.vertices before m m' turns turns' in cc
 
-  rounds_determined : (n : ℕ) (before after after' : Log) → AreRounds g n before after → AreRounds g n before after'
+  rounds_determined : (n : ℕ) (before after after' : Log) → AreOpenRounds g n before after → AreOpenRounds g n before after'
       → after ≡ after'
   rounds_determined zero before after after' one other = cc
   rounds_determined (suc n) before after after' (m, firsts, is_open, last) (m', firsts', is_open', last') =
       round_determined m' after after' (rw (rounds_determined n before m m' firsts firsts') at last) last'
 
   -- the root is open after fewer rounds
-  open_earlier : (n k : ℕ) → n < k → (before after after' : Log) → AreRounds g n before after
-      → AreRounds g k before after' → IsOpen g after
+  open_earlier : (n k : ℕ) → n < k → (before after after' : Log) → AreOpenRounds g n before after
+      → AreOpenRounds g k before after' → IsRootOpen g after
   open_earlier n zero l before after after' one other = absurd (omega arith)
   open_earlier n (suc k) l before after after' one (m, firsts, is_open, last) = dite (ℕ_discrete n k)
       (λ same. rw (rounds_determined k before after m (rw same at one) firsts) is_open)
       (λ other. open_earlier n k (omega arith) before after m one firsts)
 
   -- no drive ends where another goes on
-  ends_last : (rounds n k : ℕ) (after : Log) (result : Drive) → n < k → k ≤ rounds → IsOpen g after
+  ends_last : (rounds n k : ℕ) (after : Log) (result : Drive) → n < k → k ≤ rounds → IsRootOpen g after
       → AnswersDrive g rounds n after result → ⊥
   ends_last rounds n k after Closed l within is_open answers = is_open answers
   ends_last rounds n k after (Unfinished told) l within is_open (told_is, all, still) = absurd (omega arith)
@@ -141,7 +141,7 @@ module _ (g : Setting) where
 
 -- a world that a drive leads to is the one that every drive leads to
 pub no_other : (old new : WorldState) (rounds : ℕ) (result : Drive)
-    → Leads old new (λ g before after. IsDrive g rounds before after result) → NoOtherDrive old new rounds result
+    → LeadsWorld old new (λ g before after. IsDrive g rounds before after result) → NoOtherDrive old new rounds result
 no_other old new rounds result leads = λ g before stands after answer drive.
     let own = leads g before stands in
     let same = drive_determined g rounds before own.0 after result answer own.2 drive in

@@ -5,7 +5,7 @@ use Rattle.chip_world.proofs.Names.{refl, arith, append_assoc, append-nil, rever
 use Rattle.chip_world.proofs.Names.{cond_no, Setting, root_edge, saw, AreOf, Log, Step, Settle, Rule, IsLegalLog}
 use Rattle.chip_world.proofs.Names.{part_of, part_in, sees, root, tail_of, unmet_rule, answer, log_after, done_by}
 use Rattle.chip_world.proofs.Names.{fed_so_far, recorded_step, part_kept, run_legal, log_after-append, AreTurns}
-use Rattle.chip_world.proofs.Names.{root_settles, AreRounds}
+use Rattle.chip_world.proofs.Names.{root_settles, AreOpenRounds}
 use Rattle.chip_world.proofs.OwnTurnLemmas.{turn_is_own}
 
 module _ (g : Setting) where
@@ -61,7 +61,7 @@ module _ (g : Setting) where
         )
         (settles_feed_none n log legal)
 
-    pub rounds_feed_none : (n : ℕ) (before after : Log) → IsLegalLog g before → AreRounds g n before after
+    pub rounds_feed_none : (n : ℕ) (before after : Log) → IsLegalLog g before → AreOpenRounds g n before after
         → FeedsNone before after
     rounds_feed_none zero before after legal same = none_made before after legal same
     rounds_feed_none (suc n) before after legal (between, rounds, not_closed, (middle, turns, settles)) =

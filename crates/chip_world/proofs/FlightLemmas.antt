@@ -4,7 +4,7 @@ use Rattle.chip_world.proofs.Names.{◌≡◌, ◌≢◌, ℕ, ◌+◌, ◌-◌,
 use Rattle.chip_world.proofs.Names.{take, length-drop, length-take-le, Option, Some, None, option_to_list, refl}
 use Rattle.chip_world.proofs.Names.{arith, ⊎_elim, inl, inr, get_or_past, get_or_append_left, get_or_push}
 use Rattle.chip_world.proofs.Names.{get_or-drop, take_more, dite, dec_lt, Setting, Tail, claims_of, sent_counts, Sound}
-use Rattle.chip_world.proofs.Names.{Shows, none_held, one_held, length-sent_counts, message_of, Message, messages_from}
+use Rattle.chip_world.proofs.Names.{WordsShow, none_held, one_held, length-sent_counts, message_of, Message, messages_from}
 use Rattle.chip_world.proofs.Names.{counts_in_flight, messages-append, into_in, Log, out_in}
 
 -- nothing is held, or one count is
@@ -13,7 +13,7 @@ hand None = inl refl
 hand (Some count) = inr (count, refl)
 
 module _ (ring word : ℕ) (cell : ℕ → ℕ) (t : Tail) (got : List ℕ) (stop : Option ℕ) (ok : Sound ring t got stop)
-    (is : Shows ring word cell t got stop) (place : ℕ) (later : length got ≤ place) (before : place < claims_of t) where
+    (is : WordsShow ring word cell t got stop) (place : ℕ) (later : length got ≤ place) (before : place < claims_of t) where
   -- what is in flight fits into the ring
   within : place < length got + ring
   within = ⊎_elim

@@ -30,7 +30,7 @@ pub use Rattle.chip_sequence.specs.Counted.{IsBelowZero, game_from}
 pub use Rattle.chip_link.proofs.ShownLemmas.{fresh_shows, first_shows}
 pub use Rattle.chip_link.proofs.SoundsLemmas.{none_held, one_held, length-sent_counts}
 pub use Rattle.chip_link.proofs.WordLawsLemmas.{adds_firings, halts_word, halts_by_limit}
-pub use Rattle.chip_link.specs.Link.{Tail, claims_of, sent_counts, Sound, Shows}
+pub use Rattle.chip_link.specs.Link.{Tail, claims_of, sent_counts, Sound, WordsShow}
 pub use Rattle.chip_link.specs.Words.{claims_in, fired_word, word_after_exchange}
 pub use Rattle.chip_link.specs.declared.message.Message.{Message}
 pub use Rattle.chip_detect.specs.Books.{in_edges}
@@ -41,7 +41,7 @@ pub use Rattle.chip_part.proofs.RuleLemmas.{met_rules, rules_met}
 pub use Rattle.chip_part.specs.Acting.{act_of, event_of, verdict, is_of_root, FitsSeen}
 pub use Rattle.chip_part.specs.Edges.{root_edge, head_if, head_of, tail_if}
 pub use Rattle.chip_part.specs.Kept.{Met}
-pub use Rattle.chip_part.specs.Part.{Part, may_ack, first_put, opening_part, cause, is_by_limit}
+pub use Rattle.chip_part.specs.Part.{Part, may_ack_on, first_put, opening_part, cause, is_by_limit}
 pub use Rattle.chip_part.specs.Setting.{Setting, IsSetting, setting_with}
 pub use Rattle.chip_part.specs.Steps.{saw, message_of, parent_after}
 pub use Rattle.chip_part.specs.Turn.{Phase, nothing, either_phase, and_then, seeing, one_step}
@@ -55,7 +55,7 @@ pub use Rattle.chip_actor.proofs.StandingLemmas.{books_in, deficit_is}
 pub use Rattle.chip_actor.specs.Actor.{Actor, StandsFor, SomePart, WhateverPart}
 pub use Rattle.chip_actor.specs.Found.{MeetsEvent, MakesEvent, IsAnswered}
 pub use Rattle.chip_actor.specs.Medium.{AreOf, Meets, MakesTurnOver, IsDueBy, MayServe, Serves, IsLonger}
-pub use Rattle.chip_root.specs.Root.{RootStandsFor, WhateverRoot, Root, SomeRoot, RootCanDo, RootMakes}
+pub use Rattle.chip_actor.specs.Root.{RootStandsFor, WhateverRoot, Root, SomeRoot, RootCanDo, RootMakes}
 pub use Rattle.chip_core.proofs.GivenLemmas.{recorded_step, given_is, given_start, given_within}
 pub use Rattle.chip_core.proofs.HeadlineLemmas.{core_theorem}
 pub use Rattle.chip_core.proofs.IdleLemmas.{work_grows}
@@ -74,11 +74,11 @@ pub use Rattle.chip_core.proofs.WorkLemmas.{feeds_fit, distance_bounds}
 pub use Rattle.chip_core.specs.Closing.{HasEnd, RootHasPut, HasTurn, HasRound}
 pub use Rattle.chip_core.specs.Core.{Log, Step, Event, Reply, Rule, part_of, part_in, unmet_rule, does, reply_of, sees}
 pub use Rattle.chip_core.specs.Core.{word_of_part, root, answer, graph_edges, Settle, IsLegalLog, IsClosed, log_after}
-pub use Rattle.chip_core.specs.Core.{tail_of, Take, Ack, Fits, into_in, out_in, all_edges, Put, Claim, Feed, step}
+pub use Rattle.chip_core.specs.Core.{tail_of, Take, Ack, FitsLog, into_in, out_in, all_edges, Put, Claim, Feed, step}
 pub use Rattle.chip_core.specs.Core.{replies_to, Clear, Seal, Read, End, stopper, Fire, Halt, stop_in}
 pub use Rattle.chip_core.specs.Histories.{done_by}
 pub use Rattle.chip_core.specs.Messages.{messages_from, counts_in_flight, sent_by, delivered_by, sent_in, delivered_in}
-pub use Rattle.chip_core.specs.Messages.{sent_on, delivered_on, in_flight}
+pub use Rattle.chip_core.specs.Messages.{to_deliver, delivered_on, in_flight}
 pub use Rattle.chip_core.specs.Outcomes.{AreFired, halted_by}
 pub use Rattle.chip_core.specs.Positions.{played_game}
 pub use Rattle.chip_core.specs.Words.{halt_bits, Word, of_edge, of_acks, of_cell, of_vertex, word_of_event}
@@ -87,16 +87,16 @@ pub use Rattle.chip_core.specs.Work.{work_in, steps_at_most, fed_so_far, AreFiri
 pub use Rattle.chip_world.specs.Enough.{rounds_to_close, ClosesIn}
 pub use Rattle.chip_world.specs.Lanes.{Lane, no_lane, lane_at, with_message}
 pub use Rattle.chip_world.specs.Makers.{vertex_of, is_by_act, vertex_if, is_of_others}
-pub use Rattle.chip_world.specs.Rounds.{IsTurnAfter, AreTurns, root_settles, IsRound, AreRounds, IsDrive, Leads}
-pub use Rattle.chip_world.specs.Rounds.{NoOtherDrive, AnswersDrive, IsOpen, ClosesBy}
+pub use Rattle.chip_world.specs.Rounds.{IsTurnAfter, AreTurns, root_settles, IsWorldRound, AreOpenRounds, IsDrive, LeadsWorld}
+pub use Rattle.chip_world.specs.Rounds.{NoOtherDrive, AnswersDrive, IsRootOpen, ClosesBy}
 pub use Rattle.chip_world.specs.Run.{is_claim_of, is_take_of, count_among, Counts, sent_after, delivered_after}
-pub use Rattle.chip_world.specs.Run.{SentOnEdge, GotOnEdge, HasRoom, HasRooms, AreListed, IsNotedUpTo, IsRecordOf}
-pub use Rattle.chip_world.specs.Run.{IsHeldByReplies, IsOpened}
+pub use Rattle.chip_world.specs.Run.{SentOnEdge, GotOnEdge, HasRoomForEvents, HasRooms, AreAllListed, IsNotedUpTo, IsRecordOf}
+pub use Rattle.chip_world.specs.Run.{IsHeldByReplies, IsOpenedLane}
 pub use Rattle.chip_world.specs.SharedWords.{opening_words, EdgeState, words_of, with_edge, with_seal, seen_in}
 pub use Rattle.chip_world.specs.SharedWords.{words_after, CanPerform, no_words, with_cell, with_claim, with_acks}
 pub use Rattle.chip_world.specs.SharedWords.{cell_of, HasCell}
-pub use Rattle.chip_world.specs.TurnWords.{TurnWords, Holds}
-pub use Rattle.chip_world.specs.Worked.{sink_alone, OneRoundCloses, NoRoundLeavesOpen}
+pub use Rattle.chip_world.specs.TurnWords.{TurnWords, WordsHold}
+pub use Rattle.chip_world.specs.Worked.{lone_sink, OneRoundCloses, NoRoundLeavesOpen}
 pub use Rattle.chip_world.specs.World.{WorldState, StandsForLog, IsActor, MakesStep, ShowsEdge, first_chips}
 pub use Rattle.chip_world.specs.World.{AreOpeningWords, AreOpeningActors, WhateverLog}
 pub use Rattle.chip_world.specs.contracts.world.World.{the_view}

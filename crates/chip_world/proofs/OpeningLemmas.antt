@@ -4,7 +4,7 @@ use Rattle.chip_world.proofs.Names.{◌≡◌, ◌≢◌, ℕ, ◌+◌, ◌<◌,
 use Rattle.chip_world.proofs.Names.{get_or, set, replicate, None, refl, arith}
 use Rattle.chip_world.proofs.Names.{length-set, false, get_or-set_same, get_or-set_other, get_or-replicate, get_or_past}
 use Rattle.chip_world.proofs.Names.{get_or_push, get_or_append_left, length-replicate, dite, ℕ_discrete, dec_lt}
-use Rattle.chip_world.proofs.Names.{Setting, IsSetting, cond_yes, cond_no, Shows, fresh_shows, first_shows}
+use Rattle.chip_world.proofs.Names.{Setting, IsSetting, cond_yes, cond_no, WordsShow, fresh_shows, first_shows}
 use Rattle.chip_world.proofs.Names.{RootStandsFor, first_put, opening_part, graph_edges, all_edges, opening_words}
 use Rattle.chip_world.proofs.Names.{WorldState, ShowsEdge, StandsForLog, first_chips, AreOpeningWords, AreOpeningActors}
 use Rattle.chip_world.proofs.Names.{by_test}
@@ -26,7 +26,7 @@ first_cell ring chips some_ring = get_or-set_same (replicate ring 0) 0 chips 0 (
 
 -- the words of an edge show the message with which it opens, or none
 ring_shows : (ring chips : ℕ) → 0 < ring → (put : List ℕ) → put ≡ cond (eqb chips 0) [] (chips ∷ [])
-    → Shows ring (cond (eqb chips 0) 0 1) (λ i. get_or (set (replicate ring 0) 0 chips) i 0)
+    → WordsShow ring (cond (eqb chips 0) 0 1) (λ i. get_or (set (replicate ring 0) 0 chips) i 0)
     (record { put = put; held = None; clear = false; refused = false }) [] None
 ring_shows ring chips some_ring put put_is = dite (ℕ_discrete chips 0)
     (λ none. rw (put_is, cond_yes {A = ℕ} chips 0 0 1 none, cond_yes chips 0 [] (chips ∷ []) none)

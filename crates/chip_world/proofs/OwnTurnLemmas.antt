@@ -3,7 +3,7 @@
 use Rattle.chip_world.proofs.Names.{nat_tests, arith, ◌≡◌, ℕ, Bool, true, false, not, cond, eqb, List, [], ◌∷◌, ◌++◌}
 use Rattle.chip_world.proofs.Names.{reverse, Option, Some, None, refl, sym}
 use Rattle.chip_world.proofs.Names.{reverse_onto, append_assoc, by_test, cond_yes, Setting}
-use Rattle.chip_world.proofs.Names.{head_of, Part, may_ack}
+use Rattle.chip_world.proofs.Names.{head_of, Part, may_ack_on}
 use Rattle.chip_world.proofs.Names.{Event, Take, Ack, Step, part_of, does, saw, parent_after, Phase, nothing}
 use Rattle.chip_world.proofs.Names.{either_phase, seeing, one_step, acknowledging_parent, last_acknowledgement, turn}
 use Rattle.chip_world.proofs.Names.{AreOf, Log, done_by, Spreads, of_turn}
@@ -44,7 +44,7 @@ module _ (g : Setting) (v : ℕ) where
 
   own_parent : (parent : Option ℕ) → ((e : ℕ) → parent ≡ Some e → head_of g e ≡ v) → Own (acknowledging_parent g v parent)
   own_parent None by s = own_nothing s
-  own_parent (Some e) by s = either (not (eqb (may_ack g (head_of g e) s e) 0)) s
+  own_parent (Some e) by s = either (not (eqb (may_ack_on g (head_of g e) s e) 0)) s
     where
       either : (b : Bool) → Own (either_phase b (one_step g v (Ack e)) nothing)
       either true = own_event (Ack e) (by e refl) (λ seen before. nothing) (λ seen before. own_nothing)

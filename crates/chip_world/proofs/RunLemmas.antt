@@ -5,9 +5,9 @@ use Rattle.chip_world.proofs.Names.{length, map, get_or, take, refl, sym, ap, ar
 use Rattle.chip_world.proofs.Names.{length-set, get_or-set_same, get_or-set_other, length-append, vec_capacity}
 use Rattle.chip_world.proofs.Names.{get_or-map, length-map, take_more, dite, ℕ_discrete, IsGame, Setting, Got, Sent}
 use Rattle.chip_world.proofs.Names.{Log, Event, Take, Claim, Feed, Reply, step, log_after, replies_to, all_edges}
-use Rattle.chip_world.proofs.Names.{Message, sent_by, delivered_by, sent_in, delivered_in, sent_on, delivered_on, Notes}
+use Rattle.chip_world.proofs.Names.{Message, sent_by, delivered_by, sent_in, delivered_in, to_deliver, delivered_on, Notes}
 use Rattle.chip_world.proofs.Names.{Lane, no_lane, lane_at, with_message, is_claim_of, is_take_of, count_among, Counts}
-use Rattle.chip_world.proofs.Names.{sent_after, delivered_after, SentOnEdge, GotOnEdge, HasRoom, HasRooms, AreListed}
+use Rattle.chip_world.proofs.Names.{sent_after, delivered_after, SentOnEdge, GotOnEdge, HasRoomForEvents, HasRooms, AreAllListed}
 use Rattle.chip_world.proofs.Names.{IsNotedUpTo, IsRecordOf, IsHeldByReplies, held_from_the_opening}
 
 -- ---- counts
@@ -92,14 +92,14 @@ got_longer _ _ lanes = no_message lanes _
 
 module _ (lanes new : List Lane) (more : ℕ → List Message) (most : ℕ → ℕ) (long : Longer lanes new more most) where
   room_rest : (test : ℕ → Event → Bool) (x : Event) (rest : List Event) → ((e : ℕ) → most e ≡ cond (test e x) 1 0)
-      → HasRoom test (x ∷ rest) lanes → HasRoom test rest new
+      → HasRoomForEvents test (x ∷ rest) lanes → HasRoomForEvents test rest new
   room_rest test x rest is has e l =
       let edges = long.edges in let m : e < length lanes = omega arith in
       let a = has e m in let few = long.few e in let k = is e in
       rw (long.messages e m, long.capacity e m, length-append) (omega arith)
 
-  listed_more : (edges : ℕ) (all rest : ℕ → List Message) → AreListed edges all lanes (λ e. more e ++ rest e)
-      → AreListed edges all new rest
+  listed_more : (edges : ℕ) (all rest : ℕ → List Message) → AreAllListed edges all lanes (λ e. more e ++ rest e)
+      → AreAllListed edges all new rest
   listed_more edges all rest listed = record {
     count_is = long.edges ∙ listed.count_is;
     each = λ e l. rw (long.messages e (rw listed.count_is l), append_assoc) (listed.each e l);
@@ -129,14 +129,14 @@ module _ (x : Event) (rest : List Event) (r : Reply) (n new : Notes) (replies : 
         record {
           after = noted.after;
           replies = rw (replies, append_assoc, is) noted.replies;
-          sent = rw sent (listed_more n.sent _ _ _ (sent_longer x r n.sent) (all_edges g) (sent_on g log xs)
+          sent = rw sent (listed_more n.sent _ _ _ (sent_longer x r n.sent) (all_edges g) (to_deliver g log xs)
               (λ e. sent_in e rest left) (rw is noted.sent));
           delivered = rw delivered (listed_more n.delivered _ _ _ (got_longer x r n.delivered) (all_edges g)
               (delivered_on g log xs) (λ e. delivered_in e rest left) (rw is noted.delivered));
         }
 
 -- all is listed
-listed : (edges : ℕ) (all : ℕ → List Message) (lanes : List Lane) → AreListed edges all lanes (λ e. [])
+listed : (edges : ℕ) (all : ℕ → List Message) (lanes : List Lane) → AreAllListed edges all lanes (λ e. [])
     → (lists : List (List Message)) → lists ≡ map (λ (lane : Lane). lane.messages) lanes
     → (length lists ≡ edges) × ((e : ℕ) → e < edges → get_or lists e [] ≡ all e)
 listed edges all lanes are lists is = (
@@ -150,7 +150,7 @@ pub all_noted : (g : Setting) (log : Log) (xs : List Event) (now : Log) (n : Not
     → replies ≡ n.replies.items → sent ≡ map (λ (lane : Lane). lane.messages) n.sent
     → delivered ≡ map (λ (lane : Lane). lane.messages) n.delivered → IsRecordOf g log xs replies sent delivered
 all_noted g log xs now n replies sent delivered noted replies_are sent_is delivered_is =
-    let first = listed (all_edges g) (sent_on g log xs) n.sent noted.sent sent sent_is in
+    let first = listed (all_edges g) (to_deliver g log xs) n.sent noted.sent sent sent_is in
     let second = listed (all_edges g) (delivered_on g log xs) n.delivered noted.delivered delivered delivered_is in
     record {
       replies_are = rw (replies_are, noted.replies, append-nil);

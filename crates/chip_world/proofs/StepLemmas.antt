@@ -7,7 +7,7 @@ use Rattle.chip_world.proofs.Names.{Act, Done, NotNow, Actor, StandsFor, act_of,
 use Rattle.chip_world.proofs.Names.{WhateverRoot, SomeRoot, RootCanDo, is_of_root, RootMakes, tail_root}
 use Rattle.chip_world.proofs.Names.{rules_met, saw, Log, Step, Event, Clear, Put, Settle, Seal, Read, Feed, End, Part}
 use Rattle.chip_world.proofs.Names.{Rule, Reply, unmet_rule, part_of, reply_of, part_in, word_of_part, sees}
-use Rattle.chip_world.proofs.Names.{step, Fits, graph_edges, all_edges, root, stopper, part_here, part_else}
+use Rattle.chip_world.proofs.Names.{step, FitsLog, graph_edges, all_edges, root, stopper, part_here, part_else}
 use Rattle.chip_world.proofs.Names.{EdgeState, words_of, with_edge, with_seal, seen_in, words_after, CanPerform}
 use Rattle.chip_world.proofs.Names.{is_by_act, WorldState, ShowsEdge, IsActor, StandsForLog, root_fits}
 use Rattle.chip_world.proofs.WordLemmas.{seal_shown, sees_seal, length-words_after, can_perform, root_sees_words}
@@ -55,7 +55,7 @@ module _ (g : Setting) (log : Log) (w : WorldState) (stands : StandsForLog g log
   }
 
   -- the same world but for its words and its root
-  others_stay : (x : Step) → g.game.graph.vertices ≤ part_of g x.event → Fits g log x
+  others_stay : (x : Step) → g.game.graph.vertices ≤ part_of g x.event → FitsLog g log x
       → (words : List EdgeState) (now : Root) → length words ≡ all_edges g
       → ((e : ℕ) → e < all_edges g → (d : EdgeState) → ShowsEdge g (x ∷ log) e (get_or words e d))
       → RootStandsFor g (part_in g (x ∷ log) (root g)) now

@@ -7,7 +7,7 @@ use Rattle.chip_world.proofs.Names.{halts_word, halts_by_limit, Setting, Act, Ca
 use Rattle.chip_world.proofs.Names.{FiringLimit, act_of, event_of, FitsSeen, IsDueBy, MayServe, Serves, IsLonger}
 use Rattle.chip_world.proofs.Names.{rules_met, saw, Log, Step, Event, Fire, Halt, Part, unmet_rule, part_of, does}
 use Rattle.chip_world.proofs.Names.{part_in, word_of_part, sees, part_here, part_kept, fits_seen, seen_in}
-use Rattle.chip_world.proofs.Names.{words_after, CanPerform, is_by_act, halt_bits, TurnWords, Holds}
+use Rattle.chip_world.proofs.Names.{words_after, CanPerform, is_by_act, halt_bits, TurnWords, WordsHold}
 use Rattle.chip_world.proofs.WordLemmas.{length-words_after, can_perform, sees_words, words_shown}
 use Rattle.chip_world.proofs.StepLemmas.{by_act}
 use Rattle.chip_part.specs.declared.act.Act.TheVariants as Do
@@ -19,7 +19,7 @@ word_halts None why fired few is = absurd (cc)
 word_halts (Some SealedEdge) why fired few is = halts_word fired false false few
 word_halts (Some FiringLimit) why fired few is = halts_by_limit fired false false few
 
-module _ (w : TurnWords) (g : Setting) (v : ℕ) (log : Log) (s : Part) (held : Holds w g v log s) (act : Act)
+module _ (w : TurnWords) (g : Setting) (v : ℕ) (log : Log) (s : Part) (held : WordsHold w g v log s) (act : Act)
     (due : IsDueBy g v s act) where
   abbrev x : Event
   x = event_of v act
@@ -53,7 +53,7 @@ module _ (w : TurnWords) (g : Setting) (v : ℕ) (log : Log) (s : Part) (held : 
 
   pub longer : (new : TurnWords) (seen : ℕ) → seen ≡ seen_in act w.fired w.words → new.words ≡ words_after act w.words
       → new.fired ≡ word_of_part (does g (saw x seen) s)
-      → IsLonger (Holds new) g v log s act seen
+      → IsLonger (WordsHold new) g v log s act seen
   longer new seen seen-is words-are fired-is =
       let is : seen ≡ sees g log x = seen-is ∙ sees_it in
       let step : Step = saw x seen in
@@ -73,7 +73,7 @@ module _ (w : TurnWords) (g : Setting) (v : ℕ) (log : Log) (s : Part) (held : 
       }
 
 -- a word can be found in whatever words of a turn they are
-pub finds_some : (w : TurnWords) (act : Act) → MayServe (Holds w) act → CanPerform act w.words
+pub finds_some : (w : TurnWords) (act : Act) → MayServe (WordsHold w) act → CanPerform act w.words
 finds_some w act (g, v, log, s, held, due) = finds w g v log s held act due
 
 -- an operation that neither fires nor halts
@@ -81,12 +81,12 @@ pub serves : (w new : TurnWords) (act : Act) (seen : ℕ) → seen ≡ seen_in a
     → new.words ≡ words_after act w.words → new.fired ≡ w.fired
     → ((g : Setting) (v seen : ℕ) (s : Part)
     → word_of_part s ≡ word_of_part (does g (saw (event_of v act) seen) s))
-    → Serves (Holds w) (Holds new) act seen
+    → Serves (WordsHold w) (WordsHold new) act seen
 serves w new act seen seen-is words-are fired-is keeps = λ g v log s held due. longer w g v log s held act due new seen
     seen-is words-are (fired-is ∙ held.fired_is ∙ keeps g v seen s)
 
 -- a firing
-pub room_to_fire : (w : TurnWords) (k : ℕ) → MayServe (Holds w) (Do.Fire k) → w.fired + k < 2 ^ 64
+pub room_to_fire : (w : TurnWords) (k : ℕ) → MayServe (WordsHold w) (Do.Fire k) → w.fired + k < 2 ^ 64
 room_to_fire w k (g, v, log, s, held, due) =
     let rules = rules_met g (Fire v k) s due.met in
     let word : word_of_part s ≡ (s.fired + 0) + 0 = rw rules.2 in
@@ -96,14 +96,14 @@ room_to_fire w k (g, v, log, s, held, due) =
     omega arith
 
 pub fires : (w new : TurnWords) (k seen : ℕ) → seen ≡ w.fired → new.words ≡ w.words → new.fired ≡ w.fired + k
-    → Serves (Holds w) (Holds new) (Do.Fire k) seen
+    → Serves (WordsHold w) (WordsHold new) (Do.Fire k) seen
 fires w new k seen seen-is words-are fired-is = λ g v log s held due.
     longer w g v log s held (Do.Fire k) due new seen seen-is words-are (rw (fired-is, held.fired_is)
     (adds_firings s.fired k (is_some s.halt) (is_by_limit s.halt)))
 
 -- a halt
 pub halts : (w new : TurnWords) (by_limit : Bool) (seen : ℕ) → seen ≡ w.fired → new.words ≡ w.words
-    → new.fired ≡ bit_or w.fired (halt_bits by_limit) → Serves (Holds w) (Holds new) (Do.Halt by_limit) seen
+    → new.fired ≡ bit_or w.fired (halt_bits by_limit) → Serves (WordsHold w) (WordsHold new) (Do.Halt by_limit) seen
 halts w new by_limit seen seen-is words-are fired-is = λ g v log s held due.
     let rules = rules_met g (Halt v) s due.met in
     let word : word_of_part s ≡ fired_word s.fired false false = rw rules.2 in

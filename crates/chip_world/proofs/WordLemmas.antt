@@ -5,7 +5,7 @@ use Rattle.chip_world.proofs.Names.{◌≡◌, ◌≢◌, ℕ, ◌+◌, ◌-◌,
 use Rattle.chip_world.proofs.Names.{get_or, None, option_to_list, refl, sym, ap, arith, ⊎_elim, length-set}
 use Rattle.chip_world.proofs.Names.{get_or-set_same, get_or-set_other, bit_or, mod_below, get_or_default}
 use Rattle.chip_world.proofs.Names.{dite, ℕ_discrete, IsGame, Setting, cond_yes, cond_no, claims_of, Sound}
-use Rattle.chip_world.proofs.Names.{word_after_exchange, claims_in, may_le, Act, may_ack, cause, is_by_limit, Met}
+use Rattle.chip_world.proofs.Names.{word_after_exchange, claims_in, may_le, Act, may_ack_on, cause, is_by_limit, Met}
 use Rattle.chip_world.proofs.Names.{act_of, rules_met, Log, Event, Take, Ack, Fire, Clear, Claim, Put, Halt, Settle}
 use Rattle.chip_world.proofs.Names.{Seal, Read, Feed, End, unmet_rule, part_of, part_in, out_in, into_in, stop_in}
 use Rattle.chip_world.proofs.Names.{word_of_part, sees, IsLegalLog, head_of, all_edges, graph_edges, stopper, Word}
@@ -219,7 +219,7 @@ module _ (g : Setting) (game : IsGame g.game) (some_ring : 0 < g.ring) (log : Lo
         }
     leaves (Ack e) mine none =
         let l = (met_for (Ack e) none).0 in
-        let n : ℕ = may_ack g (head_of g e) (part_in g log (head_of g e)) e in
+        let n : ℕ = may_ack_on g (head_of g e) (part_in g log (head_of g e)) e in
         let room = can_perform (Ack e) mine none in
         let fits : (words_of words e).acknowledged + n ≡ ((words_of words e).acknowledged + n) % 2 ^ 64 =
         (let few = room.1 in omega arith) in

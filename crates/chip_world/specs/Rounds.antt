@@ -32,34 +32,34 @@ abbrev pub AreRootsSettled : Setting → Log → Log → Type 0
 AreRootsSettled g before after = after ≡ log_after g before (root_settles g g.game.graph.vertices)
 
 -- a round: a turn of each vertex, and then a settle of each root edge
-abbrev pub IsRound : Setting → Log → Log → Type 0
-IsRound g before after = (between : Log) × AreTurns g g.game.graph.vertices before between × AreRootsSettled g between after
+abbrev pub IsWorldRound : Setting → Log → Log → Type 0
+IsWorldRound g before after = (between : Log) × AreTurns g g.game.graph.vertices before between × AreRootsSettled g between after
 
 -- the root isn't closed
-abbrev pub IsOpen : Setting → Log → Type 0
-IsOpen g log = IsClosed g log → ⊥
+abbrev pub IsRootOpen : Setting → Log → Type 0
+IsRootOpen g log = IsClosed g log → ⊥
 
 -- n rounds one after another, the root open before each of them
-abbrev pub AreRounds : Setting → ℕ → Log → Log → Type 0
-AreRounds g zero before after = after ≡ before
-AreRounds g (suc n) before after = (between : Log) × AreRounds g n before between × IsOpen g between
-    × IsRound g between after
+abbrev pub AreOpenRounds : Setting → ℕ → Log → Log → Type 0
+AreOpenRounds g zero before after = after ≡ before
+AreOpenRounds g (suc n) before after = (between : Log) × AreOpenRounds g n before between × IsRootOpen g between
+    × IsWorldRound g between after
 
 -- what a drive answers after `count` of its rounds: the root is closed; or all of them are made and it is open still
 abbrev pub AnswersDrive : Setting → ℕ → ℕ → Log → Drive → Type 0
 AnswersDrive g rounds count after Closed = IsClosed g after
-AnswersDrive g rounds count after (Unfinished n) = (n ≡ rounds) × (count ≡ rounds) × IsOpen g after
+AnswersDrive g rounds count after (Unfinished n) = (n ≡ rounds) × (count ≡ rounds) × IsRootOpen g after
 
 -- a drive of at most `rounds` rounds: it makes the fewest that close the root, or all of them
 pub record IsDrive (g : Setting) (rounds : ℕ) (before after : Log) (result : Drive) : Type 0 where
   pub count : ℕ
   pub within : count ≤ rounds
-  pub are_rounds : AreRounds g count before after
+  pub are_rounds : AreOpenRounds g count before after
   pub answers : AnswersDrive g rounds count after result
 
 -- whatever log the old world stands for, the new one stands for a log that comes after it so
-abbrev pub Leads : WorldState → WorldState → (Setting → Log → Log → Type 0) → Type 0
-Leads old new Follows = WhateverLog old (λ g before. (after : Log) × StandsForLog g after new × Follows g before after)
+abbrev pub LeadsWorld : WorldState → WorldState → (Setting → Log → Log → Type 0) → Type 0
+LeadsWorld old new Follows = WhateverLog old (λ g before. (after : Log) × StandsForLog g after new × Follows g before after)
 
 -- no drive from there ends otherwise: the new world stands for the log after it, and this is its answer
 abbrev pub NoOtherDrive : WorldState → WorldState → ℕ → Drive → Type 0

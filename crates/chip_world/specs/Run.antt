@@ -7,7 +7,7 @@ use Rattle.chip_part.specs.Rules.{Take, Claim, Feed}
 use Rattle.chip_part.specs.declared.reply.Reply.TheVariants.{Got, Sent}
 use Rattle.chip_part.specs.Edges.{mult_of}
 use Rattle.chip_core.specs.Core.{Log, Event, Reply, tail_of, graph_edges, all_edges, fired_by, log_after, replies_to}
-use Rattle.chip_core.specs.Messages.{Message, sent_in, delivered_in, sent_on, delivered_on, chips_in}
+use Rattle.chip_core.specs.Messages.{Message, sent_in, delivered_in, to_deliver, delivered_on, chips_in}
 use Rattle.chip_core.specs.Positions.{held}
 use Rattle.chip_core.specs.Headline.{Headline}
 use Rattle.chip_world.specs.declared.world.running.Record.{Record}
@@ -74,22 +74,22 @@ GotOnEdge (Take e) (Got message) edges = e < edges
 GotOnEdge _ _ edges = Unit {0}
 
 -- room for each message of these events that may come
-abbrev pub HasRoom : (ℕ → Event → Bool) → List Event → List Lane → Type 0
-HasRoom test xs lanes = (e : ℕ) → e < length lanes
+abbrev pub HasRoomForEvents : (ℕ → Event → Bool) → List Event → List Lane → Type 0
+HasRoomForEvents test xs lanes = (e : ℕ) → e < length lanes
     → length (lane_at lanes e).messages + count_among (test e) xs ≤ (lane_at lanes e).capacity
 
 -- a list that opens: such messages, with room for `room` more
-abbrev pub IsOpened : (List Message → Type 0) → ℕ → Lane → Type 0
-IsOpened P room lane = P lane.messages × (length lane.messages + room ≤ lane.capacity)
+abbrev pub IsOpenedLane : (List Message → Type 0) → ℕ → Lane → Type 0
+IsOpenedLane P room lane = P lane.messages × (length lane.messages + room ≤ lane.capacity)
 
 -- room for all that these events bring
 pub record HasRooms (xs : List Event) (n : Notes) : Type 0 where
   pub replies : vec_len n.replies + length xs ≤ vec_capacity n.replies
-  pub sent : HasRoom is_claim_of xs n.sent
-  pub delivered : HasRoom is_take_of xs n.delivered
+  pub sent : HasRoomForEvents is_claim_of xs n.sent
+  pub delivered : HasRoomForEvents is_take_of xs n.delivered
 
 -- of each edge, all messages are those that are listed, and then the rest
-pub record AreListed (edges : ℕ) (all : ℕ → List Message) (lanes : List Lane) (rest : ℕ → List Message) : Type 0 where
+pub record AreAllListed (edges : ℕ) (all : ℕ → List Message) (lanes : List Lane) (rest : ℕ → List Message) : Type 0 where
   pub count_is : length lanes ≡ edges
   pub each : (e : ℕ) → e < edges → all e ≡ (lane_at lanes e).messages ++ rest e
 
@@ -98,8 +98,8 @@ pub record IsNotedUpTo (g : Setting) (log : Log) (xs : List Event) (now : Log) (
     (n : Notes) : Type 0 where
   pub after : log_after g log xs ≡ log_after g now left
   pub replies : replies_to g log xs ≡ n.replies.items ++ replies_to g now left
-  pub sent : AreListed (all_edges g) (sent_on g log xs) n.sent (λ e. sent_in e left (replies_to g now left))
-  pub delivered : AreListed (all_edges g) (delivered_on g log xs) n.delivered
+  pub sent : AreAllListed (all_edges g) (to_deliver g log xs) n.sent (λ e. sent_in e left (replies_to g now left))
+  pub delivered : AreAllListed (all_edges g) (delivered_on g log xs) n.delivered
       (λ e. delivered_in e left (replies_to g now left))
 
 -- the record of the run of xs after this log: the replies; and of each edge, what was in flight before it and what it
@@ -108,7 +108,7 @@ pub record IsRecordOf (g : Setting) (log : Log) (xs : List Event) (replies : Lis
     (sent delivered : List (List Message)) : Type 0 where
   pub replies_are : replies ≡ replies_to g log xs
   pub sent_each : length sent ≡ all_edges g
-  pub sent_on_edge : (e : ℕ) → e < all_edges g → slice_index_or sent e [] ≡ sent_on g log xs e
+  pub sent_on_edge : (e : ℕ) → e < all_edges g → slice_index_or sent e [] ≡ to_deliver g log xs e
   pub delivered_each : length delivered ≡ all_edges g
   pub delivered_on_edge : (e : ℕ) → e < all_edges g → slice_index_or delivered e [] ≡ delivered_on g log xs e
 
@@ -120,7 +120,7 @@ IsHeldByReplies g after xs replies =
     → chips_in (sent_in e xs replies) + held g after e ≡ mult_of g e * fired_by g after (tail_of g e)
 
 -- the world ran xs: it stands for the log after them, this is the record, and the core theorem holds of the run
-pub record Runs (g : Setting) (log : Log) (xs : List Event) (new : WorldState) (r : Record) : Type 0 where
+pub record RunsEvents (g : Setting) (log : Log) (xs : List Event) (new : WorldState) (r : Record) : Type 0 where
   pub world : StandsForLog g (log_after g log xs) new
   pub recorded : IsRecordOf g log xs r.replies.items (map (λ t. t.items) r.sent.items)
       (map (λ t. t.items) r.delivered.items)

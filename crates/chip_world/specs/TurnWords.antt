@@ -7,7 +7,7 @@ use Rattle.chip_world.specs.SharedWords.{EdgeState}
 use Rattle.chip_world.specs.World.{ShowsEdge}
 
 -- they are what this log makes of them, and it leaves this part of the vertex v
-pub record Holds (w : TurnWords) (g : Setting) (v : ℕ) (log : Log) (s : Part) : Type 0 where
+pub record WordsHold (w : TurnWords) (g : Setting) (v : ℕ) (log : Log) (s : Part) : Type 0 where
   pub inside : v < g.game.graph.vertices
   pub is_setting : IsSetting g
   pub legal : IsLegalLog g log

@@ -18,14 +18,14 @@ abbrev pub TriangleRounds : Type 0
 TriangleRounds = rounds_to_close (small_triangle (4 ∷ 0 ∷ 0 ∷ [])).game 1 ≡ 116
 
 -- the sink alone, with five chips
-abbrev pub sink_alone : Setting
-sink_alone =
+abbrev pub lone_sink : Setting
+lone_sink =
     setting_of (record { graph = record { vertices = 1; sink = 0; edges = [] }; start = 5 ∷ []; limit = 2 ^ 40 }) 1
 
 -- it takes its chips and acknowledges them, and the root settles them: one round of ten is enough
 abbrev pub OneRoundCloses : Type 0
-OneRoundCloses = IsDrive sink_alone 10 [] (saw (Settle 0) 1 ∷ saw (Ack 0) 0 ∷ saw (Take 0) 5 ∷ []) Closed
+OneRoundCloses = IsDrive lone_sink 10 [] (saw (Settle 0) 1 ∷ saw (Ack 0) 0 ∷ saw (Take 0) 5 ∷ []) Closed
 
 -- no round is made if none is asked for
 abbrev pub NoRoundLeavesOpen : Type 0
-NoRoundLeavesOpen = IsDrive sink_alone 0 [] [] (Unfinished 0)
+NoRoundLeavesOpen = IsDrive lone_sink 0 [] [] (Unfinished 0)

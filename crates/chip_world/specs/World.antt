@@ -2,11 +2,11 @@
 use Rattle.std.specs.Prelude.{◌≡◌, ℕ, ◌-◌, ◌<◌, if◌then◌else◌, List, [], length, slice_index}
 use Rattle.std.specs.Prelude.{slice_index_or}
 use Rattle.chip_graph.specs.ChipGame.{ChipGame}
-use Rattle.chip_graph.specs.Edges.{is_graph_edge, graph_edges}
+use Rattle.chip_graph.specs.Edges.{is_graph_edge, own_edges}
 use Rattle.chip_part.specs.Setting.{Setting, IsSetting}
-use Rattle.chip_link.specs.Link.{Shows}
+use Rattle.chip_link.specs.Link.{WordsShow}
 use Rattle.chip_actor.specs.Actor as vertex
-use Rattle.chip_root.specs.Root.{Root, RootStandsFor}
+use Rattle.chip_actor.specs.Root.{Root, RootStandsFor}
 use Rattle.chip_core.specs.Core.{Log, Event, Reply, part_in, out_in, into_in, stop_in, all_edges}
 use Rattle.chip_core.specs.Core.{root}
 use Rattle.chip_core.specs.Core.{IsLegalLog, step}
@@ -22,7 +22,7 @@ pub record WorldState : Type 0 where
 -- the words of the edge e are what this log makes of them
 pub record ShowsEdge (g : Setting) (log : Log) (e : ℕ) (w : EdgeState) : Type 0 where
   pub cells_each : length w.cells ≡ g.ring
-  pub shows : Shows g.ring w.word (slice_index w.cells) (out_in g log e).link (into_in g log e).got (stop_in g log e)
+  pub shows : WordsShow g.ring w.word (slice_index w.cells) (out_in g log e).link (into_in g log e).got (stop_in g log e)
   pub acknowledged : w.acknowledged ≡ (into_in g log e).acked
 
 -- the actor of v stands for the part of v
@@ -42,8 +42,8 @@ pub record StandsForLog (g : Setting) (log : Log) (w : WorldState) : Type 0 wher
   pub root_stands : RootStandsFor g (part_in g log (root g)) w.root
 
 -- some log leaves it
-abbrev pub SomeLog : WorldState → Type 0
-SomeLog w = (g : Setting) × (log : Log) × StandsForLog g log w
+abbrev pub SomeLogLeaves : WorldState → Type 0
+SomeLogLeaves w = (g : Setting) × (log : Log) × StandsForLog g log w
 
 -- whatever log leaves it
 abbrev pub WhateverLog : WorldState → (Setting → Log → Type 0) → Type 0
@@ -64,7 +64,7 @@ Steps old new x reply = WhateverLog old (λ g log. MakesStep g log x new reply)
 -- the chips with which an edge opens: on a root edge those that its vertex starts with
 abbrev pub first_chips : ChipGame → ℕ → ℕ
 first_chips game e =
-    if is_graph_edge game.graph e then 0 else slice_index game.start (e - graph_edges game.graph)
+    if is_graph_edge game.graph e then 0 else slice_index game.start (e - own_edges game.graph)
 
 -- the words of the first edges as the game opens
 pub record AreOpeningWords (g : Setting) (count : ℕ) (words : List EdgeState) : Type 0 where

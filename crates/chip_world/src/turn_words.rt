@@ -11,9 +11,9 @@ pub(crate) struct TurnWords {
 }
 
 impl Medium for TurnWords {
-    ghost use Rattle.chip_world.specs.TurnWords.{Holds};
+    ghost use Rattle.chip_world.specs.TurnWords.{WordsHold};
 
-    ghost holds = { λ w. Holds w };
+    ghost holds = { λ w. WordsHold w };
 
     fn take(&mut self, edge: u64, cell: u64) -> u64 {
         self.words.take(edge, cell)

@@ -190,7 +190,7 @@ ghost use Rattle.chip_world.specs.World.{first_chips};
 
 /// The chips with which an edge opens: on a root edge those that its vertex starts with.
 fn first_chips(game: &Game, edge: u64) -> u64
-    requires { edge < Edges.all_edges game.now.graph }
+    requires { edge < Edges.edges_and_roots game.now.graph }
     ensures { result ≡ first_chips game.now edge }
 {
     match game.graph().edge(edge) {

@@ -8,11 +8,10 @@ mod running;
 
 use crate::turn_words::TurnWords;
 use crate::words::Words;
-use chip_actor::ActorState;
+use chip_actor::{ActorState, RootBooks};
 use chip_graph::Game;
 use chip_link::{EdgeWord, Event, FiredWord, Message, Ring};
 use chip_part::{Cause, Reply, Rule, Setting};
-use chip_root::RootBooks;
 pub use driving::Drive;
 pub use running::Record;
 use std::alloc::{AllocError, Global};
@@ -30,7 +29,7 @@ pub struct World {
 }
 
 impl Model for World {
-    ghost use Rattle.chip_world.specs.World.{WorldState, SomeLog};
+    ghost use Rattle.chip_world.specs.World.{WorldState, SomeLogLeaves};
 
     ghost Value = { WorldState };
 
@@ -41,7 +40,7 @@ impl Model for World {
       root = a.root;
     } };
 
-    ghost invariant = { λ a. SomeLog (record {
+    ghost invariant = { λ a. SomeLogLeaves (record {
       setting = a.setting;
       actors = a.actors.items;
       words = a.shared.words;
@@ -60,7 +59,7 @@ impl World {
     ghost use Rattle.chip_world.specs.Makers.{vertex_of, is_of_others, is_by_act};
     ghost use Rattle.chip_part.specs.Acting.{is_of_root};
     ghost use Rattle.chip_part.specs.Acting.{event_of};
-    ghost use Rattle.chip_world.specs.World.{StandsForLog, SomeLog, WhateverLog, SomeLogWhere, MakesStep};
+    ghost use Rattle.chip_world.specs.World.{StandsForLog, SomeLogLeaves, WhateverLog, SomeLogWhere, MakesStep};
     ghost use Rattle.chip_world.specs.World.{Steps};
     ghost use Rattle.chip_link.specs.declared.event.Event.TheVariants.{Seal, Settle, Read};
 
@@ -98,7 +97,7 @@ impl World {
     /// How the game is set up, of which some log leaves this world.
     pub fn setting(&self) -> &Setting
         ensures value { result.now ≡ self.now.setting }
-        ensures some_log { SomeLog self.now }
+        ensures some_log { SomeLogLeaves self.now }
     {
         &self.setting
     }
@@ -265,7 +264,7 @@ impl World {
     pub fn delivered(&self, edge: u64) -> u64
         requires { edge < all_edges self.now.setting }
         ensures value { WhateverLog self.now (λ g log. result ≡ length (into_in g log edge).got) }
-        ensures some_log { SomeLog self.now }
+        ensures some_log { SomeLogLeaves self.now }
     {
         let head = self.setting.head(edge).unwrap();
         let owed = self.actors[head as usize].detect().owed(edge);

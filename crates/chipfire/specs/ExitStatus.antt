@@ -6,6 +6,6 @@ use Rattle.chip_command.specs.declared.ended.Ended.{Ended}
 use Rattle.chip_command.specs.declared.fault.Fault.{Fault}
 
 -- the exit status after a command: the one that it answered, or that of its fault
-abbrev pub status_of : Result Ended Fault → ℕ
-status_of (Ok ended) = ended.status
-status_of (Err fault) = number_of_status (status_of_fault fault)
+abbrev pub exit_status_of : Result Ended Fault → ℕ
+exit_status_of (Ok ended) = ended.status
+exit_status_of (Err fault) = number_of_status (status_of_fault fault)

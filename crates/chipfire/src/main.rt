@@ -8,7 +8,7 @@ ghost use Rattle.std.specs.Prelude.{◌≡◌, if◌then◌else◌, None};
 ghost use Rattle.std.specs.Process.{exit_status};
 ghost use Rattle.chip_console.specs.Options.{limits_of};
 ghost use Rattle.chip_crew.specs.declared.plan.Sharing.TheVariants.{Dealt, Queue};
-ghost use Rattle.chipfire.specs.ExitStatus.{status_of};
+ghost use Rattle.chipfire.specs.ExitStatus.{exit_status_of};
 
 use chip_arguments::{ArgumentsFault, Request, RunArguments, limits, parse};
 use chip_command::{Ended, Fault, Status, conclude, explanations, rules};
@@ -70,7 +70,7 @@ fn main(rt: HostRuntime) -> ExitCode {
 
 /// The exit status after a command.
 fn exit_code(ended: &Result<Ended, Fault>) -> ExitCode
-    ensures { exit_status result ≡ status_of ended.now }
+    ensures { exit_status result ≡ exit_status_of ended.now }
 {
     match ended {
         Ok(ended) => ExitCode::from(ended.status),

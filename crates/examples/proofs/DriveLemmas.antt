@@ -21,7 +21,7 @@ use Rattle.chip_core.proofs.PlayingLemmas.{unsealed_halts_none}
 use Rattle.chip_core.proofs.ReachingLemmas.{run_legal}
 use Rattle.chip_core.proofs.ReplyLemmas.{log_after-append}
 use Rattle.chip_world.specs.World.{WorldState, StandsForLog, WhateverLog}
-use Rattle.chip_world.specs.Rounds.{AreTurns, root_settles, AreRounds, IsDrive, Leads}
+use Rattle.chip_world.specs.Rounds.{AreTurns, root_settles, AreOpenRounds, IsDrive, LeadsWorld}
 use Rattle.chip_world.specs.declared.world.driving.Drive.{Drive}
 use Rattle.chip_world.specs.declared.fault.WorldFault.{WorldFault}
 use Rattle.chip_world.proofs.OwnTurnLemmas.{turn_is_own}
@@ -62,7 +62,7 @@ module _ (g : Setting) where
       (sym (log_after-append g log (root_settles g n) (Settle (root_edge g n) ∷ [])))
       (settle_seals_none (root_edge g n) (log_after g log (root_settles g n)) _ (settles_seal_none n log none))
 
-  rounds_seal_none : (n : ℕ) (before after : Log) → IsGame g.game → IsLegalLog g before → AreRounds g n before after
+  rounds_seal_none : (n : ℕ) (before after : Log) → IsGame g.game → IsLegalLog g before → AreOpenRounds g n before after
       → SealsNone before → IsLegalLog g after × SealsNone after
   rounds_seal_none zero before after game legal same none =
       (subst (IsLegalLog g) (sym same) legal, subst SealsNone (sym same) none)
@@ -75,7 +75,7 @@ module _ (g : Setting) where
 
 -- what a drive from the opening comes to is every end of the game
 driven_end : (game : ChipGame) (ring : ℕ) (old new : WorldState) (rounds : ℕ) (drive : Drive) (o : Outcome)
-    → StandsForLog (setting_of game ring) [] old → Leads old new (λ g before after. IsDrive g rounds before after drive)
+    → StandsForLog (setting_of game ring) [] old → LeadsWorld old new (λ g before after. IsDrive g rounds before after drive)
     → WhateverLog new (λ g log. NoneHaltedBySeal g log → IsPlayed (played_game g log) o)
     → IsEveryEnd game o.fired.items o.chips.items
 driven_end game ring old new rounds drive o opens leads plays =
@@ -90,7 +90,7 @@ driven_end game ring old new rounds drive o opens leads plays =
 -- and so if its outcome is told
 pub actors_end : (game : ChipGame) (ring : ℕ) (old new : WorldState) (rounds : ℕ) (drive : Drive)
     (r : Result Outcome WorldFault) → StandsForLog (setting_of game ring) [] old
-    → Leads old new (λ g before after. IsDrive g rounds before after drive)
+    → LeadsWorld old new (λ g before after. IsDrive g rounds before after drive)
     → IfOk r (λ o. WhateverLog new (λ g log. NoneHaltedBySeal g log → IsPlayed (played_game g log) o))
     → IfOk r (λ o. IsEveryEnd game o.fired.items o.chips.items)
 actors_end game ring old new rounds drive (Ok o) opens leads plays =

@@ -20,7 +20,7 @@ use Rattle.chip_fire.specs.Avalanches.{dropped, IsAvalanche, TellsAvalanche}
 use Rattle.chip_fire.specs.declared.avalanche.Avalanche.{Avalanche}
 use Rattle.chip_fire.specs.declared.pile.Pile.{Pile}
 use Rattle.chip_report.specs.Reportable.{content}
-use Rattle.chip_trace.specs.Interleaving.{Placed, rows_of, fires, firings, with_firing}
+use Rattle.chip_trace.specs.Interleaving.{Placed, rows_of, fires, row_firings, with_firing}
 use Rattle.chip_link.specs.declared.trace.TraceRow.{TraceRow}
 use Rattle.chip_link.specs.declared.trace.TraceRow.TheVariants.{Take, Fire}
 use Rattle.chip_command.proofs.OneReportLemmas.{same_numbers}
@@ -37,7 +37,7 @@ use Rattle.chip_crew.specs.declared.plan.Plan.{Plan}
 use Rattle.chip_crew.specs.declared.plan.Sharing.{Sharing}
 use Rattle.chip_crew.specs.declared.play.Finished.{Finished}
 use Rattle.chip_crew.proofs.FinishingLemmas.{net_is}
-use Rattle.examples.specs.Answers.{IsEveryEnd, IsSomeEnd, SetsOff, left_by, fired_by}
+use Rattle.examples.specs.Answers.{IsEveryEnd, IsSomeEnd, SetsOffAvalanche, final_chips, firings_by}
 
 -- the outcome of a game is every end
 pub every_end : (g : ChipGame) (o : Outcome) → IsPlayed g o → IsEveryEnd g o.fired.items o.chips.items
@@ -75,24 +75,24 @@ goes_on G earlier later limit on x before =
 pub sets_off : (g : ChipGame) (o : Outcome) → IsPlayed g o → (p p' : Pile) → p.game ≡ g
     → p.chips.items ≡ o.chips.items → (v count : ℕ) (told : Option Avalanche)
     → TellsAvalanche p.game.graph (dropped (slice_index p.chips.items) v count) p' told
-    → IfSome told (SetsOff g v count)
+    → IfSome told (SetsOffAvalanche g v count)
 sets_off g o played p p' game chips v count None tells = tt
 sets_off g o played p p' game chips v count (Some a) tells = λ us whole vs ok ended.
-    let here : slice_index p.chips.items ≡ left_by g us =
+    let here : slice_index p.chips.items ≡ final_chips g us =
     (λ i u. (ap (λ (xs : List ℕ). slice_index xs u) chips ∙ played.position us whole u) i) in
     let there = subst (λ (x : ℕ → ℕ). IsAvalanche p.game.graph (dropped x v count) a (slice_index p'.chips.items)) here
     tells.1 in
-    let x : ℕ → ℕ = dropped (left_by g us) v count in
+    let x : ℕ → ℕ = dropped (final_chips g us) v count in
     let is = subst (λ (k : ChipGame). IsAvalanche k.graph x a (slice_index p'.chips.items)) game there in
     is.tells vs ok ended
 
 -- of each vertex an interleaving has the firings of its own rows, in order
-pub fired_by_rows : (v : ℕ) (xs : List Placed) → fired_by v (firings xs) ≡ fires (rows_of xs v)
+pub fired_by_rows : (v : ℕ) (xs : List Placed) → firings_by v (row_firings xs) ≡ fires (rows_of xs v)
 fired_by_rows v [] = refl
 fired_by_rows v (x ∷ xs) = one_more x.vertex x.row (fired_by_rows v xs)
   where
-    one_more : (u : ℕ) (row : TraceRow) → fired_by v (firings xs) ≡ fires (rows_of xs v)
-        → fired_by v (with_firing u row (firings xs)) ≡ fires (if u == v then row ∷ rows_of xs v else rows_of xs v)
+    one_more : (u : ℕ) (row : TraceRow) → firings_by v (row_firings xs) ≡ fires (rows_of xs v)
+        → firings_by v (with_firing u row (row_firings xs)) ≡ fires (if u == v then row ∷ rows_of xs v else rows_of xs v)
     one_more u (Take edge count) rest = grind (arith, nat_tests)
     one_more u (Fire k) rest = grind (arith, nat_tests)
 

@@ -12,7 +12,7 @@ use Rattle.chip_sequence.specs.Firing.{IsStable}
 use Rattle.chip_report.specs.ReportText.{is_closed}
 use Rattle.chip_command.specs.Reports.{plain_status}
 use Rattle.chip_command.proofs.OneReportLemmas.{one_more}
-use Rattle.chip_engine.specs.AvalanchesCommand.{Closes, ComesTo}
+use Rattle.chip_engine.specs.AvalanchesCommand.{Closes, DropsComeTo}
 use Rattle.examples.specs.Rows.{AreRowsBy}
 
 no_members : (xs : List ℕ) → ((v : ℕ) → Contains xs v → ⊥) → xs ≡ []
@@ -52,7 +52,7 @@ none_more g = record {
 
 -- what drops come to, by the status of the outcome
 pub rows_by : (g : ChipGame) (ds : List (ℕ × ℕ)) (text : List ℕ) (g' : ChipGame) (o : Outcome) (status : ℕ)
-    → IsPlayed g' o → status ≡ plain_status o → ComesTo g ds text g' o → AreRowsBy g ds text status
+    → IsPlayed g' o → status ≡ plain_status o → DropsComeTo g ds text g' o → AreRowsBy g ds text status
 rows_by g ds text g' o status played is (inl (tells, more)) =
     inl (is ∙ done o (closes g ds g' o more played tells.0), tells)
 rows_by g ds text g' o status played is (inr (inl (n, inside, tells, more, open_yet))) =

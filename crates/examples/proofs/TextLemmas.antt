@@ -7,7 +7,7 @@ use Rattle.chip_graph.specs.ChipGame.{ChipGame}
 use Rattle.chip_sequence.specs.Outcomes.{IsOutcome}
 use Rattle.chip_sequence.specs.declared.outcome.Outcome.{Outcome}
 use Rattle.chip_report.specs.ReportText.{report_text}
-use Rattle.chip_report.specs.Reportable.{content, FitsIn, IsReportWithin, IsNoReportWithin, Gives}
+use Rattle.chip_report.specs.Reportable.{content, FitsIn, IsReportWithin, IsNoReportWithin, GivesReport}
 use Rattle.chip_report.specs.declared.fault.ReportFault.{ReportFault}
 use Rattle.chip_report.specs.declared.fault.ReportFault.TheVariants.{NoMemory}
 use Rattle.chip_report.proofs.ReportLemmas.{one_outcome}
@@ -19,15 +19,15 @@ use Rattle.chip_engine.specs.AvalanchesCommand.{AvalanchesAnswers, ReportAnswer,
 use Rattle.chip_engine.specs.GuessCommand.{GuessAnswers}
 use Rattle.chip_engine.specs.RecurrentCommand.{RecurrentAnswers, IdentityAnswers, TellsWhether}
 use Rattle.chip_engine.specs.VerifyCommand.{VerifyAnswers}
-use Rattle.examples.specs.Answers.{IsReportOf, IsToldEnd, IsRecurrentOf, IsIdentityOf}
-use Rattle.examples.specs.Rows.{AreRowsOf, AreRowsBy}
+use Rattle.examples.specs.Answers.{IsGameReport, IsToldEnd, IsRecurrentOf, IsIdentityOf}
+use Rattle.examples.specs.Rows.{AreDropRows, AreRowsBy}
 use Rattle.examples.proofs.EndLemmas.{every_end}
 use Rattle.examples.proofs.RowLemmas.{rows_by}
 
 -- the report of an outcome is read back as it
 pub read_again : (outcome : Outcome) → IsOutcome outcome → FitsIn standard outcome → (bytes : List ℕ)
     → bytes ≡ report_text outcome → (r : Result Outcome ReportFault)
-    → Gives (IsReportWithin standard bytes) (IsNoReportWithin standard bytes) r
+    → GivesReport (IsReportWithin standard bytes) (IsNoReportWithin standard bytes) r
     → MatchResult r (λ read. content read ≡ content outcome) (λ f. f ≡ NoMemory)
 read_again outcome ok fits bytes is (Ok read) gives =
     one_outcome read outcome gives.0.reportable ok (sym gives.0.spelled ∙ is)
@@ -38,7 +38,7 @@ read_again outcome ok fits bytes is (Err f) (inr none) =
 module _ (graph chips : List ℕ) (limit : ℕ) (start report : List ℕ) (ended : Ended) (empty : start ≡ [])
     (writes : PlainWrites standard graph chips limit (Some start) (Some report) ended) where
   -- what was written behind nothing is the report
-  pub is_report : IsReportOf graph chips limit report
+  pub is_report : IsGameReport graph chips limit report
   is_report =
       let (g, means, text, (o, played, is, status), out) = writes in
       (g, means, o, every_end g o played, out ∙ ap (λ (before : List ℕ). before ++ text) empty ∙ is)
@@ -83,7 +83,7 @@ pub are_rows : (graph chips drops : List ℕ) (limit : ℕ) (start text : List �
     (ended : Ended) → start ≡ []
     → AvalanchesAnswers standard (Some graph) (Some chips) (Some drops) limit
     (record { rows = Some start; report = old }) (record { rows = Some text; report = new }) (Ok ended)
-    → AreRowsOf graph chips drops limit text ended.status
+    → AreDropRows graph chips drops limit text ended.status
 are_rows graph chips drops limit start text old new ended empty (inl refused) = absurd refused
 are_rows graph chips drops limit start text old new ended empty (inr (g, gave, ds, gives, inr refused)) = absurd refused
 are_rows graph chips drops limit start text old new ended empty

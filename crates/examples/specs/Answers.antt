@@ -17,26 +17,26 @@ use Rattle.chip_report.specs.ReportTwo.{IsAnyReportWithin}
 use Rattle.chip_command.specs.Inputs.{MeansGame}
 
 -- a list of vertices is a whole play of the game
-abbrev pub Plays : ChipGame → List ℕ → Type 0
-Plays g vs = IsWholePlay g.graph (slice_index g.start) g.limit vs
+abbrev pub IsFullPlay : ChipGame → List ℕ → Type 0
+IsFullPlay g vs = IsWholePlay g.graph (slice_index g.start) g.limit vs
 
 -- the chips of each vertex after it
-abbrev pub left_by : ChipGame → List ℕ → ℕ → ℕ
-left_by g vs = position_after g.graph (slice_index g.start) vs
+abbrev pub final_chips : ChipGame → List ℕ → ℕ → ℕ
+final_chips g vs = position_after g.graph (slice_index g.start) vs
 
 -- the game has a whole play, and each fires each vertex as often as `fired` says and leaves these chips
 pub record IsEveryEnd (g : ChipGame) (fired chips : List ℕ) : Type 0 where
-  pub some : (vs : List ℕ) × Plays g vs
-  pub counted : (vs : List ℕ) → Plays g vs → (v : ℕ) → slice_index fired v ≡ counts vs v
-  pub left : (vs : List ℕ) → Plays g vs → (v : ℕ) → slice_index chips v ≡ left_by g vs v
+  pub some : (vs : List ℕ) × IsFullPlay g vs
+  pub counted : (vs : List ℕ) → IsFullPlay g vs → (v : ℕ) → slice_index fired v ≡ counts vs v
+  pub left : (vs : List ℕ) → IsFullPlay g vs → (v : ℕ) → slice_index chips v ≡ final_chips g vs v
 
 -- wherever a whole play of the game ended: `count` chips dropped on v there set off what the avalanche tells, in each
 -- firing sequence that ends
-abbrev pub SetsOff : ChipGame → (v count : ℕ) → Avalanche → Type 0
-SetsOff g v count a = (us : List ℕ) → Plays g us → (vs : List ℕ)
-    → IsFiringSequence g.graph (dropped (left_by g us) v count) vs
-    → HasEnded g.graph (dropped (left_by g us) v count) vs
-    → Tells g.graph (dropped (left_by g us) v count) a vs
+abbrev pub SetsOffAvalanche : ChipGame → (v count : ℕ) → Avalanche → Type 0
+SetsOffAvalanche g v count a = (us : List ℕ) → IsFullPlay g us → (vs : List ℕ)
+    → IsFiringSequence g.graph (dropped (final_chips g us) v count) vs
+    → HasEnded g.graph (dropped (final_chips g us) v count) vs
+    → Tells g.graph (dropped (final_chips g us) v count) a vs
 
 -- some firing sequence of the game within its limit fires each vertex as often as `fired` says and leaves these chips
 pub record IsSomeEnd (g : ChipGame) (fired chips : List ℕ) : Type 0 where
@@ -44,24 +44,24 @@ pub record IsSomeEnd (g : ChipGame) (fired chips : List ℕ) : Type 0 where
   pub sequence : IsFiringSequence g.graph (slice_index g.start) vs
   pub within : IsWithin g.limit vs
   pub counted : (v : ℕ) → slice_index fired v ≡ counts vs v
-  pub left : (v : ℕ) → slice_index chips v ≡ left_by g vs v
+  pub left : (v : ℕ) → slice_index chips v ≡ final_chips g vs v
 
 -- the report of the game of two texts: that of every end
-abbrev pub IsReportOf : (graph_text chips_text : List ℕ) → ℕ → List ℕ → Type 0
-IsReportOf graph_text chips_text limit report = (g : ChipGame) × MeansGame standard graph_text chips_text limit g
+abbrev pub IsGameReport : (graph_text chips_text : List ℕ) → ℕ → List ℕ → Type 0
+IsGameReport graph_text chips_text limit report = (g : ChipGame) × MeansGame standard graph_text chips_text limit g
     × (o : Outcome) × IsEveryEnd g o.fired.items o.chips.items × (report ≡ report_text o)
 
 -- a report of any sitting tells the counts and the chips of every whole play of the game of two texts
 abbrev pub IsToldEnd : (graph_text chips_text : List ℕ) → ℕ → List ℕ → Type 0
 IsToldEnd graph_text chips_text limit report = (g : ChipGame) × MeansGame standard graph_text chips_text limit g
     × (told : Resumed) × IsAnyReportWithin standard report told
-    × ((vs : List ℕ) → Plays g vs → (v : ℕ) → v < g.graph.vertices
-    → (fired_in_all told v ≡ counts vs v) × (slice_index told.outcome.chips.items v ≡ left_by g vs v))
+    × ((vs : List ℕ) → IsFullPlay g vs → (v : ℕ) → v < g.graph.vertices
+    → (fired_in_all told v ≡ counts vs v) × (slice_index told.outcome.chips.items v ≡ final_chips g vs v))
 
 -- what v fired, in order
-abbrev pub fired_by : ℕ → List (ℕ × ℕ) → List ℕ
-fired_by v [] = []
-fired_by v (x ∷ xs) = if x.0 == v then x.1 ∷ fired_by v xs else fired_by v xs
+abbrev pub firings_by : ℕ → List (ℕ × ℕ) → List ℕ
+firings_by v [] = []
+firings_by v (x ∷ xs) = if x.0 == v then x.1 ∷ firings_by v xs else firings_by v xs
 
 -- a text has the recurrent chips that are equivalent to those of two texts, and it is said whether those are recurrent
 abbrev pub IsRecurrentOf : (graph_text chips_text text : List ℕ) → Bool → Type 0

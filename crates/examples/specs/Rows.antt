@@ -16,7 +16,7 @@ AreRowsBy g ds text status =
     ⊎ ((status ≡ 2) × (text ≡ rows_text []) × (Closes g [] → ⊥))
 
 -- they are the rows of these drops on the game of these texts
-abbrev pub AreRowsOf : (graph_text chips_text drops_text : List ℕ) → ℕ → List ℕ → ℕ → Type 0
-AreRowsOf graph_text chips_text drops_text limit text status =
+abbrev pub AreDropRows : (graph_text chips_text drops_text : List ℕ) → ℕ → List ℕ → ℕ → Type 0
+AreDropRows graph_text chips_text drops_text limit text status =
     (g : ChipGame) × MeansGame standard graph_text chips_text limit g
     × (ds : List (ℕ × ℕ)) × (drops_of_text g.graph.vertices drops_text ≡ Some ds) × AreRowsBy g ds text status

@@ -7,7 +7,7 @@ ghost use Rattle.chip_sequence.specs.Counted.{game_from};
 ghost use Rattle.chip_sequence.specs.Sittings.{IsResumed, IsPlayFrom};
 ghost use Rattle.chip_library.specs.EdgeLists.{graph_of};
 ghost use Rattle.chip_library.specs.Batch.{row, game_at};
-ghost use Rattle.examples.specs.Answers.{IsEveryEnd, SetsOff};
+ghost use Rattle.examples.specs.Answers.{IsEveryEnd, SetsOffAvalanche};
 
 use chip_fire::{Avalanche, Outcome, Pile, ResumeFault, Resumed, plain, resume};
 use chip_graph::{Edge, Game, Graph};
@@ -61,7 +61,7 @@ pub fn avalanche(
     requires game { IsGame game }
     requires is_vertex { vertex < game.graph.vertices }
     requires few_chips { sum game.start + count ≤ max_total }
-    ensures { IfOk result (λ told. IfSome told (SetsOff game vertex count)) }
+    ensures { IfOk result (λ told. IfSome told (SetsOffAvalanche game vertex count)) }
 {
     let outcome = plain(alloc, &game)?;
     if !is_closed(&outcome) {

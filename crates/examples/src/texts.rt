@@ -9,8 +9,8 @@ ghost use Rattle.chip_report.specs.Reportable.{content, FitsIn};
 ghost use Rattle.chip_report.specs.declared.fault.ReportFault.TheVariants.{NoMemory};
 ghost use Rattle.chip_trace.specs.Interleaving.{fires, trace_of};
 ghost use Rattle.chip_command.specs.Inputs.{MeansGame};
-ghost use Rattle.examples.specs.Answers.{IsReportOf, IsToldEnd, fired_by, IsRecurrentOf, IsIdentityOf};
-ghost use Rattle.examples.specs.Rows.{AreRowsOf};
+ghost use Rattle.examples.specs.Answers.{IsGameReport, IsToldEnd, firings_by, IsRecurrentOf, IsIdentityOf};
+ghost use Rattle.examples.specs.Rows.{AreDropRows};
 
 use chip_command::{Ended, Fault, PlayOptions};
 use chip_engine::{
@@ -60,7 +60,7 @@ pub fn with_guess(
     guess: &[u8],
     limit: u64,
 ) -> Result<(Vec<u8>, Vec<u8>), Fault>
-    ensures report { IfOk result (λ r. IsReportOf graph.now chips.now limit r.0.items) }
+    ensures report { IfOk result (λ r. IsGameReport graph.now chips.now limit r.0.items) }
     ensures same { IfOk result (λ r. r.1.items ≡ r.0.items) }
 {
     let (mut without, mut with) = (Vec::new(alloc), Vec::new(alloc));
@@ -103,7 +103,7 @@ pub fn rows_of_drops(
     drops: &[u8],
     limit: u64,
 ) -> Result<(Vec<u8>, Ended), Fault>
-    ensures { IfOk result (λ r. AreRowsOf graph.now chips.now drops.now limit r.0.items r.1.status) }
+    ensures { IfOk result (λ r. AreDropRows graph.now chips.now drops.now limit r.0.items r.1.status) }
 {
     let (mut graph, mut chips, mut drops) = (graph, chips, drops);
     let mut text = Vec::new(alloc);
@@ -148,7 +148,7 @@ pub fn identity_of_text(alloc: Global, graph: &[u8]) -> Result<Vec<u8>, Fault>
 pub fn firings_of_trace(alloc: Global, game: &Game, trace: &[u8]) -> Result<Vec<(u64, u64)>, Fault>
     ensures { IfOk result (λ fired. (traces : List (List TraceRow))
         × (traces_of_text game.now.graph trace.now ≡ Some traces)
-        × ((v : ℕ) → fired_by v fired.items ≡ fires (trace_of traces v))) }
+        × ((v : ℕ) → firings_by v fired.items ≡ fires (trace_of traces v))) }
 {
     let mut trace = trace;
     let traces = read_trace(alloc, &mut trace, game.graph())?;

@@ -15,19 +15,19 @@ pub struct Ins {
 }
 
 impl Model for Ins {
-    ghost use Rattle.chip_actor.specs.Ends.{InEnds, ins_of, AreApart};
+    ghost use Rattle.chip_actor.specs.Ends.{InEnds, in_ends_of, AreApart};
 
     ghost Value = { InEnds };
 
-    ghost view = { λ a. ins_of a.ends.items };
+    ghost view = { λ a. in_ends_of a.ends.items };
 
-    ghost invariant = { λ a. AreApart (ins_of a.ends.items).edges a.ends.items };
+    ghost invariant = { λ a. AreApart (in_ends_of a.ends.items).edges a.ends.items };
 }
 
 impl Ins {
     ghost use Rattle.chip_detect.specs.Slot.{IsSlotOf};
     ghost use Rattle.chip_link.specs.Ends.{head_cell, new_head, message_taken, head_after_take};
-    ghost use Rattle.chip_actor.specs.Ends.{InEnds, ins_of, in_on, AreApart, ChangesIn};
+    ghost use Rattle.chip_actor.specs.Ends.{InEnds, in_ends_of, in_on, AreApart, ChangesIn};
     ghost use Rattle.chip_actor.specs.Actor.{Actor, with_taken};
     ghost use Rattle.chip_actor.specs.Medium.{Meets, Moves};
 
@@ -47,7 +47,7 @@ impl Ins {
     /// What is known of the edges, in their order.
     pub fn ends(&self) -> &[HeadLink]
         ensures ends { result.now ≡ self.now.ends }
-        ensures edges { (ins_of result.now).edges ≡ self.now.edges }
+        ensures edges { (in_ends_of result.now).edges ≡ self.now.edges }
         ensures apart { AreApart self.now.edges result.now }
     {
         self.ends.as_slice()

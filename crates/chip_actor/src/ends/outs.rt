@@ -28,13 +28,13 @@ pub struct Outs {
 }
 
 impl Model for Outs {
-    ghost use Rattle.chip_actor.specs.Ends.{OutEnds, outs_of, AreApart};
+    ghost use Rattle.chip_actor.specs.Ends.{OutEnds, out_ends_of, AreApart};
 
     ghost Value = { OutEnds };
 
-    ghost view = { λ a. outs_of a.ends.items };
+    ghost view = { λ a. out_ends_of a.ends.items };
 
-    ghost invariant = { λ a. AreApart (outs_of a.ends.items).edges a.ends.items };
+    ghost invariant = { λ a. AreApart (out_ends_of a.ends.items).edges a.ends.items };
 }
 
 impl Outs {
@@ -42,7 +42,7 @@ impl Outs {
     ghost use Rattle.chip_link.specs.Words.{claims_in};
     ghost use Rattle.chip_actor.specs.Ends.{AreApart, IsFirstFrom};
     ghost use Rattle.chip_link.specs.Ends.{put_of, message_claimed, may_clear, claim_words, tail_after_clear};
-    ghost use Rattle.chip_actor.specs.Ends.{OutEnds, OutEnd, outs_of, out_on, ChangesOut, ChangesOuts, IsFreshOuts};
+    ghost use Rattle.chip_actor.specs.Ends.{OutEnds, OutEnd, out_ends_of, out_on, ChangesOut, ChangesOuts, IsFreshOuts};
     ghost use Rattle.chip_actor.specs.Ends.{out_after_clear, out_after_claim, out_after_put, out_after_fire};
     ghost use Rattle.chip_actor.specs.Actor.{Actor, with_sent};
     ghost use Rattle.chip_actor.specs.Medium.{Meets, Moves};
@@ -63,7 +63,7 @@ impl Outs {
     /// What is known of the edges, in their order.
     pub fn ends(&self) -> &[OutEnd]
         ensures ends { result.now ≡ self.now.ends }
-        ensures edges { (outs_of result.now).edges ≡ self.now.edges }
+        ensures edges { (out_ends_of result.now).edges ≡ self.now.edges }
         ensures apart { AreApart self.now.edges result.now }
     {
         self.ends.as_slice()

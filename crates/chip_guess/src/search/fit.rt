@@ -1,7 +1,7 @@
 use super::Search;
 use crate::hierarchy::Hierarchy;
 use crate::level::{Level, narrow};
-use crate::solver::HeightRange;
+use crate::solver::{HeightRange, Target};
 use crate::tuning::{CLEAR_LOSS, PATCH};
 use std::alloc::{AllocError, Global};
 use std::num::{nearest_i64_to_f64, nearest_u64_to_f64};
@@ -35,14 +35,18 @@ impl Sum {
     }
 }
 
-impl<'a> Search<'a> {
+impl Search {
     /// Fits target heights to what counts, which were lowered between walls, leave in each patch. After the first fit a
     /// height goes twice the way to the mean of its patch, if that has clearly lost firings: between walls counts come
     /// only a part of the way.
-    pub(super) fn fit_heights(&mut self, alloc: Global) -> Result<(), AllocError> {
+    pub(super) fn fit_heights(
+        &mut self,
+        alloc: Global,
+        target: Target<'_>,
+    ) -> Result<(), AllocError> {
         let mut patches = vec![in alloc; 0; self.heights.len()]?;
-        let mut sums = vec![in alloc; Sum::default(); find_patches(self.hierarchy, &mut patches)]?;
-        self.add_up(&patches, &mut sums);
+        let mut sums = vec![in alloc; Sum::default(); find_patches(&self.hierarchy, &mut patches)]?;
+        self.add_up(target, &patches, &mut sums);
         let level: &Level = &self.hierarchy.finest;
         for (vertex, height) in self.heights.iter_mut().enumerate() {
             if let Some(patch) = patches.get(vertex) {
@@ -55,9 +59,9 @@ impl<'a> Search<'a> {
     }
 
     /// Adds up what the vertices of each patch have.
-    fn add_up(&self, patches: &[u32], sums: &mut [Sum]) {
+    fn add_up(&self, target: Target<'_>, patches: &[u32], sums: &mut [Sum]) {
         for (vertex, patch) in patches.iter().enumerate() {
-            let (counts, fired) = (self.counts.as_slice(), self.target.fired);
+            let (counts, fired) = (self.counts.as_slice(), target.fired);
             let own = self.burning.at(vertex);
             if own.fires > 0 && vertex < counts.len() && vertex < fired.len() {
                 if let Some(sum) = sums.get_mut(*patch as usize) {

@@ -14,14 +14,14 @@ pub enum Drive {
 
 impl World {
     ghost use Rattle.chip_world.specs.World.{SomeLogWhere};
-    ghost use Rattle.chip_world.specs.Rounds.{Leads, IsTurnAfter, AreTurns, AreRootsSettled, IsRound, IsDrive};
+    ghost use Rattle.chip_world.specs.Rounds.{LeadsWorld, IsTurnAfter, AreTurns, AreRootsSettled, IsWorldRound, IsDrive};
     ghost use Rattle.chip_world.specs.Rounds.{NoOtherDrive, ClosesBy};
     ghost use Rattle.chip_world.specs.Enough.{ClosesIn};
 
     /// One whole turn of a vertex, over the shared words.
     fn turn(&mut self, vertex: u64)
         requires { SomeLogWhere self.old (λ g log. vertex < g.game.graph.vertices) }
-        ensures { Leads self.old self.new (λ g before after. IsTurnAfter g vertex before after) }
+        ensures { LeadsWorld self.old self.new (λ g before after. IsTurnAfter g vertex before after) }
     {
         let actor = &mut self.actors[vertex as usize];
         let fired = fired_word(actor);
@@ -31,7 +31,7 @@ impl World {
 
     /// A turn of each vertex.
     fn turns(&mut self)
-        ensures { Leads self.old self.new (λ g before after. AreTurns g g.game.graph.vertices before after) }
+        ensures { LeadsWorld self.old self.new (λ g before after. AreTurns g g.game.graph.vertices before after) }
     {
         for vertex in 0..self.setting.vertices() {
             self.turn(vertex);
@@ -40,7 +40,7 @@ impl World {
 
     /// A settle of each root edge.
     fn settle_roots(&mut self)
-        ensures { Leads self.old self.new AreRootsSettled }
+        ensures { LeadsWorld self.old self.new AreRootsSettled }
     {
         for vertex in 0..self.setting.vertices() {
             let edge = self.setting.root_edge(vertex);
@@ -50,7 +50,7 @@ impl World {
 
     /// A turn of each vertex, and then a settle of each root edge.
     fn round(&mut self)
-        ensures { Leads self.old self.new IsRound }
+        ensures { LeadsWorld self.old self.new IsWorldRound }
     {
         self.turns();
         self.settle_roots();
@@ -60,7 +60,7 @@ impl World {
     /// turn, and then the root settles each of its edges. Once the end is noted and the root has put what it claimed,
     /// as many rounds as `rounds_to_close` close it (`specs/Enough.antt`), or more than steps can count.
     pub fn drive(&mut self, rounds: u64) -> Drive
-        ensures drives { Leads self.old self.new (λ g before after. IsDrive g rounds before after result) }
+        ensures drives { LeadsWorld self.old self.new (λ g before after. IsDrive g rounds before after result) }
         ensures no_other { NoOtherDrive self.old self.new rounds result }
         ensures closes { ClosesBy self.old rounds result }
         ensures closes_in { ClosesIn self.old rounds result }

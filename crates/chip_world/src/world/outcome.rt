@@ -13,7 +13,7 @@ impl World {
     ghost use Rattle.chip_core.specs.Core.{IsClosed};
     ghost use Rattle.chip_core.specs.Positions.{chips_given, played_game, firings};
     ghost use Rattle.chip_core.specs.Headline.{NoneHaltedBySeal};
-    ghost use Rattle.chip_world.specs.World.{SomeLog, WhateverLog};
+    ghost use Rattle.chip_world.specs.World.{SomeLogLeaves, WhateverLog};
     ghost use Rattle.chip_core.specs.Outcomes.{halted_by, AreFired, IsOutcomeOf, ComesTo};
     ghost use Rattle.chip_world.specs.declared.fault.WorldFault.TheVariants.{NotClosed};
 
@@ -48,7 +48,7 @@ impl World {
     // The chips of each vertex by how often each fired, from what each was given at the start and by feeds.
     fn chips_after(&self, alloc: Global, fired: &[u64]) -> Result<Vec<u64>, AllocError>
         requires { WhateverLog self.now (λ g log. AreFired g log g.game.graph.vertices fired.now) }
-        ensures some { SomeLog self.now }
+        ensures some { SomeLogLeaves self.now }
         ensures chips { IfOk result (λ chips. WhateverLog self.now
             (λ g log. IsAfter (played_game g log) fired.now chips.items)) }
     {

@@ -128,12 +128,12 @@ fn count_one(counts: &mut Vec<usize>, edge: Option<u64>)
 }
 
 impl World {
-    ghost use Rattle.chip_world.specs.World.{SomeLog, WhateverLog};
-    ghost use Rattle.chip_world.specs.Run.{HasRooms, IsNotedUpTo, Runs};
+    ghost use Rattle.chip_world.specs.World.{SomeLogLeaves, WhateverLog};
+    ghost use Rattle.chip_world.specs.Run.{HasRooms, IsNotedUpTo, RunsEvents};
 
     /// An empty record, with room for all that these events may bring.
     fn blank_notes(&self, alloc: Global, events: &[Event]) -> Result<Notes, AllocError>
-        ensures some { SomeLog self.now }
+        ensures some { SomeLogLeaves self.now }
         ensures rooms { IfOk result (HasRooms events.now) }
         ensures begins { IfOk result
             (λ notes. WhateverLog self.now (λ g log. IsNotedUpTo g log events.now log events.now notes)) }
@@ -157,7 +157,7 @@ impl World {
     /// it was.
     pub fn run(&mut self, alloc: Global, events: &[Event]) -> Result<Record, AllocError>
         ensures { MatchResult result
-            (λ r. WhateverLog self.old (λ g log. Runs g log events.now self.new r))
+            (λ r. WhateverLog self.old (λ g log. RunsEvents g log events.now self.new r))
             (λ _. self.new ≡ self.old) }
     {
         let mut notes = self.blank_notes(alloc, events)?;

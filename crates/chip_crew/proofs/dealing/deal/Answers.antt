@@ -1,5 +1,5 @@
 use Rattle.chip_crew.proofs.Names.{◌≡◌, ℕ, ◌+◌, ◌-◌, length, None, refl, ap, arith, rules, length-drop}
-use Rattle.chip_crew.proofs.Names.{sum_by-take-drop, ActorKnown, IsAt, turns_of, all_turns, IsCut, IsReady}
+use Rattle.chip_crew.proofs.Names.{sum_by-take-drop, ActorKnown, IsAt, turns_of, all_turns, IsShareStart, IsReady}
 use Rattle.chip_crew.proofs.RunLemmas.{from_push, from_drop}
 use Rattle.chip_crew.proofs.DealingLemmas.{are_of, cut_next}
 use Rattle.chip_crew.specs.declared.worker.Share.TheVariants as share
@@ -16,7 +16,7 @@ loop-worker-preserved g c =
     let cut = cut_next c.args.graph.now c.args.workers worker first next _ _ i.first_is
     (rw c.all_ends-all_ends.ensures.value refl) c.next_cut-next.ensures.next.2
     c.next_cut-next.ensures.reached c.next_cut-next.ensures.least in
-    let at_crew = λ (k u : ℕ) (is : IsCut c.args.graph.now c.args.workers k u).
+    let at_crew = λ (k u : ℕ) (is : IsShareStart c.args.graph.now c.args.workers k u).
     rw (c.requires.graph, c.requires.workers.2) at is in
     let none : (all_turns c.split_off.new.self.items ≡ 0) × (all_turns c.in_ok-rest.rest.items ≡ 0) =
     (let both = sum_by-take-drop turns_of actors (next - first) in let own = ap all_turns rest.items in

@@ -1,6 +1,6 @@
 use Rattle.chip_crew.proofs.Names.{◌≡◌, ◌<◌, length, ap, arith, [], ◌∷◌, length-append, rules, length-map}
 use Rattle.chip_crew.proofs.Names.{All-cons, All-nil, sum_by_push, Held, view, ActorKnown, IsOurs, turns_of}
-use Rattle.chip_crew.proofs.Names.{with_taken, AreAllThere}
+use Rattle.chip_crew.proofs.Names.{with_actor, AreAllThere}
 use Rattle.chip_crew.proofs.PlacesLemmas.{takes, all_there, none_queued}
 use Rattle.chip_crew.proofs.GatheringLemmas.{gathers_more, gathered}
 use Rattle.chip_crew.proofs.gathering.drain.Goals as goal
@@ -22,7 +22,7 @@ loop-actor-preserved g c =
     let i = c.loop-actor.invariant.gathers in
     let a = c.in-Some.actor in
     let workers = g.B.Crew.asked.crew.workers in
-    let told : view c.pop_as.new.pass ≡ with_taken (view c.loop-actor.pass) a = search rules in
+    let told : view c.pop_as.new.pass ≡ with_actor (view c.loop-actor.pass) a = search rules in
     let ours : IsOurs g.B.Crew.asked.crew a = search rules in
     record {
       pass = search rules;

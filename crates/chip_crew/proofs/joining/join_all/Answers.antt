@@ -1,5 +1,5 @@
 use Rattle.chip_crew.proofs.Names.{◌≡◌, ℕ, ◌+◌, ◌<◌, length, refl, ap, arith, true, false, Bool, rules}
-use Rattle.chip_crew.proofs.Names.{◌&&◌, Asked, SomeShut, ShutFor, IsRound, queue_for, HasMade, round_of}
+use Rattle.chip_crew.proofs.Names.{◌&&◌, Asked, SomeShut, ShutFor, IsRoundOfTurns, queue_for, HasMade, round_of}
 use Rattle.chip_crew.proofs.Names.{IsWorker, Share}
 use Rattle.chip_crew.proofs.RunLemmas.{from_tail}
 use Rattle.chip_crew.proofs.DealingLemmas.{cut_first}
@@ -8,7 +8,7 @@ use Rattle.chip_crew.proofs.joining.join_all.Goals as goal
 
 -- `turns` turns make a round of worker 0
 first_round : {B : Type 0} (asked : Asked) (turns : ℕ) (h : Share B) → HasMade asked 0 turns h
-    → IsRound asked.crew (round_of h) × (0 < round_of h)
+    → IsRoundOfTurns asked.crew (round_of h) × (0 < round_of h)
 first_round asked turns (share.Queue queue pass kept) made = (rw made.0 refl, omega arith)
 first_round asked turns (share.Dealt d) made =
     let zero_is = cut_first asked.crew.net.setting.game.graph asked.crew.workers made.1.from made.1.is_first in

@@ -1,5 +1,5 @@
 use Rattle.std.proofs.Common.{◌≡◌, ℕ, List, ◌++◌, add-one, append_assoc, append-nil}
-use Rattle.chip_part.specs.Part.{deficit}
+use Rattle.chip_part.specs.Part.{deficit_of}
 use Rattle.chip_part.specs.Edges.{root}
 use Rattle.chip_core.specs.Core.{part_in}
 use Rattle.chip_engine.specs.Board.{root_line}
@@ -15,4 +15,4 @@ loop-vertex-init c = λ g log stands. rw (append-nil, ← c.root_deficit.ensures
 pub loop-vertex-preserved : goal.loop-vertex-preserved
 loop-vertex-preserved c = λ g log stands.
     rw (add-one c.loop-vertex.vertex, c.in_ok-push_vertex.ensures g log stands, c.loop-vertex.invariant g log stands)
-    (line_more _ (root_line (deficit g (root g) (part_in g log (root g)))) _ _)
+    (line_more _ (root_line (deficit_of g (root g) (part_in g log (root g)))) _ _)

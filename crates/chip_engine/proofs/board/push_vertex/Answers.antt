@@ -4,7 +4,7 @@ use Rattle.chip_graph.specs.ChipGame.{ChipGame}
 use Rattle.chip_graph.specs.Multigraph.{edges_in, edge_at}
 use Rattle.chip_graph.proofs.PickLemmas.{All-picked}
 use Rattle.chip_part.specs.Setting.{Setting}
-use Rattle.chip_part.specs.Part.{deficit}
+use Rattle.chip_part.specs.Part.{deficit_of}
 use Rattle.chip_part.specs.Edges.{all_edges, root_edge}
 use Rattle.chip_core.specs.Core.{part_in}
 use Rattle.chip_engine.specs.Board.{books_text, owed_text, vertex_line}
@@ -35,7 +35,7 @@ returns c = λ g log stands.
     rw (graph_is (goal.at.returns c).After-ins, stands.setting) at c.ins.ensures in
     let root_is : c.root_edge.result ≡ root_edge g v =
     rw (c.setting-setting.ensures.value, stands.setting) at c.root_edge.ensures.value in
-    let owes : c.deficit.result ≡ deficit g v (part_in g log v) = c.deficit.ensures g log stands in
+    let owes : c.deficit.result ≡ deficit_of g v (part_in g log v) = c.deficit.ensures g log stands in
     four_pieces _ (books_text v c.in-Some.parent c.deficit.result) (flat_map (owed_text g log) c.ins.result.now)
     (owed_text g log c.root_edge.result) (codes "\n") _ _ _ _ c.in_ok-push_books.ensures
     (c.in_ok-push_all_owed.ensures g log stands) (c.in_ok-push_owed.ensures g log stands) c.in_ok-push_str.ensures.bytes

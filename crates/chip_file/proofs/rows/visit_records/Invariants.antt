@@ -1,4 +1,4 @@
-use Rattle.chip_file.specs.Standing.{IsOpen, rows_left}
+use Rattle.chip_file.specs.Standing.{IsOpen, records_left}
 use Rattle.chip_file.proofs.RecordLemmas.{HasRead}
 use Rattle.chip_file.proofs.rows.visit_records.Given as goal
 
@@ -6,5 +6,5 @@ abbrev pub invariant-loop-index : goal.invariant-loop-index
 invariant-loop-index g l = record {
   ready : IsOpen l.records;
   read : HasRead (g.V.RowVisitor.row_fault l.context) (g.V.RowVisitor.HasVisited l.context) l.fn.visitor
-      (rows_left l.initial.records) (rows_left l.records) l.index l.visitor;
+      (records_left l.initial.records) (records_left l.records) l.index l.visitor;
 }

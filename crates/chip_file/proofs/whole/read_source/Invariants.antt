@@ -1,4 +1,4 @@
-use Rattle.chip_file.proofs.Names.{◌≡◌, ◌-◌, ◌+◌, ◌<◌, ◌≤◌, true, vec_len, Consumes, AreLimits, max_chunk, goes_on}
+use Rattle.chip_file.proofs.Names.{◌≡◌, ◌-◌, ◌+◌, ◌<◌, ◌≤◌, true, vec_len, Consumes, AreLimits, max_chunk, may_read_on}
 use Rattle.chip_file.proofs.Names.{last_read, bytes_left, reads}
 use Rattle.chip_file.specs.declared.source.LastRead.TheVariants as last
 use Rattle.chip_file.proofs.whole.read_source.Given as goal
@@ -12,7 +12,7 @@ invariant-loop-chunk g l = record {
   most : l.most ≡ l.fn.limits.bytes;
   few : reads l.source ≤ vec_len l.bytes;
   bounded : reads l.source ≤ l.most + 1;
-  more : goes_on (last_read l.source) ≡ true;
+  more : may_read_on (last_read l.source) ≡ true;
   came : 0 < vec_len l.bytes → last_read l.source ≡ last.Bytes;
   lent : l.source.reader.ghost_name ≡ l.initial.source.reader.ghost_name;
 }

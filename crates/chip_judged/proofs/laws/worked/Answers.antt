@@ -1,17 +1,17 @@
 use Rattle.std.proofs.Common.{◌≡◌, ℕ, zero, suc, ◌<◌, refl, arith, [], ◌∷◌, Contains, None, true, false, rules}
 use Rattle.std.proofs.lemmas.Bool.Decides.{nat_tests}
 use Rattle.chip_diffusing.specs.Computation.{World, OpensPart, Leads}
-use Rattle.chip_diffusing.specs.Worked.{pair, root_part, other_part, both, at_work, at_rest, acknowledged, closed, whole}
+use Rattle.chip_diffusing.specs.Worked.{pair, worked_root, other_part, both, at_work, at_rest, acknowledged, closed, whole}
 use Rattle.chip_judged.proofs.laws.worked.Goals as goal
 
 abbrev opening : World
-opening = both (root_part 0 0 false) (other_part 0 0 None true)
+opening = both (worked_root 0 0 false) (other_part 0 0 None true)
 
 abbrev sent : World
-sent = both (root_part 1 0 false) (other_part 0 0 None true)
+sent = both (worked_root 1 0 false) (other_part 0 0 None true)
 
 abbrev ended : World
-ended = both (root_part 1 0 true) (other_part 0 0 None true)
+ended = both (worked_root 1 0 true) (other_part 0 0 None true)
 
 one_edge : (e : ℕ) → e < 1 → Contains (0 ∷ []) e
 one_edge e l = (0, omega arith, (let z : 0 ≡ e = omega arith in z))

@@ -1,4 +1,4 @@
-use Rattle.chip_log.proofs.Names.{◌≡◌, ◌+◌, ◌≤◌, List, length, take, HasEnds, AreBooks, AreSized, LogRow}
+use Rattle.chip_log.proofs.Names.{◌≡◌, ◌+◌, ◌≤◌, List, length, take, HasEnds, AreBooksOf, AreSized, LogRow}
 use Rattle.chip_log.proofs.PastLemmas.{IsSplit}
 use Rattle.chip_log.proofs.past.look_at_all.Given as goal
 
@@ -10,7 +10,7 @@ invariant-loop-left l = record {
   kept : List LogRow;
   short : l.left + length kept ≤ length l.rows;
   split : IsSplit l.rows ends l.fn.claim.process l.fn.claim.row (take l.left l.rows) kept;
-  books : AreBooks (take l.left l.rows) kept l.books;
+  books : AreBooksOf (take l.left l.rows) kept l.books;
 }
 
 abbrev pub decreases-loop-left : goal.decreases-loop-left

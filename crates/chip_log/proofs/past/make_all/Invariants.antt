@@ -1,4 +1,4 @@
-use Rattle.chip_log.proofs.Names.{◌≡◌, ◌≤◌, [], ◌-◌, take, AreBooks, AreSized}
+use Rattle.chip_log.proofs.Names.{◌≡◌, ◌≤◌, [], ◌-◌, take, AreBooksOf, AreSized}
 use Rattle.chip_log.proofs.past.make_all.Given as goal
 
 abbrev pub invariant-loop-next : goal.invariant-loop-next
@@ -6,7 +6,7 @@ invariant-loop-next l = record {
   place : l.next ≤ l.at;
   claimer : l.books.claimer ≡ l.fn.books.claimer;
   sized : AreSized l.fn.sizes l.books;
-  made : AreBooks (take l.next l.rows) [] l.books;
+  made : AreBooksOf (take l.next l.rows) [] l.books;
 }
 
 abbrev pub decreases-loop-next : goal.decreases-loop-next

@@ -1,5 +1,5 @@
 use Rattle.chip_report.proofs.Names.{◌≡◌, ◌<◌, ◌≤◌, length, inr, refl, sym, ◌∙◌, arith, lit<, eqb-false, YieldsList-at}
-use Rattle.chip_report.proofs.Names.{YieldsList-turn, YieldsList-end, YieldsList-from_str_split, numbers_of}
+use Rattle.chip_report.proofs.Names.{YieldsList-turn, YieldsList-end, YieldsList-from_str_split, numbers_spelled}
 use Rattle.chip_report.proofs.BracketLemmas.{none_of_many, none_with, no_number, few_numbers, numbers_of-shown}
 use Rattle.chip_report.proofs.ReportLemmas.{passed_on}
 use Rattle.chip_report.proofs.lists.numbers_of.Goals as goal
@@ -24,7 +24,7 @@ returns-in_err-ok_or c =
     c.split-digits-items.ensures.has_more c.split-digits-items.ensures.pattern) in
     let turn = YieldsList-turn road c.loop-digits.yielded _ c.loop-digits.yielded_by _ _ c.in-Some.digits c.in-Some.is
     c.next.ensures.steps in
-    passed_on (λ numbers. (numbers.items ≡ numbers_of c.args.list.now) × (length numbers.items ≤ c.args.most))
+    passed_on (λ numbers. (numbers.items ≡ numbers_spelled c.args.list.now) × (length numbers.items ≤ c.args.most))
     c.from_residual.result c.in_err-ok_or.field-0.0 c.from_residual.ensures.1
     (no_number c.in-Some.digits.now c.number_of.result c.in_err-ok_or.field-0.0 c.number_of.ensures
     c.in_err-ok_or.ensures.value)

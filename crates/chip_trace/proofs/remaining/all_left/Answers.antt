@@ -1,4 +1,4 @@
-use Rattle.chip_trace.proofs.Names.{◌≡◌, ◌++◌, ◌∷◌, [], ℕ, List, sym, ap, ◌∙◌, arith, append_assoc, ChipGame, all_edges}
+use Rattle.chip_trace.proofs.Names.{◌≡◌, ◌++◌, ◌∷◌, [], ℕ, List, sym, ap, ◌∙◌, arith, append_assoc, ChipGame, edges_and_roots}
 use Rattle.chip_trace.proofs.Names.{Multigraph, Left, ReplayProgress, kept_edges, kept_vertices}
 use Rattle.chip_trace.proofs.RemainingLemmas.{edge_more, edge_same, vertex_more, vertex_same}
 use Rattle.chip_trace.proofs.remaining.all_left.Goals as goal
@@ -20,7 +20,7 @@ pub loop-vertex-preserved : goal.loop-vertex-preserved
 loop-vertex-preserved c =
     let g : ChipGame = c.args.game.now in
     let p : ReplayProgress = c.args.progress.now in
-    let edges : List Left = kept_edges g p (all_edges g.graph) in
+    let edges : List Left = kept_edges g p (edges_and_roots g.graph) in
     let v : ℕ = c.loop-vertex.vertex in
     elim c.if-is_legal.branch [
       | then-is_legal+in_ok-push-2 w ↦
@@ -43,4 +43,4 @@ returns c =
     let all : c.loop-vertex.vertex ≡ g.graph.vertices = (let end = c.loop-vertex-test.false in
     let within = c.loop-vertex.auto.vertex-end in omega arith) in
     c.loop-vertex.invariant
-    ∙ ap (λ (n : ℕ). kept_edges g p (all_edges g.graph) ++ kept_vertices g p n) all
+    ∙ ap (λ (n : ℕ). kept_edges g p (edges_and_roots g.graph) ++ kept_vertices g p n) all

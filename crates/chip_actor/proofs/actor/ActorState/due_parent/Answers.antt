@@ -1,4 +1,4 @@
-use Rattle.chip_actor.proofs.Names.{◌≡◌, ℕ, Some, head_of, may_ack, parent_due, no_parent_due, refl, arith, nat_tests}
+use Rattle.chip_actor.proofs.Names.{◌≡◌, ℕ, Some, head_of, may_ack_on, parent_due, no_parent_due, refl, arith, nat_tests}
 use Rattle.chip_actor.proofs.StandingLemmas.{books_in, may_ack_is}
 use Rattle.chip_actor.proofs.actor.ActorState.due_parent.Goals as goal
 
@@ -15,7 +15,7 @@ returns-then-may_ack-eq0 c = λ g s stands at.
     let e : ℕ = c.in_ok-edge.edge in
     let is : s.parent ≡ Some e = rw (← stands.books.parent, ← c.self.view_is, ← c.in_ok-edge.ensures.parent) refl in
     let mine = (stands.kept.parents e is).1 in
-    let may-is : c.may_ack.result ≡ may_ack g (head_of g e) s e
+    let may-is : c.may_ack.result ≡ may_ack_on g (head_of g e) s e
     = rw (c.may_ack.ensures, c.passive.ensures.value, ← c.self.view_is)
     (rw (← c.self.view_is) at (may_ack_is g s c.args.self.now stands e mine)) in
     no_parent_due g c.args.self.now.vertex stands.knows.vertex s e is (rw may-is at c.if-may_ack-eq0.true)
@@ -25,7 +25,7 @@ returns c = λ g s stands at.
     let e : ℕ = c.in_ok-edge.edge in
     let is : s.parent ≡ Some e = rw (← stands.books.parent, ← c.self.view_is, ← c.in_ok-edge.ensures.parent) refl in
     let mine = (stands.kept.parents e is).1 in
-    let may-is : c.may_ack.result ≡ may_ack g (head_of g e) s e
+    let may-is : c.may_ack.result ≡ may_ack_on g (head_of g e) s e
     = rw (c.may_ack.ensures, c.passive.ensures.value, ← c.self.view_is)
     (rw (← c.self.view_is) at (may_ack_is g s c.args.self.now stands e mine)) in
     parent_due g c.args.self.now.vertex stands.knows.vertex s e is mine

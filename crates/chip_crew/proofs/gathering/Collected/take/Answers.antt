@@ -1,6 +1,6 @@
 use Rattle.chip_crew.proofs.Names.{◌≡◌, ℕ, ◌+◌, ◌≤◌, List, length, refl, ap, arith, add-one}
 use Rattle.chip_crew.proofs.Names.{◌++◌, length-append, rules, sum_by-append, vec_capacity, view, ActorKnown}
-use Rattle.chip_crew.proofs.Names.{passes, CrewId, IsAt, turns_of, all_turns, AreOf, IsRow}
+use Rattle.chip_crew.proofs.Names.{passes, CrewId, IsAt, turns_of, all_turns, AreActorsOf, IsRow}
 use Rattle.chip_crew.proofs.DealingLemmas.{rounds_turns, cut_same}
 use Rattle.chip_crew.proofs.RunLemmas.{from_append}
 use Rattle.chip_crew.proofs.TurnLemmas.{are_made}
@@ -9,7 +9,7 @@ use Rattle.chip_crew.proofs.gathering.Collected.take.Goals as goal
 
 -- the run of the next worker comes behind those that are there
 row_longer : (crew : CrewId) (worker : ℕ) (row actors : List ActorKnown) (room more : ℕ) → IsRow crew worker row room
-    → AreOf crew worker actors → room ≤ more → IsRow crew (worker + 1) (row ++ actors) more
+    → AreActorsOf crew worker actors → room ≤ more → IsRow crew (worker + 1) (row ++ actors) more
 row_longer crew worker row actors room more is are grown =
     let both = length-append row actors in
     let from = cut_same crew.net.setting.game.graph crew.workers worker are.from (length row) are.is_first is.up_to in

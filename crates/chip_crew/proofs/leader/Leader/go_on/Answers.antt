@@ -1,11 +1,11 @@
-use Rattle.chip_crew.proofs.Names.{◌≡◌, ℕ, ◌+◌, ◌≤◌, refl, arith, true, false, eq-eqb, ne_eqb, NetId, Asked, Serves}
+use Rattle.chip_crew.proofs.Names.{◌≡◌, ℕ, ◌+◌, ◌≤◌, refl, arith, true, false, eq-eqb, ne_eqb, NetId, Asked, ServesTurns}
 use Rattle.chip_crew.proofs.Names.{HasLed, CanLead, LeadsTurn, LeadsRound, Leader}
 use Rattle.chip_crew.proofs.LeadingLemmas.{serves_turn}
 use Rattle.chip_crew.proofs.leader.Leader.go_on.Goals as goal
 
 -- one turn more
 led_more : (asked : Asked) (round turns : ℕ) (old new : Leader) (has : HasLed asked round turns old)
-    → turns + 1 ≤ asked.plan.turns → Serves LeadsTurn LeadsRound round (turns + 1) has.first new
+    → turns + 1 ≤ asked.plan.turns → ServesTurns LeadsTurn LeadsRound round (turns + 1) has.first new
     → (net : NetId) → net ≡ asked.crew.net → CanLead net new → HasLed asked round (turns + 1) new
 led_more asked round turns old new has few served net is can = record {
   first = has.first;

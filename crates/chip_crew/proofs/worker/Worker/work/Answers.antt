@@ -1,5 +1,5 @@
 use Rattle.chip_crew.proofs.Names.{◌≡◌, ℕ, ◌≤◌, sym, arith, false, Bool, rules, false-eqb, NetId, Asked}
-use Rattle.chip_crew.proofs.Names.{ShutFor, Serves, HasMade, HasWorked, round_of, queue_of, Share}
+use Rattle.chip_crew.proofs.Names.{ShutFor, ServesTurns, HasMade, HasWorked, round_of, queue_of, Share}
 use Rattle.chip_crew.proofs.LeadingLemmas.{serves_more, serves_round, round_over}
 use Rattle.chip_crew.proofs.worker.Worker.work.Goals.{else-loop-turns-test, then-loop-turns-test+else-not-load}
 use Rattle.chip_crew.proofs.worker.Worker.work.Goals.{then-loop-turns-test+then-not-load+then-made-round}
@@ -12,7 +12,7 @@ has_worked : {B D : Type 0} (asked : Asked) (can : NetId → D → Type 0) (befo
     (n m round : ℕ)
     → t ≡ s → e ≡ d → q ≡ p → m ≡ n → n ≤ asked.plan.turns → HasMade asked worker n s
     → (p ≡ false → ShutFor asked worker) → queue_of s ≡ queue_of own → round ≡ round_of s
-    → Serves before after round n begun d → can asked.crew.net d
+    → ServesTurns before after round n begun d → can asked.crew.net d
     → HasWorked asked can before after worker own begun (record { share = t; duties = e; passed = q; turns = m })
 has_worked {B} {D} asked can before after worker own begun s t d e p q n m round share_is duties_is passed_is turns_is
     few made shut uses round_is served can_still =

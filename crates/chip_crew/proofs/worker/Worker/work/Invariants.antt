@@ -1,4 +1,4 @@
-use Rattle.chip_crew.proofs.Names.{◌≡◌, ◌%◌, ◌<◌, ◌≤◌, ◌-◌, true, Serves, HasMade, round_of, queue_of}
+use Rattle.chip_crew.proofs.Names.{◌≡◌, ◌%◌, ◌<◌, ◌≤◌, ◌-◌, true, ServesTurns, HasMade, round_of, queue_of}
 use Rattle.chip_crew.proofs.worker.Worker.work.Given as goal
 
 abbrev pub invariant-loop-turns : goal.invariant-loop-turns
@@ -11,7 +11,7 @@ invariant-loop-turns g l = record {
   begins : l.turns % l.round ≡ 0;
   can : g.D.Duties.can g.B.Crew.asked.crew.net l.duties;
   goes_on : g.D.Duties.goes_on l.duties;
-  served : Serves g.D.Duties.before g.D.Duties.after l.round l.turns l.fn.self.duties l.duties;
+  served : ServesTurns g.D.Duties.before g.D.Duties.after l.round l.turns l.fn.self.duties l.duties;
   passed : l.passed ≡ true;
 }
 

@@ -1,11 +1,11 @@
 use Rattle.chip_graph.proofs.Names.{◌≡◌, ◌<◌, ◌∙◌, get_or_default, Multigraph}
-use Rattle.chip_graph.specs.Index.{graph_of}
+use Rattle.chip_graph.specs.Index.{graph_inside}
 use Rattle.chip_graph.proofs.IndexLemmas.{distance_is, distance_within}
 use Rattle.chip_graph.proofs.graph.Graph.distance.Goals as goal
 
 pub returns : goal.returns
 returns c =
-    let G : Multigraph = graph_of c.rows.inside in
+    let G : Multigraph = graph_inside c.rows.inside in
     let same : G ≡ c.args.self.now = c.rows.view_is ∙ c.deref-rows.ensures ∙ c.self.view_is in
     let known = c.rows.invariant.distances in
     let inside : c.args.vertex < G.vertices = rw (← same) at c.requires in

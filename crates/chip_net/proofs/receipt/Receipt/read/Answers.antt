@@ -1,5 +1,5 @@
 use Rattle.chip_net.proofs.Names.{◌≡◌, refl, sym, subst, root, stopper, met_rules, Read}
-use Rattle.chip_net.proofs.Names.{of_vertex, index_of, did_in, root_part, IsOver}
+use Rattle.chip_net.proofs.Names.{of_vertex, index_of, did_in, root_part, IsRootOver}
 use Rattle.chip_net.specs.contracts.receipt.Receipt.{the_view}
 use Rattle.chip_net.proofs.RulingLemmas.{Due, words_at, Made, made, event_asked, event_told}
 use Rattle.chip_net.proofs.RootingLemmas.{known_after}
@@ -14,7 +14,7 @@ net_is c = rw (← c.self.view_is) at c.requires.net
 due : (c : After-words) → Due c.self.inside.setting.value c.self.inside.seat.me (root c.self.inside.setting.value)
     (Read c.args.vertex)
 due c =
-    let over : IsOver (the_view c.self.inside) = subst IsOver (sym c.self.view_is) c.requires.over in
+    let over : IsRootOver (the_view c.self.inside) = subst IsRootOver (sym c.self.view_is) c.requires.over in
     record {
       mine = refl;
       has = c.self.invariant.0;

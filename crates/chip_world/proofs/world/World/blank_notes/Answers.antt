@@ -1,5 +1,5 @@
 use Rattle.chip_world.proofs.Names.{◌≡◌, ℕ, List, [], ◌∷◌, ◌++◌, length, get_or, ap, arith}
-use Rattle.chip_world.proofs.Names.{length-append, vec_capacity, get_or_read, in_flight, Lane, WhateverLog, IsOpened}
+use Rattle.chip_world.proofs.Names.{length-append, vec_capacity, get_or_read, in_flight, Lane, WhateverLog, IsOpenedLane}
 use Rattle.chip_world.proofs.OpeningLemmas.{pushed}
 use Rattle.chip_world.proofs.world.World.blank_notes.Goals as goal
 
@@ -26,14 +26,14 @@ loop-edge-preserved c =
     record {
       sent_each = rw (sent, length-append) (omega arith);
       sent = λ e l d. rw sent
-          (pushed (λ i lane. IsOpened (λ ms. WhateverLog c.args.self.now (λ g log. ms ≡ in_flight g log i))
+          (pushed (λ i lane. IsOpenedLane (λ ms. WhateverLog c.args.self.now (λ g log. ms ≡ in_flight g log i))
           (get_or c.in_ok-tally.tally.claims.items i 0) lane) c.loop-edge.sent first n many inv.sent (
             c.in_ok-in_flight.ensures.messages,
             (let room = c.in_ok-in_flight.ensures.room in let len = c.in_ok-in_flight.field-0.ok.0 in omega arith),
           ) e l d);
       delivered_each = rw (delivered, length-append) (omega arith);
       delivered = λ e l d. rw delivered
-          (pushed (λ i lane. IsOpened (λ ms. ms ≡ []) (get_or c.in_ok-tally.tally.takes.items i 0) lane)
+          (pushed (λ i lane. IsOpenedLane (λ ms. ms ≡ []) (get_or c.in_ok-tally.tally.takes.items i 0) lane)
           c.loop-edge.delivered second n many_too inv.delivered (
             c.in_ok-with_capacity.ensures.items,
             (let room = c.in_ok-with_capacity.ensures.exact in

@@ -1,5 +1,5 @@
-use Rattle.chip_world.proofs.Names.{Leads, AreTurns}
+use Rattle.chip_world.proofs.Names.{LeadsWorld, AreTurns}
 use Rattle.chip_world.proofs.world.World.turns.Given as goal
 
 abbrev pub invariant-loop-vertex : goal.invariant-loop-vertex
-invariant-loop-vertex l = Leads l.fn.self l.self (λ g before now. AreTurns g l.vertex before now)
+invariant-loop-vertex l = LeadsWorld l.fn.self l.self (λ g before now. AreTurns g l.vertex before now)

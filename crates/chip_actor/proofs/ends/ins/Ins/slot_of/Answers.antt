@@ -1,14 +1,14 @@
 use Rattle.chip_actor.proofs.Names.{rules, Contains, answers_always}
-use Rattle.chip_actor.proofs.Names.{FoundAt, searched, HeadState, new_head, AreApart, ins_of}
+use Rattle.chip_actor.proofs.Names.{FoundAt, searched, HeadState, new_head, AreApart, in_ends_of}
 use Rattle.chip_actor.proofs.ends.ins.Ins.slot_of.Goals.{After-binary_search_by_key}
 use Rattle.chip_actor.proofs.ends.ins.Ins.slot_of.Goals as goal
 
 -- the edge has an end, so the search succeeds, at its slot
-found : (c : After-binary_search_by_key) → FoundAt (ins_of c.deref.result.now).edges c.args.edge c.binary_search_by_key.result
+found : (c : After-binary_search_by_key) → FoundAt (in_ends_of c.deref.result.now).edges c.args.edge c.binary_search_by_key.result
 found c =
     let facts = c.binary_search_by_key.ensures in
-    let apart : AreApart (ins_of c.deref.result.now).edges c.deref.result.now = rw c.deref.ensures.value c.self.invariant in
-    let among : Contains (ins_of c.deref.result.now).edges c.args.edge =
+    let apart : AreApart (in_ends_of c.deref.result.now).edges c.deref.result.now = rw c.deref.ensures.value c.self.invariant in
+    let among : Contains (in_ends_of c.deref.result.now).edges c.args.edge =
     rw c.deref.ensures.value (rw (← c.self.view_is) at c.requires) in
     let by_key = facts.position (λ h. h.edge) (answers_always _ _ _ (λ f a r g called. search rules)) in
     searched (λ (h : HeadState). h.edge) (new_head 0 1) c.deref.result.now apart.ascending c.args.edge c.binary_search_by_key.result

@@ -1,5 +1,5 @@
 use Rattle.chip_actor.proofs.Names.{refl, ◌≡◌, ◌∙◌, ◌≤◌, length, set, Option, None, Some, ap, arith, Message}
-use Rattle.chip_actor.proofs.Names.{HeadState, head_cell, head_after_take, message_taken, with_items, ins_of, Actor}
+use Rattle.chip_actor.proofs.Names.{HeadState, head_cell, head_after_take, message_taken, with_items, in_ends_of, Actor}
 use Rattle.chip_actor.proofs.Names.{with_taken, Meets}
 use Rattle.chip_actor.proofs.EndLemmas.{filled, named_apart, same_numbers, take_keeps}
 use Rattle.chip_actor.proofs.MediumLemmas.{moves_none, moves_on, meets_after, then_over}
@@ -21,7 +21,7 @@ loop-index-init g c = record {
 found : (g : Over) (c : After-cell-cell g) (a : Actor) → Meets (g.M.Medium.holds c.args.medium.now)
     (with_taken a c.args.self.now c.args.chips.now c.args.detect.now) (At.Take 0)
     → FoundIn (with_taken a (record { edges = c.args.self.now.edges; ends = c.loop-index.end-items }) c.loop-index.chips
-    c.loop-index.detect) (record { edges = (ins_of c.self.inside.ends.items).edges; ends = c.loop-index.end-items })
+    c.loop-index.detect) (record { edges = (in_ends_of c.self.inside.ends.items).edges; ends = c.loop-index.end-items })
     c.loop-index.index c.edge-edge.result c.end-item.result
 found g c a h =
     let m = meets_after h (c.loop-index.invariant.moved a h) in record {
@@ -44,7 +44,7 @@ left : (g : Over) (c : After-taken g) → c.taken.new.self ≡ head_after_take c
 left g c = cc
 
 kept : (g : Over) (c : After-taken g)
-    → (ins_of (set c.loop-index.end-items c.loop-index.index c.taken.new.self)).edges ≡ c.args.self.now.edges
+    → (in_ends_of (set c.loop-index.end-items c.loop-index.index c.taken.new.self)).edges ≡ c.args.self.now.edges
 kept g c = same_numbers (λ (h : HeadState). h.edge) c.loop-index.end-items c.loop-index.index c.end-item.result
     c.taken.new.self (omega arith)
     c.end-item.is (rw (left g c) (take_keeps c.take-seen.result c.end-item.result)) ∙ c.loop-index.invariant.numbers
@@ -117,7 +117,7 @@ items_are g c = filled c.self.inside.ends.len c.loop-index.end-items _
 
 pub invariant_of-self : goal.invariant_of-self
 invariant_of-self g c = rw (items_are g (goal.at.invariant_of-self g c).At-loop-index) (named_apart
-    (λ (h : HeadState). h.edge) c.loop-index.end-items (ins_of c.self.inside.ends.items).edges
+    (λ (h : HeadState). h.edge) c.loop-index.end-items (in_ends_of c.self.inside.ends.items).edges
     (rw (← c.self.view_is) at c.loop-index.invariant.numbers) c.self.invariant.ascending)
 
 pub returns-clause-moves : goal.returns-clause-moves

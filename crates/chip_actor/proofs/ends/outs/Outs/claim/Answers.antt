@@ -1,4 +1,4 @@
-use Rattle.chip_actor.proofs.Names.{◌≡◌, set, OutEnd, outs_of, out_on, out_after_claim, ChangesOut}
+use Rattle.chip_actor.proofs.Names.{◌≡◌, set, OutEnd, out_ends_of, out_on, out_after_claim, ChangesOut}
 use Rattle.chip_actor.proofs.EndLemmas.{written_out, apart_out, found_out, claim_keeps, claim_taken, claim_refused}
 use Rattle.chip_actor.proofs.ends.outs.Outs.claim.Goals.{After-index_mut-out}
 use Rattle.chip_actor.proofs.ends.outs.Outs.claim.Goals as goal
@@ -20,7 +20,7 @@ claimed-requires-clause-count c =
 
 -- what a claim leaves at the place that was found
 wrote : (c : After-index_mut-out) → (new : OutEnd) → new ≡ out_after_claim c.args.word c.index_mut-out.result.now
-    → ChangesOut c.args.self.now (outs_of (set c.self.inside.ends.items c.args.slot.index new)) c.args.slot.edge
+    → ChangesOut c.args.self.now (out_ends_of (set c.self.inside.ends.items c.args.slot.index new)) c.args.slot.edge
     (out_after_claim c.args.word)
 wrote c new eq =
     let old : OutEnd = c.index_mut-out.result.now in

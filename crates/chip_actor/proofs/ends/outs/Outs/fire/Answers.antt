@@ -1,5 +1,5 @@
 use Rattle.chip_actor.proofs.Names.{◌≡◌, ℕ, ◌*◌, ◌<◌, ◌≤◌, map, refl, ◌^◌, arith, ap, length, length-set, get_or}
-use Rattle.chip_actor.proofs.Names.{◌∙◌, List, [], ◌∷◌, OutEnd, outs_of, no_out, out_on}
+use Rattle.chip_actor.proofs.Names.{◌∙◌, List, [], ◌∷◌, OutEnd, out_ends_of, no_out, out_on}
 use Rattle.chip_actor.proofs.Names.{out_after_fire, Contains, with_items, get_or_default, take_all, ascends}
 use Rattle.chip_actor.proofs.LookupsLemmas.{on_edge_at, on_edge_map}
 use Rattle.chip_actor.proofs.EndLemmas.{reads_old, done_more, rest_less, filled, named_apart}
@@ -13,14 +13,14 @@ overflow_mul-out c =
     c.loop-out.out-index c.out-item.result c.loop-out.invariant.lengths c.loop-out.invariant.done
     c.loop-out.invariant.rest (omega arith) in
     let items = c.deref_mut-out-items.ensures.value in
-    let inside : c.loop-out.out-index < length (outs_of c.self.inside.ends.items).edges =
+    let inside : c.loop-out.out-index < length (out_ends_of c.self.inside.ends.items).edges =
     omega (arith, ap length items) in
-    let e : ℕ = get_or (outs_of c.self.inside.ends.items).edges c.loop-out.out-index 0 in
-    let here = on_edge_at no_out (outs_of c.self.inside.ends.items).edges c.self.inside.ends.items c.loop-out.out-index
-    c.out-item.result (ascends (outs_of c.self.inside.ends.items).edges c.self.invariant.ascending) c.self.invariant.one_each inside
+    let e : ℕ = get_or (out_ends_of c.self.inside.ends.items).edges c.loop-out.out-index 0 in
+    let here = on_edge_at no_out (out_ends_of c.self.inside.ends.items).edges c.self.inside.ends.items c.loop-out.out-index
+    c.out-item.result (ascends (out_ends_of c.self.inside.ends.items).edges c.self.invariant.ascending) c.self.invariant.one_each inside
     in
-    let among : Contains (outs_of c.self.inside.ends.items).edges e =
-    (c.loop-out.out-index, inside, get_or_default (outs_of c.self.inside.ends.items).edges c.loop-out.out-index e 0 inside) in
+    let among : Contains (out_ends_of c.self.inside.ends.items).edges e =
+    (c.loop-out.out-index, inside, get_or_default (out_ends_of c.self.inside.ends.items).edges c.loop-out.out-index e 0 inside) in
     let few : c.args.k * (out_on c.args.self.now e).mult < 2 ^ 64 =
     c.requires e (rw (← c.self.view_is) among) in
     let fits : c.args.k * (get_or c.loop-out.out-items c.loop-out.out-index c.out-item.result).mult < 2 ^ 64 =
@@ -50,7 +50,7 @@ fired c =
     refl
 
 -- the numbers are as they were
-numbers : (k : ℕ) (ends : List OutEnd) → (outs_of (map (out_after_fire k) ends)).edges ≡ (outs_of ends).edges
+numbers : (k : ℕ) (ends : List OutEnd) → (out_ends_of (map (out_after_fire k) ends)).edges ≡ (out_ends_of ends).edges
 numbers k [] = refl
 numbers k (o ∷ os) = rw (numbers k os) refl
 
@@ -60,7 +60,7 @@ returns c =
     rw (← c.self.view_is) (record {
       edges = rw is (numbers c.args.k c.self.inside.ends.items);
       each = λ e among. rw (is, numbers c.args.k c.self.inside.ends.items)
-          (on_edge_map no_out (out_after_fire c.args.k) (outs_of c.self.inside.ends.items).edges
+          (on_edge_map no_out (out_after_fire c.args.k) (out_ends_of c.self.inside.ends.items).edges
           c.self.inside.ends.items e c.self.invariant.one_each among);
     })
 
@@ -68,4 +68,4 @@ pub invariant_of-self : goal.invariant_of-self
 invariant_of-self c =
     let is = fired (goal.at.invariant_of-self c).After-loop-out in
     rw is (named_apart (λ (o : OutEnd). o.link.edge) (map (out_after_fire c.args.k) c.self.inside.ends.items)
-    (outs_of c.self.inside.ends.items).edges (numbers c.args.k c.self.inside.ends.items) c.self.invariant.ascending)
+    (out_ends_of c.self.inside.ends.items).edges (numbers c.args.k c.self.inside.ends.items) c.self.invariant.ascending)

@@ -1,6 +1,6 @@
 use Rattle.chip_actor.proofs.Names.{◌≡◌, ◌∙◌, ◌≤◌, ◌<◌, List, length, get_or, set, refl, sym, ap}
 use Rattle.chip_actor.proofs.Names.{arith, length-set, get_or-set_same, set-get_or, with_items, OutEnd}
-use Rattle.chip_actor.proofs.Names.{OutEnds, AreApart, outs_of, with_end, Actor, with_sent, Meets, Moves}
+use Rattle.chip_actor.proofs.Names.{OutEnds, AreApart, out_ends_of, with_end, Actor, with_sent, Meets, Moves}
 use Rattle.chip_actor.proofs.EndLemmas.{filled, named_apart, out_there, same_numbers}
 use Rattle.chip_actor.proofs.MediumLemmas.{moves_none, moves_on, meets_after, then_over}
 use Rattle.chip_actor.proofs.TurnOverLemmas.{sends_end}
@@ -53,15 +53,15 @@ items_are g c ts same-length = filled c.self.inside.ends.len ts _
 
 -- a send writes an end that has the number of the one that stood there
 kept : (g : Over) (c : After-send g)
-    → (outs_of (set c.loop-index.out-items c.loop-index.index c.send.new.self)).edges ≡ c.args.self.now.edges
+    → (out_ends_of (set c.loop-index.out-items c.loop-index.index c.send.new.self)).edges ≡ c.args.self.now.edges
 kept g c = same_numbers (λ (o : OutEnd). o.link.edge) c.loop-index.out-items c.loop-index.index c.out-item.result
     c.send.new.self (omega arith)
     c.out-item.is (cc) ∙ c.loop-index.invariant.numbers
 
 -- ends with these numbers are apart
-apart_with : (g : Over) (c : At-loop-index g) (ts : List OutEnd) → (outs_of ts).edges ≡ c.args.self.now.edges
-    → AreApart (outs_of ts).edges ts
-apart_with g c ts named = named_apart (λ (o : OutEnd). o.link.edge) ts (outs_of c.self.inside.ends.items).edges
+apart_with : (g : Over) (c : At-loop-index g) (ts : List OutEnd) → (out_ends_of ts).edges ≡ c.args.self.now.edges
+    → AreApart (out_ends_of ts).edges ts
+apart_with g c ts named = named_apart (λ (o : OutEnd). o.link.edge) ts (out_ends_of c.self.inside.ends.items).edges
     (rw (← c.self.view_is) at named) c.self.invariant.ascending
 
 pub send-requires : goal.send-requires
@@ -89,9 +89,9 @@ returns-in_default-clause-refusal g c =
     let ts : List OutEnd = set c.loop-index.out-items c.loop-index.index c.send.new.self in
     let long : length ts ≡ length c.loop-index.out-items = rw length-set refl in
     let apart' = apart_with g d ts (kept g at.After-send) in
-    let below : c.loop-index.index < length (outs_of ts).edges =
+    let below : c.loop-index.index < length (out_ends_of ts).edges =
     omega (arith, apart'.one_each) in
-    let there = out_there {os = outs_of ts} refl apart' c.loop-index.index below (sym (get_or-set_same c.loop-index.out-items c.loop-index.index
+    let there = out_there {os = out_ends_of ts} refl apart' c.loop-index.index below (sym (get_or-set_same c.loop-index.out-items c.loop-index.index
     c.send.new.self c.send.new.self (omega arith))) in
     rw (items_are g d ts long) (below, rw (← there) (c.send.ensures.refused c.in_default.is))
 

@@ -1,0 +1,13 @@
+//! Texts of JSON, read token by token, or byte by byte if plain edges come first: no value of a text is made.
+//!
+//! What a text means is a definition over the value that `serde_json` reads (`specs/GraphFile.antt`). The answer is
+//! that meaning, for every text (`GivesFile` in `specs/JsonParts.antt`).
+
+pub(crate) use file::{GraphFile, file_of_text};
+pub(crate) use number::leading_number;
+
+mod file;
+mod number;
+mod passing;
+mod plain;
+mod rows;

@@ -1,2 +1,0 @@
-pub mod JudgeCommand
-pub mod Laws

@@ -1,5 +1,0 @@
-use Rattle.chip_log_tests.proofs.CheckLemmas.{well_formed}
-use Rattle.chip_log_tests.proofs.play.absent.Goals as goal
-
-pub first_absent-requires : goal.first_absent-requires
-first_absent-requires g c = (well_formed c.args.sizes c.args.rows.now c.requires.well_formed).fits

@@ -1,5 +1,0 @@
-use Rattle.chip_log_tests.proofs.CheckLemmas.{well_formed}
-use Rattle.chip_log_tests.proofs.play.first.Goals as goal
-
-pub first_early-requires-clause-well_formed : goal.first_early-requires-clause-well_formed
-first_early-requires-clause-well_formed g c = well_formed c.args.sizes c.args.rows.now c.requires.well_formed

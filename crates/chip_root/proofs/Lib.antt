@@ -1,2 +1,0 @@
-pub mod RootLemmas
-pub mod FeedLemmas

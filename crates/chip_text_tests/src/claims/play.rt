@@ -1,0 +1,132 @@
+//! Short words for rows, and what is asked of a log.
+
+ghost use Rattle.std.specs.Prelude.{◌^◌, ◌<◌, IsTrue, length};
+ghost use Rattle.chip_text_tests.specs.Checks.{may_order};
+
+use chip_log::{
+    ClaimVerdict, ClaimWatch, JudgedLog, LogEnd, LogRow, OrderFault, Sizes, Step, Stream,
+    Unwatched, Verdict, first_absent, first_early, judge_log,
+};
+use std::process::Abort;
+
+/// A row of a process.
+macro_rules! row {
+    ($process:expr, $step:expr) => {
+        LogRow {
+            process: $process,
+            step: $step,
+        }
+    };
+}
+
+/// A message of a channel, a control message or not.
+macro_rules! stream {
+    ($channel:expr, $is_control:expr) => {
+        Stream {
+            channel: $channel,
+            is_control: $is_control,
+        }
+    };
+}
+
+macro_rules! send {
+    ($process:expr, $channel:expr) => {
+        row!($process, Step::Out(stream!($channel, false)))
+    };
+}
+
+macro_rules! receive {
+    ($process:expr, $channel:expr) => {
+        row!($process, Step::In(stream!($channel, false)))
+    };
+}
+
+macro_rules! tell {
+    ($process:expr, $channel:expr) => {
+        row!($process, Step::Out(stream!($channel, true)))
+    };
+}
+
+macro_rules! hear {
+    ($process:expr, $channel:expr) => {
+        row!($process, Step::In(stream!($channel, true)))
+    };
+}
+
+pub(crate) use hear;
+pub(crate) use receive;
+pub(crate) use row;
+pub(crate) use send;
+pub(crate) use stream;
+pub(crate) use tell;
+
+/// Room for the logs of these tests.
+pub(crate) const SIZES: Sizes = Sizes {
+    processes: 3,
+    channels: 3,
+};
+
+/// What is said of a log, with the least past of each early claim.
+pub(crate) fn judged<W: ClaimWatch>(
+    rt: &impl AllocGlobal,
+    sizes: Sizes,
+    rows: &[LogRow],
+    watch: &mut W,
+) -> Result<JudgedLog, OrderFault>
+    requires well_formed { IsTrue (may_order sizes rows.now) }
+    requires few { length rows.now < 2 ^ 32 }
+{
+    judge_log(rt.alloc(), sizes, rows, true, watch)
+}
+
+/// The first early claim of a log, with its least past, if there is one.
+pub(crate) fn first(
+    rt: &impl AllocGlobal,
+    sizes: Sizes,
+    rows: &[LogRow],
+) -> Result<Option<ClaimVerdict>, OrderFault>
+    requires well_formed { IsTrue (may_order sizes rows.now) }
+    requires few { length rows.now < 2 ^ 32 }
+{
+    first_early(rt.alloc(), sizes, rows, true, &mut Unwatched)
+}
+
+/// The least of the first `expected` processes without a row, if there is one.
+pub(crate) fn absent(
+    rt: &(impl AllocGlobal + Abort),
+    sizes: Sizes,
+    rows: &[LogRow],
+    expected: u64,
+) -> Option<u64>
+    requires well_formed { IsTrue (may_order sizes rows.now) }
+{
+    first_absent(rt.alloc(), sizes, rows, expected)
+        .ok()
+        .expect(rt, "memory")
+}
+
+/// The verdict on the last claim of a log, if there is a claim.
+pub(crate) fn last_verdict(
+    rt: &(impl AllocGlobal + Abort),
+    sizes: Sizes,
+    rows: &[LogRow],
+) -> Option<Verdict>
+    requires well_formed { IsTrue (may_order sizes rows.now) }
+    requires few { length rows.now < 2 ^ 32 }
+{
+    let judged = judged(rt, sizes, rows, &mut Unwatched)
+        .ok()
+        .expect(rt, "an order");
+    judged.claims.last().map(|claim| claim.verdict)
+}
+
+/// How a log ends.
+pub(crate) fn end(rt: &(impl AllocGlobal + Abort), sizes: Sizes, rows: &[LogRow]) -> LogEnd
+    requires well_formed { IsTrue (may_order sizes rows.now) }
+    requires few { length rows.now < 2 ^ 32 }
+{
+    judged(rt, sizes, rows, &mut Unwatched)
+        .ok()
+        .expect(rt, "an order")
+        .end
+}

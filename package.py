@@ -2,17 +2,19 @@
 """Makes of the proved program and the libraries what others install, or says whether a file is that.
 
     ./package                makes dist/ anew of the program that ./chipfire starts, which may come from release/, and of
-                             the libraries beside it: an archive, a Debian package, a wheel for Python, and PROVED, which
-                             stands in each of them
-    ./package --prove        does so with what is proved and built here
-    ./package --release      makes release/ anew of that, which is to be committed: the archive, PROVED, and what is made here
-                             for browsers and Node: the module chipfire.wasm, the package for npm, and the page
+                             the libraries beside it: an archive, a Debian package, two wheels for Python, and PROVED, which
+                             stands in each of them; from release/ for each machine that it has
+    ./package --prove        does so with what is proved and built here, for this machine alone
+    ./package --release      makes release/ anew of that, which is to be committed: an archive for each machine, PROVED, and
+                             what is made here for browsers and Node: the module chipfire.wasm, the package for npm, the page
     ./package --check FILE   says whether a program, a library, an archive, a Debian package or a wheel is the one of these
                              sources, and what is stated of it; where it is not, a line says why and the status is 1
 
 docs/PACKAGES.md says what is in each, what it needs, and what a check compares.
 """
 import argparse
+import dataclasses
+import itertools
 import os
 import runpy
 import shutil
@@ -22,21 +24,23 @@ import tempfile
 
 runpy.run_path(f"{os.path.dirname(os.path.realpath(__file__))}/tools/paths.py")
 import contents  # noqa: E402
-from packing import archive, build, debian, judge, proved, web, wheel  # noqa: E402
+from packing import archive, build, debian, judge, library_wheel, parts, proved, wheel  # noqa: E402
 from packing.repository import ROOT, Refused, content  # noqa: E402
 
 import release  # noqa: E402
 
 
 def built_here(kit, is_release):
-    """Returns what this kit built here, and what is stated of it; for a release all that is made for browsers and Node."""
-    built, of_web = build.built_in("target"), None
+    """Returns what this kit built here, and what is stated of it; for a release all parts, too."""
+    built, of_parts = build.built_in("target"), {}
     if is_release:
-        of_web = proved.Web(proved.web_sources(), web.tools(), web.MADE)
-        built.update(web.make())
+        of_parts = parts.stated()
+        built.update(parts.make())
     sums = proved.sums_of(built)
-    stated = proved.Proved(contents.version(), kit, proved.commit(), proved.sources(), sums, of_web)
-    if is_release and not proved.has_web(stated):
+    stated = proved.Proved(
+        contents.version(), kit, proved.commit(), proved.sources(), sums, of_parts
+    )
+    if not all(proved.has(stated, name) for name in of_parts):
         raise Refused("the sources changed meanwhile: start ./package again")
     return stated, built
 
@@ -55,7 +59,8 @@ def built_one(must_prove, is_release):
         stated, built = built_here(kit, is_release)
     if not stated.sources == before == proved.sources():
         raise Refused("the sources changed meanwhile: start ./package again")
-    return build.Build(built, stated, judge.documents_of(built["program"]))
+    program = built[(contents.own() or contents.X86_64).built[0]]
+    return build.Build(built, stated, judge.documents_of(program))
 
 
 def files_beside(packed, is_release):
@@ -68,11 +73,12 @@ def files_beside(packed, is_release):
 
 
 def make(folder, forms, packed, files):
-    """Makes a folder anew, with packages of these forms of a build and files, bytes by names, and returns the names of what
-    is in it."""
+    """Makes a folder anew, with packages of these forms of a build, for each machine, and files, bytes by names, and returns
+    the names of what is in it."""
     with tempfile.TemporaryDirectory(prefix="made-", dir=f"{ROOT}/target") as room:
-        for form in forms:
-            form.write(f"{room}/{form.name(packed)}", packed)
+        for machine, form in itertools.product(build.machines(packed.built), forms):
+            its = dataclasses.replace(packed, machine=machine)
+            form.write(f"{room}/{form.name(its)}", its)
         for name, data in files.items():
             with open(f"{room}/{name}", "wb") as file:
                 file.write(data)
@@ -85,7 +91,7 @@ def make(folder, forms, packed, files):
 
 def prepare_release():
     """Refuses what would make no release, before anything is proved."""
-    web.need_tools()
+    parts.need_tools()
     if not proved.is_committed():
         raise Refused(
             "the sources are not those of a commit, which it would name: commit them first"
@@ -110,7 +116,7 @@ def main():
         packed = built_one(asked.prove or asked.release, asked.release)
         if asked.release:
             release.check_version(packed.stated)
-        forms = [archive] if asked.release else [archive, debian, wheel]
+        forms = [archive] if asked.release else [archive, debian, wheel, library_wheel]
         print(*make(subject, forms, packed, files_beside(packed, asked.release)), sep="\n")
     except (Refused, subprocess.CalledProcessError) as refused:
         print(f"package: {subject}: {refused}", file=sys.stderr)

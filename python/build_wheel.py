@@ -1,7 +1,8 @@
 """What pip asks to install the package: a wheel with the folder chipfire, made by the standard library alone.
 
 So `pip install ./python` needs no network and no other package. The functions are those of Python's PEP 517 and,
-for `pip install -e`, 660. The wheel carries the program in release/ of the repository if `./chipfire` takes it there.
+for `pip install -e`, 660. The wheel carries the program in release/ of the repository if `./chipfire` takes it there, and
+the library alone where the C library is too old for the program.
 """
 import io
 import os
@@ -24,11 +25,10 @@ def _carry_release(folder):
         )  # (pip refuses the wheel, by what its metadata require)
     runpy.run_path(f"{contents.REPOSITORY}/tools/paths.py")
     import release
-    from packing import build, wheel
 
     try:
         with tempfile.TemporaryDirectory(prefix="chipfire-wheel-") as room:
-            stated, built = release.fitting(room)
+            packed, form = release.wheel_of(room)
     except (release.Refused, OSError) as error:
         print(
             f"chipfire: the package has no program, since the one in release/ is not taken: {error}",
@@ -39,9 +39,8 @@ def _carry_release(folder):
             None,
             f"the one in release/ was not taken: {getattr(error, 'strerror', None) or error}",
         )
-    packed = build.Build(built, stated, {})
-    wheel.write(os.path.join(folder, wheel.name(packed)), packed)
-    return wheel.name(packed), ""
+    form.write(os.path.join(folder, form.name(packed)), packed)
+    return form.name(packed), ""
 
 
 def build_wheel(wheel_directory, config_settings=None, metadata_directory=None):

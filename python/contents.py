@@ -4,8 +4,10 @@ All that packs or checks takes both from here. The archive of the package's sour
 imports nothing else of the repository; and a Python that is too old for the others understands it.
 """
 import os
+import platform
 import re
 import sys
+import typing
 
 HERE = os.path.dirname(os.path.realpath(__file__))
 REPOSITORY = os.path.dirname(HERE)
@@ -16,9 +18,22 @@ VERSIONS = {
     f"{HERE}/PKG-INFO": r"(?m)^Version: (.*)$",
 }
 
-#: What is built, as files in one folder, and by its words in PROVED.
+#: What is built, as files in one folder.
 PROGRAM, SHARED, STATIC = FILES = ("chipfire", "libchipfire.so", "libchipfire.a")
-BUILT = ("program", SHARED, STATIC)
+
+
+class Machine(typing.NamedTuple):
+    """A machine with Linux that all is built for: its name for the system, and for Debian, and the words of PROVED for the
+    files."""
+
+    name: str
+    debian: str
+    built: typing.Tuple[str, ...]
+
+
+X86_64 = Machine("x86_64", "amd64", ("program", SHARED, STATIC))
+AARCH64 = Machine("aarch64", "arm64", ("aarch64-program", f"aarch64-{SHARED}", f"aarch64-{STATIC}"))
+MACHINES = (X86_64, AARCH64)
 #: The name under which what was linked with the library asks for it.
 SONAME = "libchipfire.so.0"
 #: The package for browsers and Node, a folder beside them.
@@ -26,8 +41,15 @@ WEB = "js"
 #: The module in it, what npm installs of it, and the page that lies there too, by their words in PROVED.
 MODULE, NPM, BOARD = WEB_BUILT = ("chipfire.wasm", "npm", "chipfire.html")
 
+#: The commands of the program, each of which has a manual page.
+COMMANDS = tuple(
+    "check plain avalanches recurrent identity run simulate replay resume verify judge explain".split()
+)
+
 #: Places in the folder of the archive, and in the folder usr of the Debian package.
 MANUAL = "share/man/man1/chipfire.1"
+LIBRARY_MANUAL = "share/man/man3/chipfire.3"
+FORMATS_MANUAL = "share/man/man5/chipfire.5"
 BASH = "share/bash-completion/completions/chipfire"
 ZSH = "share/zsh/vendor-completions/_chipfire"
 FISH = "share/fish/vendor_completions.d/chipfire.fish"
@@ -35,15 +57,13 @@ COMPLETIONS = (BASH, ZSH, FISH)
 HEADERS = ("include/chipfire.h", "include/chipfire.hpp")
 PAGES = "share/doc/chipfire"
 PROVED = f"{PAGES}/PROVED"
-#: The folder of the libraries there. Debian has one for this kind of machine.
+#: The folder of the libraries in the archive. Debian has one for each machine.
 ARCHIVE_LIBRARIES = "lib"
-DEBIAN_LIBRARIES = "lib/x86_64-linux-gnu"
 #: What other tools read there of the library.
 PKG_CONFIG = "pkgconfig/chipfire.pc"
 CMAKE = "cmake/chipfire/chipfire-config.cmake"
 CMAKE_VERSION = "cmake/chipfire/chipfire-config-version.cmake"
 #: What Debian has besides.
-DEBIAN_MANUAL = f"usr/{MANUAL}.gz"
 DEBIAN_CHANGES = f"usr/{PAGES}/changelog.gz"
 DEBIAN_COPYRIGHT = f"usr/{PAGES}/copyright"
 DEBIAN_OVERRIDES = "usr/share/lintian/overrides/chipfire"
@@ -52,6 +72,8 @@ DEBIAN_OVERRIDES = "usr/share/lintian/overrides/chipfire"
 NOTED_VERSION = "chipfire/version"
 NOTED_REASON = "chipfire/without"
 CARRIED = "chipfire/program"
+#: What the faults of the library mean, for a package that has no program to ask.
+FAULTS = f"{CARRIED}/faults.json"
 #: What the archive of sources for pip has beside the package and PKG-INFO.
 BACKEND = ("build_wheel.py", "contents.py", "wheels.py", "pyproject.toml")
 
@@ -99,10 +121,32 @@ def sources():
     return (*BACKEND, *package())
 
 
-def places(libraries):
-    """Returns where what was built lies, with the libraries in this folder, by the words of PROVED, and where PROVED does."""
+def system():
+    """Returns what this machine is, as `uname -sm` tells it."""
+    return f"{platform.system()} {platform.machine()}"
+
+
+def own():
+    """Returns the machine that this is, or None if nothing is built for it."""
+    return next((it for it in MACHINES if system() == f"Linux {it.name}"), None)
+
+
+def places(libraries, machine):
+    """Returns where what was built for a machine lies, with the libraries in this folder, by the words of PROVED, and where
+    PROVED does."""
     found = f"bin/{PROGRAM}", f"{libraries}/{SONAME}", f"{libraries}/{STATIC}"
-    return {**dict(zip(BUILT, found)), "PROVED": PROVED}
+    return {**dict(zip(machine.built, found)), "PROVED": PROVED}
+
+
+def command_manual(command):
+    """Returns the place of the manual page of a command."""
+    return f"share/man/man1/chipfire-{command}.1"
+
+
+def manuals():
+    """Returns the places of all manual pages."""
+    its = tuple(command_manual(it) for it in COMMANDS)
+    return (MANUAL, *its, LIBRARY_MANUAL, FORMATS_MANUAL)
 
 
 def archive_top(of=None):
@@ -110,14 +154,15 @@ def archive_top(of=None):
     return f"chipfire-{of or version()}"
 
 
-def archive_name(of):
-    """Returns the name of the archive of a version."""
-    return f"{archive_top(of)}-x86_64-linux.tar.xz"
+def archive_name(of, machine):
+    """Returns the name of the archive of a version for a machine."""
+    return f"{archive_top(of)}-{machine.name}-linux.tar.xz"
 
 
-def archive_places(of=None):
+def archive_places(machine, of=None):
     """Returns where all is that PROVED is about, and PROVED, in the archive of a version: of this one if none is said."""
-    return {word: f"{archive_top(of)}/{place}" for word, place in places(ARCHIVE_LIBRARIES).items()}
+    found = places(ARCHIVE_LIBRARIES, machine)
+    return {word: f"{archive_top(of)}/{place}" for word, place in found.items()}
 
 
 def npm_name(of=None):
@@ -126,18 +171,24 @@ def npm_name(of=None):
 
 
 def web_places(of):
-    """Returns the names of the files that a release of a version has beside the archive, by the words of PROVED."""
+    """Returns the names of the files that a release of a version has beside the archives, by the words of PROVED."""
     return {MODULE: MODULE, NPM: npm_name(of), BOARD: BOARD}
 
 
-def debian_name():
-    """Returns the name of the Debian package."""
-    return f"chipfire_{version()}_amd64.deb"
+def debian_name(machine):
+    """Returns the name of the Debian package for a machine."""
+    return f"chipfire_{version()}_{machine.debian}.deb"
 
 
-def debian_places():
+def debian_libraries(machine):
+    """Returns the folder where Debian has the libraries for a machine."""
+    return f"lib/{machine.name}-linux-gnu"
+
+
+def debian_places(machine):
     """Returns where all is that PROVED is about, and PROVED, in the Debian package."""
-    return {word: f"usr/{place}" for word, place in places(DEBIAN_LIBRARIES).items()}
+    found = places(debian_libraries(machine), machine)
+    return {word: f"usr/{place}" for word, place in found.items()}
 
 
 def wheel_name(tag):
@@ -145,11 +196,13 @@ def wheel_name(tag):
     return f"chipfire-{version()}-{tag}.whl"
 
 
-def wheel_places():
+def library_places(machine):
+    """Returns where all is that PROVED is about, and PROVED, in the wheel that has the library and no program."""
+    return {machine.built[1]: f"{CARRIED}/{SHARED}", "PROVED": f"{CARRIED}/PROVED"}
+
+
+def wheel_places(machine):
     """Returns where all is that PROVED is about, and PROVED, in the wheel: it has no library to link with, and of the package
     for browsers and Node it has the page, if that was made."""
-    return {
-        "program": f"{CARRIED}/{PROGRAM}",
-        **{word: f"{CARRIED}/{word}" for word in (SHARED, "PROVED")},
-        BOARD: f"{CARRIED}/{WEB}/{BOARD}",
-    }
+    program = {machine.built[0]: f"{CARRIED}/{PROGRAM}"}
+    return {**program, **library_places(machine), BOARD: f"{CARRIED}/{WEB}/{BOARD}"}

@@ -30,20 +30,20 @@ def record_line(name, data):
     return f"{name},sha256={digest},{len(data)}\n"
 
 
-def with_package(tag, carried):
+def with_package(tag, carried, command=b""):
     """Returns the files of the wheel for the machines of a tag, bytes by names, with what it carries beside the package."""
     inside = {name: read(name) for name in package()}
-    return with_information(tag, {**inside, NOTED_VERSION: version().encode(), **carried})
+    return with_information(tag, {**inside, NOTED_VERSION: version().encode(), **carried}, command)
 
 
-def with_information(tag, inside):
-    """Returns the files of a wheel that installs these, bytes by names."""
+def with_information(tag, inside, command=b""):
+    """Returns the files of a wheel that installs these, bytes by names, and perhaps a command."""
     folder = f"chipfire-{version()}.dist-info"
     is_pure = str(tag == PURE).lower()
     form = f"Wheel-Version: 1.0\nGenerator: chipfire\nRoot-Is-Purelib: {is_pure}\nTag: {tag}\n"
     files = {**inside, f"{folder}/METADATA": metadata(), f"{folder}/WHEEL": form.encode()}
-    if tag != PURE:
-        files[f"{folder}/entry_points.txt"] = COMMAND
+    if command:
+        files[f"{folder}/entry_points.txt"] = command
     record = (
         "".join(record_line(name, data) for name, data in files.items()) + f"{folder}/RECORD,,\n"
     )

@@ -6,13 +6,14 @@
     report = chipfire.plain(grid, {190: 1000})
     print(report.chips, report.fired)
 
-The answers are the program's, whose contracts are proved; nothing of the package is. It stands on the standard library
+Results are the program's, whose contracts are proved; nothing of the package is. The package needs the standard library
 alone: `pip install ./python` installs it, and a copy of its folder works too. The program is found in this order: the
 `program` that a call or a `Program` names, the environment variable CHIPFIRE, the program that an installed package
 carries, `target/chipfire` of the clone of the repository that the package lies in or that pip was named the folder of,
 the program in the `release` there, if `./chipfire` would take it, and `chipfire` in a folder of the PATH with a whole
-path. A clone that somebody but this user and root can change is passed over. Who imports a package that finds none is
-warned. Where its library lies too, which has the same bodies and proofs, short plays start no program:
+path. A clone that somebody but this user and root can change is passed over. An import that finds no program warns, unless
+the package carries the library alone, for a C library that is too old for the program: then plays, groups, books and the
+detector work. If the library lies beside the program, which has the same functions and proofs, plays start no program:
 `chipfire.library` has the calls, and `find_library()` its file. A copy of the folder has no version to compare with the
 library's, and does not call it.
 
@@ -48,13 +49,13 @@ of the distributed machine, `wrong_page` one on which a wrong detector fails, `c
 event; `chipfire.machine` has the machine's words (schedules, replies, books, traces). `explore`, `judge`, `play` and
 `random_schedule` compute on `chipfire.model`, all but `judge` also on a `Computation`: see `chipfire.computations`.
 
-`judge_log` judges the logs of any distributed program, with the program's verdicts. `read_json_lines` and `read_shiviz`
+`judge_log` checks the logs of any distributed program, with the program's verdicts. `read_json_lines` and `read_shiviz`
 read such logs, and `model_log` makes one of a schedule of the model.
 
 `Detector` knows when a program of one's own is over, on threads, in asyncio or by multiprocessing, and `Books` are the
 counters of one process, for programs that send by their own means.
 
-A graph, chips, a schedule, a trace or a report may be the name of its file. `Graph.chips` tells in which forms chips
+A graph, chips, a schedule, a trace or a report may be the name of its file. `Graph.chips` says in which forms chips
 come, and `Report.picture` what can be drawn. A vertex has a number from 0 on, and may have a name. Sequences and arrays
 go by numbers, dicts and Series of pandas by names. Numbers of chips and firings go up to 2^40. A graph has up to
 2,097,152 vertices and 8,388,608 edges.

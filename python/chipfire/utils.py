@@ -227,6 +227,17 @@ class AsArray:
         return as_array(self._for_array(), dtype)
 
 
+class WithArea:
+    """What has the numbers of different vertices that fired, as `extent`."""
+
+    extent: Any
+
+    @property
+    def area(self) -> Any:
+        """How many different vertices fired: `extent` by the name that the field has for it."""
+        return self.extent
+
+
 def known_seed(seed: Any) -> int | float | str | bytes:
     """A seed as the one value that it stands for: a whole number, also of NumPy or a float like 3.0, as an int; another
     float; a text or bytes. For None the system draws a number of 64 bits, and a `Generator` of NumPy the next one that

@@ -12,6 +12,7 @@ from typing import Any, cast, NamedTuple, TYPE_CHECKING, TypeVar, Union
 
 from chipfire.backend import library
 from chipfire.backend.finding import find_program
+from chipfire.backend.plays import play
 from chipfire.backend.process import ask, Fault, Input, Kept
 from chipfire.backend.report import Report
 from chipfire.configurations.configuration import (
@@ -70,8 +71,30 @@ _FLAGS = {"progress", "dealt", "books", "fed"}
 
 
 class Check(NamedTuple):
-    """What `check` tells of a graph: its size and its sink; and of each vertex, by numbers, how many chips it sends
-    when it fires, and the least number of edges from it to the sink."""
+    """What `check` says of a graph.
+
+    Attributes
+    ----------
+    vertices, edges, sink : int
+        The numbers of vertices and edges, and the number of the sink.
+    degrees : tuple of int
+        For each vertex, by numbers, how many chips it sends when it fires.
+    distances : tuple of int
+        For each vertex the least number of edges from it to the sink.
+
+    See Also
+    --------
+    check
+
+    Notes
+    -----
+    Proved: the numbers. Not proved: that Python passes them on.
+
+    Examples
+    --------
+    >>> chipfire.check(chipfire.path(3)).distances
+    (1, 2, 1, 0)
+    """
 
     vertices: int
     edges: int
@@ -146,7 +169,38 @@ class _Question:
 
 
 def check(graph: AnyGraph, *, program: AnyProgram = None) -> Check:
-    """Looks whether a graph is one that chipfire takes: each vertex with its degree and its distance to the sink."""
+    """Checks that a graph is one that chipfire takes, and returns its degrees and distances.
+
+    Parameters
+    ----------
+    graph : Graph or path
+        The graph, or the name of its file.
+    program : path, optional
+        The program to ask. By default the one that is found.
+
+    Returns
+    -------
+    Check
+        The size of the graph and its sink, and the degree of each vertex and its distance to the sink.
+
+    Raises
+    ------
+    Fault
+        The graph is refused. The fault's number and place say why.
+
+    See Also
+    --------
+    Graph, explain
+
+    Notes
+    -----
+    Proved: the numbers. Not proved: that Python passes them on.
+
+    Examples
+    --------
+    >>> chipfire.check(chipfire.path(2))
+    Check(vertices=3, edges=4, sink=2, degrees=(2, 2, 0), distances=(1, 1, 0))
+    """
     lines = [
         line.split()
         for line in _Question(graph, program).ask("check", [], "vertices ").splitlines()
@@ -165,11 +219,54 @@ def plain(
     progress: bool = False,
     program: AnyProgram = None,
 ) -> Report:
-    """Stabilizes: plays on one thread until no vertex is legal, or all that are have fired `limit` times.
+    """Stabilizes chips on one thread.
 
-    `guess` says how often each vertex may have fired in the end, in one of the forms of chips, or by a report. It
-    changes no answer; one that is nearly true saves most of the play. With `progress`, `sys.stderr` gets a line about
-    once a second that tells how the play goes on."""
+    It plays until no vertex can fire, or until all that can have fired `limit` times.
+
+    Parameters
+    ----------
+    graph : Graph or path
+        The graph, or the name of its file.
+    chips : Chips
+        The chips at the start, in any form that `Graph.chips` takes, or the name of a chips file.
+    limit : int, optional
+        How often each vertex may fire, from 0 to 2^40, which is the default.
+    guess : Chips or Report, optional
+        How often each vertex may have fired in the end. It changes no result. One that is nearly right saves most of
+        the play.
+    progress : bool, optional
+        Whether `sys.stderr` gets a line about once a second that says how far the play is.
+    program : path, optional
+        The program to ask. By default the one that is found.
+
+    Returns
+    -------
+    Report
+        The chips at the end, and how often each vertex fired (the odometer).
+
+    Raises
+    ------
+    ValueError
+        The graph or the chips are refused, by the package or by the program (`Fault`).
+    KeyError
+        A name is that of no vertex.
+
+    See Also
+    --------
+    stabilize, resume, verify, run
+
+    Notes
+    -----
+    Proved: the chips and the odometer, which are those of every firing sequence that ends within the limit.
+    Not proved: that Python passes them on.
+
+    Examples
+    --------
+    >>> triangle = chipfire.Graph(3, 2, [(0, 1), (0, 2), (1, 0), (1, 2)])
+    >>> report = chipfire.plain(triangle, [4, 0, 0])
+    >>> report.chips, report.fired
+    ((1, 0, 3), (2, 1, 0))
+    """
     if isinstance(graph, Graph) and graph.loops:
         less = graph.without_loops(known_chips(graph, chips, program))
         free = plain(
@@ -183,7 +280,7 @@ def plain(
         counts = question.numbers(guess.total if isinstance(guess, Report) else guess, "firings")
     is_in_memory = not isinstance(start, FILE) and not isinstance(counts, FILE)
     if question.own and not progress and is_in_memory:
-        if found := library.play(question.own, start, program, _limit(limit), counts):
+        if found := play(question.own, start, program, _limit(limit), counts):
             left, fired, stopped = found
             return Report(
                 tuple(left),
@@ -219,10 +316,49 @@ def verify(
     progress: bool = False,
     program: AnyProgram = None,
 ) -> bool:
-    """Whether a report is what `plain` finds for this game and limit; or, in a form of chips, whether counts are those.
-    A name is that of the file of a report. One that was stopped by a smaller limit may be honest, and is not verified.
-    Proved: the verdict on a file, and on the counts and chips of a report if the library answers; else the play.
-    Not proved: what Python compares."""
+    """Returns whether a report, or an odometer, is what `plain` finds for a game.
+
+    Parameters
+    ----------
+    graph : Graph or path
+        The graph, or the name of its file.
+    chips : Chips
+        The chips at the start, in any form that `Graph.chips` takes, or the name of a chips file.
+    report : Report, path or Chips
+        A report, the name of its file, or the odometer in any form of chips.
+    limit : int, optional
+        How often each vertex may fire, from 0 to 2^40, which is the default.
+    progress : bool, optional
+        Whether `sys.stderr` gets a line about once a second that says how far the play is.
+    program : path, optional
+        The program to ask. By default the one that is found.
+
+    Returns
+    -------
+    bool
+        Whether it is. A report of a play that a smaller limit stopped is not verified, although it may be honest.
+
+    Raises
+    ------
+    ValueError
+        The graph or the chips are refused, by the package or by the program (`Fault`).
+    KeyError
+        A name is that of no vertex.
+
+    See Also
+    --------
+    plain, resume
+
+    Notes
+    -----
+    Proved: the verdict on a file, and on the counts and chips of a report if the library returns it; else the play.
+    Not proved: what Python compares.
+
+    Examples
+    --------
+    >>> chipfire.verify(chipfire.path(1), {0: 3}, {0: 1}), chipfire.verify(chipfire.path(1), {0: 3}, {0: 2})
+    (True, False)
+    """
     question = _Question(graph, program)
     if isinstance(report, FILE):
         files = [question.chips(chips), ("report", report)]
@@ -259,12 +395,52 @@ def drops(
     progress: bool = False,
     program: AnyProgram = None,
 ) -> Drops:
-    """Drops one chip after another, or several at a time, each on what the play of the one before it left.
+    """Drops chips one after another, and returns the numbers of all avalanches in columns.
 
-    Before the first the chips are played to their end. `vertices` are names of vertices in the order of the drops, as
-    an array or gone through once, as `random_drops`; `amounts` are as many numbers of chips. Or a name is that of a
-    file of rows `vertex,chips`.
-    Proved: each row, and the report. Not proved: that Python passes them on, and the histogram."""
+    The chips at the start are stabilized before the first drop. Each drop falls on what the one before it left.
+
+    Parameters
+    ----------
+    graph : Graph or path
+        The graph, or the name of its file.
+    chips : Chips
+        The chips at the start, in any form that `Graph.chips` takes, or the name of a chips file.
+    vertices : iterable of hashable, array or path
+        The names of the vertices in the order of the drops, such as `random_drops` returns; or the name of a file of
+        rows ``vertex,chips``.
+    amounts : iterable of int, optional
+        The number of chips of each drop. By default one.
+    progress : bool, optional
+        Whether `sys.stderr` gets a line about once a second that says how far the play is.
+    program : path, optional
+        The program to ask. By default the one that is found.
+
+    Returns
+    -------
+    Drops
+        The columns `size`, `area` and `lost`, and the report of all together.
+
+    Raises
+    ------
+    ValueError
+        The graph or the chips are refused, by the package or by the program (`Fault`).
+    KeyError
+        A name is that of no vertex.
+
+    See Also
+    --------
+    avalanches, chains, Pile, random_drops
+
+    Notes
+    -----
+    Proved: each row, and the report. Not proved: that Python passes them on, and the histogram.
+
+    Examples
+    --------
+    >>> found = chipfire.drops(chipfire.path(2), {0: 1, 1: 1}, [0, 1])
+    >>> list(found.size), list(found.lost), found.configuration
+    ([2, 0], [2, 0], {0: 1, 1: 1})
+    """
     if isinstance(graph, Graph) and graph.loops:
         less = graph.without_loops(known_chips(graph, chips, program))
         free = drops(
@@ -306,13 +482,67 @@ def run(
     progress: bool = False,
     program: AnyProgram = None,
 ) -> Report:
-    """Plays as `plain` does, with an actor for each vertex, on `workers` threads, by a program that has this command.
+    """Stabilizes chips on many threads, with an actor for each vertex.
 
-    The threads share one queue of all vertices. If the vertices are `dealt` out, each thread keeps its own: large
-    graphs are then played quicker, by as many threads as there are processors. The report is the same.
-    `feed` are chips that the vertices get while they play; the report is that of a game which has all of them from
-    the start. `trace` names a file that is written: what each vertex took and fired, up to `trace_rows` rows each. If
-    a vertex did more, the warning `TraceCut` says so. `progress` is as in `plain`."""
+    Parameters
+    ----------
+    graph : Graph or path
+        The graph, or the name of its file.
+    chips : Chips
+        The chips at the start, in any form that `Graph.chips` takes, or the name of a chips file.
+    limit : int, optional
+        How often each vertex may fire, from 0 to 2^40, which is the default.
+    ring : int, optional
+        How many messages each edge holds, from 1, which is the default, to 64. Longer rings are slower.
+    workers : int, optional
+        The number of threads, from 1 to 64.
+    dealt : bool, optional
+        Whether each thread keeps vertices of its own. By default all threads share one queue of vertices. Large
+        graphs are played quicker if they are dealt to as many threads as there are processors.
+    turns : int, optional
+        How many turns each thread has.
+    feed : Chips, optional
+        Chips that the vertices get while they play. The report is that of a game that has all of them at the start.
+    trace : path, optional
+        A file to which each vertex's takes and firings are written.
+    trace_rows : int, optional
+        How many rows the trace of a vertex has. If a vertex did more, the warning `TraceCut` says so.
+    progress : bool, optional
+        Whether `sys.stderr` gets a line about once a second that says how far the play is.
+    program : path, optional
+        The program to ask. By default the one that is found.
+
+    Returns
+    -------
+    Report
+        The same report as that of `plain`.
+
+    Raises
+    ------
+    Fault
+        The program refuses the game, or the threads did not finish within their turns (fault 61).
+
+    Warns
+    -----
+    TraceCut
+        A vertex did more than its trace has rows.
+
+    See Also
+    --------
+    plain, replay, recorded
+
+    Notes
+    -----
+    `plain` is quicker: `run` is for traces, for chips that are fed, and to watch the machine.
+
+    Proved: the report, for every schedule of the threads. Not proved: that a run ends, and that Python passes the
+    report on.
+
+    Examples
+    --------
+    >>> chipfire.run(chipfire.grid(7, 7), {24: 100}, workers=2) == chipfire.plain(chipfire.grid(7, 7), {24: 100})
+    True
+    """
     question = _Question(graph, program)
     files = [question.chips(chips), *([] if feed is None else [question.chips(feed, "--feed")])]
     told = question.ask(
@@ -342,9 +572,53 @@ def simulate(
     fed: bool = False,
     program: AnyProgram = None,
 ) -> Simulation:
-    """Runs a schedule on the detector: a reply for each event, and the report if the root is closed then, or after so
-    many rounds of turns; with `books` also what stands in the books after each event. If it is `fed`, the schedule may
-    give the vertices more chips, on the edges that come from the root."""
+    """Runs a schedule of events on the distributed machine, on one thread.
+
+    Parameters
+    ----------
+    graph : Graph or path
+        The graph, or the name of its file.
+    chips : Chips
+        The chips at the start, in any form that `Graph.chips` takes, or the name of a chips file.
+    schedule : iterable of (kind, at, count), or path
+        The events, or the name of a file of them.
+    limit : int, optional
+        How often each vertex may fire, from 0 to 2^40, which is the default.
+    ring : int, optional
+        How many messages each edge holds, from 1, which is the default, to 64.
+    rounds : int, optional
+        How many rounds of turns come after the schedule, until the root is closed.
+    books : bool, optional
+        Whether to report the books of the detector after each event.
+    fed : bool, optional
+        Whether the schedule may give the vertices more chips, on the root edges.
+    program : path, optional
+        The program to ask. By default the one that is found.
+
+    Returns
+    -------
+    Simulation
+        A reply for each event, and the report if the root is closed at the end.
+
+    Raises
+    ------
+    Fault
+        The program refuses the game or the schedule.
+
+    See Also
+    --------
+    run, page, play
+
+    Notes
+    -----
+    Proved: the replies, the books and the report. Not proved: that Python passes them on.
+
+    Examples
+    --------
+    >>> triangle = chipfire.Graph(3, 2, [(0, 1), (0, 2), (1, 0), (1, 2)])
+    >>> chipfire.simulate(triangle, [4, 0, 0], [], rounds=9).report.fired
+    (2, 1, 0)
+    """
     question = _Question(graph, program)
     if not isinstance(schedule, FILE):
         schedule = Schedule(schedule)
@@ -377,7 +651,45 @@ def replay(
     limit: int | None = None,
     program: AnyProgram = None,
 ) -> list[Firing]:
-    """The firings of a recorded run, in an order in which all that the vertices wrote down fits together."""
+    """Returns the firings of a recorded run, in an order in which all of its rows fit together.
+
+    Parameters
+    ----------
+    graph : Graph or path
+        The graph, or the name of its file.
+    chips : Chips
+        The chips at the start, in any form that `Graph.chips` takes, or the name of a chips file.
+    trace : iterable of rows, or path
+        The rows (vertex, kind, edge, count) that `run` recorded, or the name of their file.
+    limit : int, optional
+        How often each vertex may fire, from 0 to 2^40, which is the default.
+    program : path, optional
+        The program to ask. By default the one that is found.
+
+    Returns
+    -------
+    list of Firing
+        The firings, each of a vertex and a count.
+
+    Raises
+    ------
+    Fault
+        The rows fit together in no order (fault 70), or are refused.
+
+    See Also
+    --------
+    run, recorded
+
+    Notes
+    -----
+    Proved: that the order is one, and that there is none if fault 70 is raised. Not proved: that Python passes it on.
+
+    Examples
+    --------
+    >>> triangle = chipfire.Graph(3, 2, [(0, 1), (0, 2), (1, 0), (1, 2)])
+    >>> [tuple(it) for it in chipfire.replay(triangle, [4, 0, 0], [(0, "take", 4, 4), (0, "fire", 0, 2)])]
+    [(0, 2)]
+    """
     question = _Question(graph, program)
     files = [question.chips(chips), _input("trace", trace, trace_text)]
     lines = question.ask("replay", files, "", limit=limit).splitlines()
@@ -392,9 +704,50 @@ def resume(
     progress: bool = False,
     program: AnyProgram = None,
 ) -> Report:
-    """Goes on from where a limit or a seal stopped a play; `total` of what comes is what was fired in all.
-    A report of another graph is refused if it knows its own, or cannot be one of this; `prior` is not checked.
-    `progress` is as in `plain`."""
+    """Goes on from a play that a limit or a seal stopped.
+
+    Parameters
+    ----------
+    graph : Graph or path
+        The graph, or the name of its file.
+    report : Report or path
+        The report of that play, or the name of its file.
+    limit : int, optional
+        How often each vertex may fire in this stage, from 0 to 2^40, which is the default.
+    progress : bool, optional
+        Whether `sys.stderr` gets a line about once a second that says how far the play is.
+    program : path, optional
+        The program to ask. By default the one that is found.
+
+    Returns
+    -------
+    Report
+        The report. Its `total` has the firings of all stages.
+
+    Raises
+    ------
+    Fault
+        The program refuses the report.
+    ValueError
+        The report is of another graph, or cannot be of this one.
+
+    See Also
+    --------
+    plain, verify
+
+    Notes
+    -----
+    The `prior` of the report is not checked.
+
+    Proved: the result, from the chips of the report. Not proved: that Python passes it on.
+
+    Examples
+    --------
+    >>> triangle = chipfire.Graph(3, 2, [(0, 1), (0, 2), (1, 0), (1, 2)])
+    >>> first = chipfire.plain(triangle, [5, 0, 0], limit=1)
+    >>> chipfire.resume(triangle, first).total
+    (3, 1, 0)
+    """
     if not isinstance(report, (Report, *FILE)):
         raise TypeError(
             f"a report is a chipfire.Report or the name of a file, and not of {type(report).__name__}"
@@ -411,7 +764,38 @@ def resume(
 
 
 def explain(number: int | None = None, *, program: AnyProgram = None) -> str:
-    """What the fault with this number means and what to do; without a number the table of all faults."""
+    """Returns what a fault means and what to do about it.
+
+    Parameters
+    ----------
+    number : int, optional
+        The number of the fault. By default the table of all faults is returned.
+    program : path, optional
+        The program to ask. By default the one that is found.
+
+    Returns
+    -------
+    str
+        The text that ``chipfire explain`` prints.
+
+    Raises
+    ------
+    Fault
+        No fault has this number.
+
+    See Also
+    --------
+    Fault
+
+    Notes
+    -----
+    Nothing of this is proved: texts are only tested.
+
+    Examples
+    --------
+    >>> chipfire.explain(25).splitlines()[0]
+    'fault 25 Number i: a field of row i is no number'
+    """
     words: list[Input] = (
         [] if number is None else [("number", str(as_int(number, "a fault's number")))]
     )
@@ -419,22 +803,116 @@ def explain(number: int | None = None, *, program: AnyProgram = None) -> str:
 
 
 def identity(graph: AnyGraph, *, program: AnyProgram = None) -> Configuration:
-    """The recurrent identity: of the recurrent configurations, the one that adds nothing to any of them.
-    Proved: the identity, where the library finds it in one call. A play that may be too long for one call, or a process
-    without the library, has the program play: then the stabilizations are proved. Not proved: that it is passed on, or
-    else the difference between them."""
+    """Returns the identity of the sandpile group: the recurrent configuration that adds nothing to any other.
+
+    Parameters
+    ----------
+    graph : Graph or path
+        The graph, or the name of its file.
+    program : path, optional
+        The program to ask. By default the one that is found.
+
+    Returns
+    -------
+    Configuration
+        The identity.
+
+    Raises
+    ------
+    ValueError
+        The graph is refused, by the package or by the program (`Fault`).
+
+    See Also
+    --------
+    add, inverse, recurrent_representative
+
+    Notes
+    -----
+    Proved: the identity, if the library finds it in one call. If a play may be too long for that, or without the
+    library, the program plays: then the stabilizations are proved. Not proved: that the identity is passed on, or
+    else the difference between the stabilizations.
+
+    Examples
+    --------
+    >>> chipfire.identity(chipfire.complete(4))
+    {1: 2, 2: 2, 3: 2}
+    """
     return known_graph(graph, program).identity(program=program)
 
 
 def write_chips(file: FileName, graph: Graph, chips: Chips) -> None:
-    """Writes a chips file: a row for each vertex that has a chip."""
+    """Writes a chips file.
+
+    Parameters
+    ----------
+    file : path
+        The file to write. It gets a row for each vertex that has a chip.
+    graph : Graph
+        The graph.
+    chips : Chips
+        The chips, in any form that `Graph.chips` takes.
+
+    Raises
+    ------
+    ValueError
+        The chips are not those of this graph.
+    OSError
+        The file cannot be written.
+
+    See Also
+    --------
+    read_chips, Graph.write
+
+    Notes
+    -----
+    Nothing of this is proved.
+
+    Examples
+    --------
+    >>> chipfire.write_chips("chips.csv", chipfire.grid(2, 2), {0: 4})
+    """
     if not isinstance(graph, Graph):
         raise no_graph(graph, "a graph is a chipfire.Graph")
     write_text(file, chips_text(graph.chips(chips)))
 
 
 def read_chips(file: FileName, graph: Graph, *, program: AnyProgram = None) -> tuple[int, ...]:
-    """The chips of a chips file, one number for each vertex of the graph. The program reads it, or refuses it."""
+    """Reads a chips file.
+
+    Parameters
+    ----------
+    file : path
+        The file, with the header ``vertex,chips``.
+    graph : Graph
+        The graph.
+    program : path, optional
+        The program to ask. By default the one that is found.
+
+    Returns
+    -------
+    tuple of int
+        The chips of each vertex, by numbers.
+
+    Raises
+    ------
+    Fault
+        The program refuses the file.
+
+    See Also
+    --------
+    write_chips
+
+    Notes
+    -----
+    Proved: the numbers. Not proved: that Python passes them on.
+
+    Examples
+    --------
+    >>> grid = chipfire.grid(2, 1)
+    >>> chipfire.write_chips("chips.csv", grid, {0: 4})
+    >>> chipfire.read_chips("chips.csv", grid)
+    (4, 0, 0)
+    """
     if not isinstance(graph, Graph):
         raise no_graph(graph, "a graph is a chipfire.Graph")
     if not isinstance(file, FILE):
@@ -457,8 +935,32 @@ def _method(function: Callable[P, T]) -> Callable[Concatenate[Program, P], T]:
 
 
 class Program:
-    """The program chipfire of this name, or the one that is found, and its commands as methods, which start it. What it
-    refuses is raised as a `Fault`. An option that is None is left out, so the program's own value stands.
+    """The program of a name, or the one that is found, with its commands as methods.
+
+    Each call starts the program. An option that is None is left out, so the program's own value stands.
+
+    Parameters
+    ----------
+    program : path, optional
+        The name of the program.
+
+    Raises
+    ------
+    ProgramNotFound
+        There is no program.
+
+    See Also
+    --------
+    plain, run, simulate
+
+    Notes
+    -----
+    Proved: what is proved of the function of the same name. Not proved: that Python passes results on.
+
+    Examples
+    --------
+    >>> chipfire.Program().plain(chipfire.path(1), [3]).fired
+    (1, 0)
     """
 
     def __init__(self, program: AnyProgram = None) -> None:

@@ -11,6 +11,7 @@ import functools
 import glob
 import json
 import os
+import platform
 import re
 import shutil
 import subprocess
@@ -26,16 +27,20 @@ from chipfire.utils import HERE, package_text
 _PACKAGE = os.path.dirname(os.path.dirname(__file__)) if os.path.isabs(__file__) else HERE
 _AROUND = os.path.join(_PACKAGE, os.pardir, os.pardir)
 
-#: The program that the package may carry.
+#: What the package may carry: the program, and the library, perhaps alone.
 CARRIED = os.path.join(HERE, "program", "chipfire")
+CARRIED_LIBRARY = os.path.join(HERE, "program", "libchipfire.so")
+
+#: The machines with Linux that there is a program for.
+MACHINES = "x86_64", "aarch64"
 
 #: The folders of a clone that `./chipfire` reads and runs.
 _READ = "crates", "include", "js", "packing", "python", "release", "target", "tools"
 
 #: What a package without a program can do, and what helps.
+_WORKS = "graphs, their matrices and sandpile groups, pictures, and explore, play, judge, page and choice_page for schedules"
 _WITHOUT = (
-    "Graphs, their matrices and sandpile groups, pictures, and explore, play, judge, page and choice_page for "
-    "schedules work without it; what plays a game raises ProgramNotFound."
+    f"{_WORKS[0].upper()}{_WORKS[1:]} work without it; what plays a game raises ProgramNotFound."
 )
 _REMEDY = (
     "Name a program by the environment variable CHIPFIRE, or put one on the PATH: ./chipfire in a clone of the "
@@ -43,8 +48,40 @@ _REMEDY = (
 )
 
 
+#: What works on other systems than those, as ./chipfire says it.
+_ELSEWHERE = (
+    "here work the page release/chipfire.html in a browser, the package release/chipfire-*.tgz in Node (js/README.md), "
+    "and in Python what needs no program"
+)
+
+
 class ProgramNotFound(FileNotFoundError):
-    """There is no program chipfire in any place that was looked at, or it cannot be started."""
+    """There is no program chipfire in any place where one is looked for, or it cannot be started.
+
+    See Also
+    --------
+    Program
+
+    Notes
+    -----
+    Nothing of this is proved.
+
+    Examples
+    --------
+    >>> try:
+    ...     chipfire.Program("/nowhere/chipfire").check(chipfire.path(1))
+    ... except chipfire.ProgramNotFound:
+    ...     print("no program")
+    no program
+    """
+
+
+def elsewhere() -> str:
+    """Why there is no program for this system, and what works on it; an empty text if there is one."""
+    system = f"{platform.system()} {platform.machine()}"
+    if system in {f"Linux {it}" for it in MACHINES}:
+        return ""
+    return f"it is for Linux on {' or '.join(MACHINES)}, and this is {system}: {_ELSEWHERE}"
 
 
 def _noted(name: str) -> str | None:
@@ -182,13 +219,15 @@ def _found(is_asked: bool) -> str:
     if named := os.environ.get("CHIPFIRE") or (CARRIED if os.access(CARRIED, os.X_OK) else None):
         return named
     whys = []
-    for clone in _clones():
+    for clone in () if elsewhere() else _clones():
         try:
             return _program_of(clone, is_asked)
         except ProgramNotFound as why:
             whys.append(str(why.strerror))
     if there := on_path("chipfire"):
         return there
+    if there_is_none := elsewhere():
+        raise ProgramNotFound(2, there_is_none, "chipfire")
     none = "it neither lies in a clone of the repository nor was installed from the folder of one that is still there"
     clones = "; ".join(whys) or none
     noted = _noted("without")
@@ -201,21 +240,29 @@ def find_program() -> str:
     try:
         return _found(is_asked=True)
     except ProgramNotFound as why:
+        remedy = "" if elsewhere() else f". {_REMEDY}"
         raise ProgramNotFound(
-            2, f"the program is not found: {why.strerror}. {_REMEDY}", "chipfire"
+            2, f"the program is not found: {why.strerror}{remedy}", "chipfire"
         ) from None
 
 
+def carries_library_alone() -> bool:
+    """Whether the package carries the library, and no program."""
+    return os.path.isfile(CARRIED_LIBRARY) and not os.access(CARRIED, os.X_OK)
+
+
 def warn_without_program() -> None:
-    """Warns who imports the package if it has no program, and says why. This starts no process."""
+    """Warns who imports the package if it has neither program nor library, and says why. This starts no process."""
     try:
-        _found(is_asked=False)
+        if not carries_library_alone():
+            _found(is_asked=False)
     except ProgramNotFound as why:
-        warnings.warn(
-            f"chipfire has no program: {why.strerror}. {_WITHOUT} {_REMEDY}.",
-            RuntimeWarning,
-            stacklevel=3,
+        told = (
+            f"{why.strerror}, which is {_WORKS}"
+            if elsewhere()
+            else f"{why.strerror}. {_WITHOUT} {_REMEDY}."
         )
+        warnings.warn(f"chipfire has no program: {told}", RuntimeWarning, stacklevel=3)
 
 
 def start_program() -> None:

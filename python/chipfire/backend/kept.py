@@ -5,6 +5,7 @@ from __future__ import annotations
 import contextlib
 import ctypes
 import os
+import time
 import weakref
 from array import array
 from typing import Any, TYPE_CHECKING
@@ -22,6 +23,9 @@ STOPPED, NO_MEMORY = 13, 90
 _MOST_BYTES = 2**26
 
 _NO_NUMBERS = array("Q")
+
+#: About how many seconds a portion of a play takes; how many visits the first one makes, and each at most.
+_PORTION, _FIRST_VISITS, _MOST_VISITS = 0.1, 2**22, 2**40
 
 
 class _Struct(ctypes.Structure):
@@ -81,8 +85,15 @@ class KeptPile:
         )
 
     def play(self) -> int:
-        """Plays to the end."""
-        return self.drops(_NO_NUMBERS, _NO_NUMBERS, [_NO_NUMBERS] * 3)[0]
+        """Plays to the end, in portions: between two of them an interrupt is seen."""
+        visits = _FIRST_VISITS
+        while True:
+            begun = time.monotonic()
+            number = int(self._found.chipfire_pile_play(self._at, visits, self._words[0]))
+            if number or not self._told[0]:
+                return number
+            is_short = time.monotonic() - begun < _PORTION
+            visits = min(2 * visits, _MOST_VISITS) if is_short else max(visits // 2, 1)
 
     def drop(self, vertex: int, amount: int) -> int:
         """A drop, whose numbers `told` has then."""

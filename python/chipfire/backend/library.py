@@ -7,8 +7,9 @@ An array is an `array.array("Q")`, or one of NumPy of `uint64` in C's order that
 overlap, and no other thread writes to one meanwhile. On a fault all stay as they were.
 
 `plain`, `verify` of a report, and what stands on them go this way if neither the call nor CHIPFIRE names a program, the
-library lies where the program does and has the package's version, and the play is short. Else the program answers, as a
-process. So it does in a forked child of a process that had more threads than one, of any language, since the library
+library lies where the program does and has the package's version. A package for a C library that is too old for the
+program carries the library alone. Else the program answers, as a process. So it does in a forked child of a process that
+had more threads than one, of any language, since the library
 asks for memory: those of NumPy's linear algebra count, too (OPENBLAS_NUM_THREADS=1 starts none). To load a library runs
 code of it, so it is seen before whether somebody else can change it, and which version is stated of it.
 """
@@ -19,13 +20,16 @@ import ctypes
 import functools
 import hashlib
 import os
+import platform
 import threading
 import warnings
 from array import array
+from collections.abc import Sequence
 from typing import Any, TYPE_CHECKING
 
 from chipfire.backend.finding import (
     CARRIED,
+    carries_library_alone,
     find_program,
     ProgramNotFound,
     source_of_version,
@@ -39,7 +43,8 @@ from chipfire.utils import as_int, FileName, MAX_CHIPS, MAX_LIMIT, numpy_in_use,
 if TYPE_CHECKING:
     from chipfire.graphs.graph import Graph
 
-#: The most that a play in this process may take: vertices and edges, times chips, and times firings of each vertex.
+#: The most that a call may take which is not made in portions: vertices and edges, times chips, and times firings of each
+#: vertex.
 MOST_WORK = 2**28
 
 _NAME = "libchipfire.so"
@@ -91,6 +96,7 @@ _ROW_CALLS = {
     "chipfire_superstable": (ctypes.c_size_t, *_SLICE),
     "chipfire_inverse": (ctypes.c_size_t, *_SLICE),
     "chipfire_identity": _SLICE,
+    "chipfire_random_recurrent": (_NUMBER, _NUMBER, ctypes.c_size_t, *_SLICE),
 }
 
 #: No numbers, one number, and a slice of length 0, which points to something.
@@ -135,7 +141,7 @@ def _places(folder: str) -> list[str]:
     return [
         beside,
         os.path.join(installed, _NAME),
-        os.path.join(installed, "x86_64-linux-gnu", _NAME),
+        os.path.join(installed, f"{platform.machine()}-linux-gnu", _NAME),
     ]
 
 
@@ -153,7 +159,8 @@ def _stated(file: str, folder: str) -> str:
             lines = package_text(proved).splitlines()
             with open(file, "rb") as library:
                 checksum = hashlib.sha256(library.read()).hexdigest()
-            is_meant = f"{_NAME} sha256:{checksum}" in lines
+            # (of another machine than x86-64 it stands before the name)
+            is_meant = any(line.endswith(f"{_NAME} sha256:{checksum}") for line in lines)
             return lines[0].partition(" ")[2] if is_meant else ""
     stamp = os.path.join(folder, "chipfire.stamp")
     source = source_of_version(around)
@@ -215,6 +222,7 @@ def _declare_piles(found: ctypes.CDLL) -> None:
     calls = (
         (found.chipfire_pile_new, (_NUMBER, _NUMBER, *3 * _SLICE, _NUMBER, *_SLICE, number_at)),
         (found.chipfire_pile_put, (_NUMBER, *_SLICE)),
+        (found.chipfire_pile_play, (_NUMBER, number_at)),
         (found.chipfire_pile_drop, (_NUMBER, _NUMBER, number_at, number_at, number_at)),
         (found.chipfire_pile_drops, (*5 * _SLICE, number_at)),
         (found.chipfire_pile_chips, _SLICE),
@@ -232,7 +240,8 @@ def _declare_piles(found: ctypes.CDLL) -> None:
 def _beside(named: str | None = None) -> tuple[ctypes.CDLL | None, str]:
     """The library of the program that is found, and an empty text; or None, and why it is not loaded. It is kept for
     each program that CHIPFIRE `named`."""
-    folder = os.path.dirname(os.path.realpath(find_program()))
+    is_alone = carries_library_alone() and not named
+    folder = os.path.dirname(CARRIED if is_alone else os.path.realpath(find_program()))
     file = next(filter(os.path.isfile, _places(folder)), None)
     if file is None:
         return None, f"there is none beside {folder}"
@@ -317,9 +326,9 @@ def slice_of(name: str, numbers: Any) -> tuple[int, int]:
     raise TypeError(f"the {name} are no {kind}: {type(numbers).__name__}")
 
 
-def _call(call: Any, graph: Graph, number: int | None, *arrays: Any, but: int = 0) -> int:
-    """Makes a call of the library, with a number between graph and arrays, or None. A fault is raised, `but` this one,
-    whose number is returned; 0 if there is none."""
+def _call(call: Any, graph: Graph, numbers: Sequence[int], *arrays: Any, but: int = 0) -> int:
+    """Makes a call of the library, with some numbers between graph and arrays. A fault is raised, `but` this one, whose
+    number is returned; 0 if there is none."""
     place = _NUMBER()
     of_graph = (min(graph.vertices, 2**64 - 1), min(graph.sink, 2**64 - 1))
     # As long as there are views no array gets another length.
@@ -327,7 +336,6 @@ def _call(call: Any, graph: Graph, number: int | None, *arrays: Any, but: int = 
     words = [
         word for column in (*graph.long_columns, *arrays) for word in slice_of("numbers", column)
     ]
-    numbers = [] if number is None else [number]
     status: int = call(*of_graph, *words[:6], *numbers, *words[6:], place)
     for view in views:
         view.release()
@@ -346,7 +354,7 @@ def _call_on(call: str, graph: Graph, limit: int, **arrays: Any) -> None:
     ends = sorted(slice_of(name, numbers) for name, numbers in [*edges, *arrays.items()])
     if any(start + 8 * length > other for (start, length), (other, _) in zip(ends, ends[1:])):
         raise ValueError(f"two of the {', '.join(arrays)} overlap")
-    _call(getattr(found, call), graph, as_int(limit, "limit", 0, MAX_LIMIT), *arrays.values())
+    _call(getattr(found, call), graph, [as_int(limit, "limit", 0, MAX_LIMIT)], *arrays.values())
 
 
 def stabilize_all(
@@ -393,29 +401,28 @@ def avalanches(
     _call_on("chipfire_avalanches", graph, limit, at=at, amounts=amounts, chips=chips, **rows)
 
 
-def play(
+def stabilize_short(
+    found: ctypes.CDLL,
     graph: Graph,
     chips: array[int],
-    program: FileName | None,
-    limit: int = MAX_LIMIT,
+    fired: array[int],
+    limit: int,
     guess: array[int] = _NONE,
-) -> tuple[array[int], array[int], int] | None:
-    """The chips and the counts at the end of one game after another, and how many vertices the limit stopped; or None
-    if one of them is the program's."""
-    found = loaded() if program is None else None
-    some = at_once(graph, chips) if found else 0
-    if not found or not some:
-        return None
-    width, at_most = graph.vertices or 1, most(graph)
-    # (the chips stay, since the program may have to play from them)
-    left, fired, stopped = chips[:], _ZERO * len(chips), _ZERO * (len(chips) // width)
-    for first in range(0, len(stopped) or 1, some):
-        games = slice(first, first + some)
+) -> list[int | None]:
+    """Plays one game after another, as `stabilize_all` does; how many vertices of each the limit stopped, or None of one
+    that is too long for a call, whose chips and counts are any then."""
+    width, at_most, some = graph.vertices or 1, most(graph), at_once(graph, chips)
+    games = len(chips) // width
+    if not some:
+        return [None] * games
+    stopped = _ZERO * games
+    for first in range(0, games or 1, some):
         numbers = slice(first * width, (first + some) * width)
-        here = [memoryview(it)[numbers] for it in (guess, left, fired)]
-        call = found.chipfire_stabilize_all
-        _call(call, graph, min(limit, at_most), *here, memoryview(stopped)[games])
-    return None if at_most < limit and any(stopped) else (left, fired, sum(stopped))
+        here = [memoryview(it)[numbers] for it in (guess, chips, fired)]
+        over = memoryview(stopped)[first : first + some]
+        _call(found.chipfire_stabilize_all, graph, [min(limit, at_most)], *here, over)
+    # (a game that a smaller limit has stopped is played anew)
+    return [None if over and at_most < limit else over for over in stopped]
 
 
 def is_end(
@@ -433,7 +440,7 @@ def is_end(
     if not found or sum(chips) >= at_most or max(fired) >= at_most < limit:
         return None
     arrays = (chips, fired, ends)
-    return _call(found.chipfire_verify, graph, min(limit, at_most), *arrays, but=53) == 0
+    return _call(found.chipfire_verify, graph, [min(limit, at_most)], *arrays, but=53) == 0
 
 
 def _row_call(name: str, graph: Graph, rows: array[int], program: FileName | None) -> Any:
@@ -450,7 +457,7 @@ def burning(graph: Graph, program: FileName | None) -> tuple[array[int], array[i
     if not call:
         return None
     script, chips = _ZERO * graph.vertices, _ZERO * graph.vertices
-    _call(call, graph, None, script, chips)
+    _call(call, graph, [], script, chips)
     return script, chips
 
 
@@ -460,7 +467,7 @@ def are_recurrent(graph: Graph, rows: array[int], program: FileName | None) -> a
     if not call:
         return None
     flags = _ZERO * (len(rows) // graph.vertices)
-    _call(call, graph, None, rows, flags)
+    _call(call, graph, [], rows, flags)
     return flags
 
 
@@ -472,7 +479,7 @@ def representative(
     call = _row_call(f"chipfire_{form}", graph, chips, program)
     if not call:
         return None
-    _call(call, graph, 1, chips)
+    _call(call, graph, [1], chips)
     return chips
 
 
@@ -482,5 +489,16 @@ def identity(graph: Graph, program: FileName | None) -> array[int] | None:
     if not call:
         return None
     found = _ZERO * graph.vertices
-    _call(call, graph, None, found)
+    _call(call, graph, [], found)
     return found
+
+
+def random_recurrents(graph: Graph, seed: int, first: int, count: int) -> array[int] | None:
+    """So many random recurrent configurations of a seed, from the one with number `first` on, one after another; or None if
+    there is no library."""
+    found = loaded()
+    if found is None:
+        return None
+    chips = _ZERO * (count * graph.vertices)
+    _call(found.chipfire_random_recurrent, graph, [seed, first, count], chips)
+    return chips

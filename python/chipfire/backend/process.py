@@ -4,6 +4,7 @@ from __future__ import annotations
 
 import ctypes
 import functools
+import json
 import os
 import re
 import signal
@@ -15,8 +16,14 @@ import weakref
 from collections.abc import Iterable, Mapping, Sequence
 from typing import Any, TYPE_CHECKING, Union
 
-from chipfire.backend.finding import environment, find_program, on_path, ProgramNotFound
-from chipfire.utils import FileName, MAX_LARGE_EDGES, MAX_LARGE_VERTICES
+from chipfire.backend.finding import (
+    carries_library_alone,
+    environment,
+    find_program,
+    on_path,
+    ProgramNotFound,
+)
+from chipfire.utils import FileName, MAX_LARGE_EDGES, MAX_LARGE_VERTICES, package_text
 
 if TYPE_CHECKING:
     from chipfire.graphs.graph import Graph
@@ -32,18 +39,60 @@ _SETPRIV = "setpriv", "--pdeathsig", "KILL", "--"
 
 
 class TraceCut(UserWarning):
-    """Some vertex took and fired more often than its trace has rows; such a trace may fail to replay."""
+    """The warning of `run` that a vertex did more than its trace has rows. Such a trace may fail to replay.
+
+    See Also
+    --------
+    run, replay
+
+    Notes
+    -----
+    Proved: that a trace is cut exactly if this is reported. Not proved: that Python passes it on.
+
+    Examples
+    --------
+    >>> import warnings
+    >>> with warnings.catch_warnings(record=True) as caught:
+    ...     warnings.simplefilter("always")
+    ...     _ = chipfire.run(chipfire.path(2), {0: 9}, trace="trace.csv", trace_rows=1)
+    >>> [it.category.__name__ for it in caught]
+    ['TraceCut']
+    """
 
 
 class Fault(ValueError):
-    """The program refused what it was given, or what it was to do with it.
+    """The program or the library refuses what it was given, or what it was asked to do with it.
 
-    number       the number of the fault, as in `fault 24 Row 3`: 24
-    name         its name: "Row"
-    place        the numbers after the name: (3,); in a log whose processes have names, the name of a process
-    explanation  what `chipfire explain` says of the number; empty if the program does not say
-    status       the exit status: 1, or 3 if a run was not finished
-    words        which file is meant, or what is wrong with the graph, by the names of its vertices
+    Attributes
+    ----------
+    number : int
+        The number of the fault: 24 of ``fault 24 Row 3``.
+    name : str
+        Its name: "Row".
+    place : tuple
+        The numbers after the name: (3,). In a log whose processes have names, the name of a process.
+    explanation : str
+        What ``chipfire explain`` says of the number; empty if the program does not say.
+    status : int
+        The exit status: 1, or 3 if a run was not finished.
+    words : str
+        Which file is meant, or what is wrong with the graph, by the names of its vertices.
+
+    See Also
+    --------
+    explain, check
+
+    Notes
+    -----
+    Proved: which fault a file has. Not proved: that Python passes it on.
+
+    Examples
+    --------
+    >>> try:
+    ...     chipfire.plain(chipfire.Graph(2, 1, [(0, 0), (0, 1)]), [1, 0])
+    ... except chipfire.Fault as fault:
+    ...     print(fault.number, fault.name, fault.place)
+    6 Loop (0,)
     """
 
     def __init__(
@@ -145,9 +194,17 @@ def _explained(program: str, number: int | str) -> str:
     return told.strip() if status == 0 else ""
 
 
+def _explained_anyhow(number: int) -> str:
+    """What the program says of a fault of the library, or what a package says that carries the library alone."""
+    if carries_library_alone():
+        told = json.loads(package_text("program", "faults.json"))
+        return str(told.get(str(number), "")).strip()
+    return _explained(find_program(), number)
+
+
 def refused(number: int, place: int, graph: Graph) -> Fault:
     """The fault of this number in a call of the library, as the program would tell it."""
-    explanation = _explained(find_program(), number)
+    explanation = _explained_anyhow(number)
     name, *letters = explanation.partition(":")[0].split()[2:] or [""]
     where = (place,) * len(letters)
     return Fault(number, name, where, explanation, 1, _meant(number, where, ["plain"], (), graph))
@@ -162,7 +219,7 @@ def _meant(
 ) -> str:
     """Which of the files a fault is about, by its name, or what is wrong with the graph that Python has."""
     if number <= 8 and graph is not None:
-        return f"{graph.wrong}."
+        return f"{graph.why_refused}."
     if number in (1, 3, 30):
         most = (
             ""

@@ -17,16 +17,38 @@ _KEY = operator.attrgetter("chips", "fired", "over", "sealed", "prior")
 
 @dataclass(frozen=True, repr=False, eq=False)
 class Report(Drawn):
-    """How a play stands at its end, as `plain`, `run` and `resume` write it, and a simulation whose root closed.
+    """How a play stands at its end: what `plain`, `run` and `resume` return, and a simulation whose root closed.
 
-    chips   the chips of each vertex, by numbers, the sink's among them
-    fired   how often each vertex fired, in this sitting: the firing vector
-    over    the vertices that could fire once more and had fired as often as the limit allows
-    sealed  the vertices that stopped because an edge was sealed
-    prior   how often each vertex fired in the sittings before; None in a report of the first one
-    graph   the graph that was played on, if it is known; it is not part of the report's text
+    Attributes
+    ----------
+    chips : tuple of int
+        The chips of each vertex, by numbers, also of the sink.
+    fired : tuple of int
+        How often each vertex fired in this stage: the firing vector.
+    over : tuple of int
+        The vertices that can fire and fired as often as the limit allows.
+    sealed : tuple of int
+        The other vertices that stopped because an edge was sealed.
+    prior : tuple of int or None
+        How often each vertex fired in the stages before, or None in a report of the first one.
+    graph : Graph or None
+        The graph, if it is known. It is not part of the report's text.
 
+    See Also
+    --------
+    plain, resume, verify
+
+    Notes
+    -----
     Two reports are equal if all their numbers are, and so are their graphs, if both are known.
+
+    Proved: the numbers. Not proved: that Python passes them on.
+
+    Examples
+    --------
+    >>> report = chipfire.plain(chipfire.path(2), {0: 2, 1: 1})
+    >>> report.closed, report.configuration, report.odometer
+    (True, {0: 1, 1: 0}, {0: 1, 1: 1})
     """
 
     chips: tuple[int, ...]

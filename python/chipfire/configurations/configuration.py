@@ -11,6 +11,7 @@ from collections.abc import Callable, Hashable, Iterator, Mapping, Sequence
 from typing import Any, TYPE_CHECKING, TypeVar, Union
 
 from chipfire.backend import library
+from chipfire.backend.plays import play
 from chipfire.backend.process import ask, Kept
 from chipfire.configurations import smith
 from chipfire.pictures.picture import Drawn
@@ -118,13 +119,46 @@ class Sums(Mapping[Hashable, int]):
 
 
 class Configuration(Drawn, Sums):
-    """The chips of all vertices of a graph but the sink, by names; they may be below 0. It is never changed.
+    """The chips of all vertices of a graph but the sink: a mapping from names to numbers, which may be below 0.
 
-    graph    the graph
-    numbers  the chips by the numbers of the vertices, 0 for the sink
+    ``~c`` is the stabilization of c, and ``c & d`` that of the sum, as in SageMath; ``c + d`` is the sum itself. A
+    configuration is never changed.
 
-    `~c` is its stabilization, and `c & d` that of the sum, as in SageMath. `c + d` is the sum itself.
-    NumPy takes it as the array of its picture, and pandas as a Series, or in a DataFrame as `dict(configuration)`.
+    Parameters
+    ----------
+    graph : Graph
+        The graph.
+    chips : Chips
+        The chips, in any form that `Graph.chips` takes.
+
+    Attributes
+    ----------
+    graph : Graph
+        The graph.
+    numbers : tuple of int
+        The chips by the numbers of the vertices, 0 for the sink.
+
+    Raises
+    ------
+    ValueError
+        The chips are not those of this graph.
+
+    See Also
+    --------
+    stabilize, is_recurrent, Divisor
+
+    Notes
+    -----
+    NumPy takes a configuration as the array of its picture, and pandas as a Series, or in a DataFrame as
+    ``dict(configuration)``.
+
+    Proved: what is proved of the functions that its methods call. Not proved: sums and differences.
+
+    Examples
+    --------
+    >>> c = chipfire.Configuration(chipfire.complete(3), {1: 1})
+    >>> c + c, c & c
+    ({1: 2, 2: 0}, {1: 0, 2: 1})
     """
 
     graph: Graph
@@ -223,7 +257,7 @@ def stabilized_rows(
         start = in_words(graph.without_loops(chips))
         left, fired = stabilized_rows(graph.loop_free, start, program)
         return graph.with_loops(left), fired
-    found = library.play(graph, chips, program)
+    found = play(graph, chips, program)
     left, fired, stopped = found or _by_program(graph, chips, program)
     if stopped:
         raise ValueError("a vertex fired 2^40 times, and the chips are not stable then")
@@ -233,7 +267,7 @@ def stabilized_rows(
 def _by_program(
     graph: Graph, chips: array[int], program: FileName | None
 ) -> tuple[array[int], array[int], int]:
-    """What `library.play` finds, by a process for each game."""
+    """What `play` finds, by a process for each game."""
     left, fired, stopped = array("Q"), array("Q"), 0
     if not chips:
         ask(program, "check", [("graph", graph.kept)], graph=graph, begins="vertices ")

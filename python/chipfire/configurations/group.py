@@ -18,13 +18,45 @@ MAX_GROUP_VERTICES = 401
 
 
 class Group:
-    """The sandpile group of a graph, as the product of cyclic groups whose orders are `factors`.
+    """The sandpile group of a graph, as a product of cyclic groups.
 
-    graph    the graph, of up to 401 vertices, the sink among them; a ValueError tells if there are more
-    factors  the invariant factors of the group, above 1 and ascending: each divides the next
+    Parameters
+    ----------
+    graph : Graph or path
+        The graph, of up to 401 vertices, the sink among them.
 
-    The group has a generator for each factor, found in 0.1 s for 20 by 20 squares, and as configurations in 2 s; in 4 s
-    for a random graph of 400 vertices and degree 4. Nothing of this is proved but the plays of `element`.
+    Attributes
+    ----------
+    graph : Graph
+        The graph.
+    factors : tuple of int
+        The invariant factors of the group, above 1 and ascending: each divides the next.
+    identity : Configuration
+        The identity.
+    generators : tuple of Configuration
+        A generator for each factor, recurrent.
+
+    Raises
+    ------
+    ValueError
+        The graph has more vertices, or is refused.
+
+    See Also
+    --------
+    invariant_factors, order, identity
+
+    Notes
+    -----
+    Generators are found in 0.1 s for 20 by 20 squares, and as configurations in 2 s; in 4 s for a random graph of 400
+    vertices and degree 4.
+
+    Nothing of this is proved but the plays of `element`.
+
+    Examples
+    --------
+    >>> group = chipfire.Group(chipfire.complete(3))
+    >>> group.factors, group.coordinates({}), group.element([0])
+    ((3,), (0,), {1: 1, 2: 1})
     """
 
     def __init__(self, graph: AnyGraph) -> None:

@@ -21,41 +21,186 @@ from chipfire.utils import import_optional, require_memory
 
 
 def burning_script(graph: AnyGraph, *, program: AnyProgram = None) -> Configuration:
-    """The least burning script, by Speer: how often each vertex fires when a recurrent configuration burns: at least
-    once, on an undirected graph exactly once, and so that no vertex has more chips than before. It is one more than the
-    counts of a play that begins with one chip less on each vertex than edges lead in.
-    Proved: the script, where the library finds it in one call. A play that may be too long for one call, or a process
-    without the library, has the program play: then its counts are proved. Not proved: that the script is passed on.
+    """Returns the least burning script: how often each vertex fires when a recurrent configuration burns.
+
+    The script fires each vertex at least once, and leaves none with more chips than before. On an undirected graph
+    each vertex fires exactly once.
+
+    Parameters
+    ----------
+    graph : Graph or path
+        The graph, or the name of its file.
+    program : path, optional
+        The program to ask. By default the one that is found.
+
+    Returns
+    -------
+    Configuration
+        How often each vertex but the sink fires.
+
+    Raises
+    ------
+    ValueError
+        The graph is refused, by the package or by the program (`Fault`).
+
+    See Also
+    --------
+    burning_configuration, is_recurrent
+
+    Notes
+    -----
+    The script is due to Speer [1]_. It is one more than the odometer of the play that begins with one chip less on
+    each vertex than edges lead into it.
+
+    Proved: the script, if the library finds it in one call. If the play may be too long for that, or without the
+    library, the program plays: then its counts are proved. Not proved: that the script is passed on.
+
+    References
+    ----------
+    .. [1] E. R. Speer, "Asymmetric abelian sandpile models", Journal of Statistical Physics 71 (1993).
+
+    Examples
+    --------
+    >>> chipfire.burning_script(chipfire.Graph(3, 2, [(0, 1, 3), (0, 2), (1, 0), (1, 2)]))
+    {0: 1, 1: 2}
     """
     known = known_graph(graph, program)
     return Configuration(known, burning(known, program)[0])
 
 
 def burning_configuration(graph: AnyGraph, *, program: AnyProgram = None) -> Configuration:
-    """The chips that `burning_script` takes away. Added to a recurrent configuration and stabilized, it comes back.
-    Proved: the chips, where the library finds them in one call, as `burning_script` tells; else the counts of the
-    script's play. Not proved: that the chips are passed on, or else that they follow from the script.
+    """Returns the chips that the burning script takes away.
+
+    Added to a recurrent configuration and stabilized, that comes back.
+
+    Parameters
+    ----------
+    graph : Graph or path
+        The graph, or the name of its file.
+    program : path, optional
+        The program to ask. By default the one that is found.
+
+    Returns
+    -------
+    Configuration
+        The burning configuration: the chips of each vertex but the sink.
+
+    Raises
+    ------
+    ValueError
+        The graph is refused, by the package or by the program (`Fault`).
+
+    See Also
+    --------
+    burning_script, is_recurrent
+
+    Notes
+    -----
+    Proved: the chips, if the library returns them in one call; else the counts of the script's play. Not proved: that
+    the chips are passed on, or else that they follow from the script.
+
+    Examples
+    --------
+    >>> graph = chipfire.Graph(3, 2, [(0, 1, 3), (0, 2), (1, 0), (1, 2)])
+    >>> chipfire.burning_configuration(graph)
+    {0: 2, 1: 1}
     """
     known = known_graph(graph, program)
     return Configuration(known, burning(known, program)[1])
 
 
 def is_recurrent(graph: AnyGraph, chips: Chips, *, program: AnyProgram = None) -> bool:
-    """Whether a configuration is recurrent: stable, and what each can become by more chips and firings.
+    """Returns whether a configuration is recurrent.
 
-    This is the burning test, for directed multigraphs too: a configuration is recurrent exactly if it comes back when
-    `burning_configuration` is added to it and the sum is stabilized.
-    Proved: whether it is, where the library says it in one call. A play that may be too long for one call, or a process
-    without the library, has the program play: then the stabilizations are proved, and that the test is right.
-    Not proved: that it is passed on, or else the comparison."""
+    It is recurrent if it is stable and can be reached from each configuration by adding chips and firing.
+
+    Parameters
+    ----------
+    graph : Graph or path
+        The graph, or the name of its file.
+    chips : Chips
+        The configuration, in any form that `Graph.chips` takes.
+    program : path, optional
+        The program to ask. By default the one that is found.
+
+    Returns
+    -------
+    bool
+        Whether the configuration is recurrent.
+
+    Raises
+    ------
+    ValueError
+        The graph or the chips are refused, by the package or by the program (`Fault`).
+    KeyError
+        A name is that of no vertex.
+
+    See Also
+    --------
+    are_recurrent, burning_configuration, is_superstable
+
+    Notes
+    -----
+    This is the burning test of Dhar [1]_, also for directed multigraphs: a configuration is recurrent exactly if it
+    comes back when `burning_configuration` is added to it and the sum is stabilized.
+
+    Proved: the result, if the library returns it in one call. If a play may be too long for that, or without the
+    library, the program plays: then the stabilizations are proved, and that the test is right. Not proved: that the
+    result is passed on, or else the comparison.
+
+    References
+    ----------
+    .. [1] D. Dhar, "Self-organized critical state of sandpile automaton models", Physical Review Letters 64 (1990).
+
+    Examples
+    --------
+    >>> chipfire.is_recurrent(chipfire.complete(3), {1: 1}), chipfire.is_recurrent(chipfire.complete(3), {})
+    (True, False)
+    """
     return as_configuration(graph, chips, program).is_recurrent(program=program)
 
 
 def are_recurrent(
     graph: AnyGraph, configurations: Iterable[Chips], *, program: AnyProgram = None
 ) -> list[bool]:
-    """Of many configurations whether each is recurrent; they come as in `stabilize_many`.
-    Proved and not proved: as of `is_recurrent`."""
+    """Returns for each of many configurations whether it is recurrent.
+
+    Parameters
+    ----------
+    graph : Graph or path
+        The graph, or the name of its file.
+    configurations : iterable of Chips, or array of shape (n, vertices) or (n, vertices - 1)
+        The configurations, each in any form of chips, or as the rows of an array, with or without a column for the
+        sink.
+    program : path, optional
+        The program to ask. By default the one that is found.
+
+    Returns
+    -------
+    list of bool
+        One value for each configuration, in their order.
+
+    Raises
+    ------
+    ValueError
+        The graph or the chips are refused, by the package or by the program (`Fault`).
+    KeyError
+        A name is that of no vertex.
+
+    See Also
+    --------
+    is_recurrent, stabilize_many
+
+    Notes
+    -----
+    Proved: each value, if the library returns it in one call. If a play may be too long for that, or without the
+    library, the program plays: then the stabilizations are proved. Not proved: that Python passes the values on.
+
+    Examples
+    --------
+    >>> chipfire.are_recurrent(chipfire.complete(3), [{1: 1}, {}, {1: 1, 2: 1}])
+    [True, False, True]
+    """
     known = known_graph(graph, program)
     return burning_test(known, rows_of(known, configurations, None, program), program)
 
@@ -63,43 +208,186 @@ def are_recurrent(
 def recurrent_representative(
     graph: AnyGraph, chips: Chips, *, program: AnyProgram = None
 ) -> Configuration:
-    """The one recurrent configuration to which firings, also backward, lead from this one; chips may be below 0. A
-    configuration equivalent to zero is added in Python until no chips are below 0.
-    Proved: the rest, where the library finds it in one call. A play that may be too long for one call, or a process
-    without the library, has the program play: then the identity is added, the stable sum is tested, and the
-    stabilizations are proved. Not proved: that the chips are lifted right, and passed on."""
+    """Returns the recurrent configuration that is equivalent to this one.
+
+    Two configurations are equivalent if firings, also backward, lead from one to the other.
+
+    Parameters
+    ----------
+    graph : Graph or path
+        The graph, or the name of its file.
+    chips : Chips
+        The configuration, in any form that `Graph.chips` takes. Numbers may be below 0.
+    program : path, optional
+        The program to ask. By default the one that is found.
+
+    Returns
+    -------
+    Configuration
+        The recurrent configuration.
+
+    Raises
+    ------
+    ValueError
+        The graph or the chips are refused, by the package or by the program (`Fault`).
+    KeyError
+        A name is that of no vertex.
+
+    See Also
+    --------
+    superstable_representative, is_recurrent, Group
+
+    Notes
+    -----
+    To chips below 0 Python adds a configuration equivalent to zero until none is below 0.
+
+    Proved: the rest, if the library finds it in one call. If a play may be too long for that, or without the library,
+    the program plays: then the identity is added, the stable sum is tested, and the stabilizations are proved.
+    Not proved: that the chips are lifted right, and passed on.
+
+    Examples
+    --------
+    >>> chipfire.recurrent_representative(chipfire.complete(3), {})
+    {1: 1, 2: 1}
+    """
     return as_configuration(graph, chips, program).equivalent_recurrent(program=program)
 
 
 def superstable_representative(
     graph: AnyGraph, chips: Chips, *, program: AnyProgram = None
 ) -> Configuration:
-    """The one superstable configuration that is equivalent to this one, the q-reduced one; chips may be below 0.
-    With `m` the maximal stable one, it is `m` less the recurrent representative of `m` less this one.
-    Proved: what is proved of `recurrent_representative`. Not proved: that the chips are lifted right, and passed on; and
-    where the program plays, the two differences."""
+    """Returns the superstable configuration that is equivalent to this one: the q-reduced one.
+
+    Parameters
+    ----------
+    graph : Graph or path
+        The graph, or the name of its file.
+    chips : Chips
+        The configuration, in any form that `Graph.chips` takes. Numbers may be below 0.
+    program : path, optional
+        The program to ask. By default the one that is found.
+
+    Returns
+    -------
+    Configuration
+        The superstable configuration.
+
+    Raises
+    ------
+    ValueError
+        The graph or the chips are refused, by the package or by the program (`Fault`).
+    KeyError
+        A name is that of no vertex.
+
+    See Also
+    --------
+    recurrent_representative, is_superstable
+
+    Notes
+    -----
+    With `m` the maximal stable configuration, it is `m` less the recurrent representative of `m` less this one.
+
+    Proved: what is proved of `recurrent_representative`. Not proved: that the chips are lifted right, and passed on;
+    and where the program plays, the two differences.
+
+    Examples
+    --------
+    >>> chipfire.superstable_representative(chipfire.complete(3), {1: 1, 2: 1})
+    {1: 0, 2: 0}
+    """
     return as_configuration(graph, chips, program).equivalent_superstable(program=program)
 
 
 def inverse(graph: AnyGraph, chips: Chips, *, program: AnyProgram = None) -> Configuration:
-    """The inverse of a recurrent configuration in the sandpile group: the one recurrent configuration whose stable sum
-    with it is `identity`. Of other chips, which may be below 0, it is the inverse of their recurrent representative.
+    """Returns the inverse of a configuration in the sandpile group.
 
-        add(graph, chips, inverse(graph, chips)) == identity(graph)
+    It is the recurrent configuration whose stable sum with this one is the identity. Of a configuration that is not
+    recurrent, it is the inverse of its recurrent representative.
 
-    Proved: the inverse, where no chips are below 0 and the library finds it in one call. A play that may be too long for
-    one call, or a process without the library, has the program play: then it is the representative of 0 less the chips,
-    and the stabilizations are proved. Not proved: that chips below 0 are lifted right, and that it is passed on.
+    Parameters
+    ----------
+    graph : Graph or path
+        The graph, or the name of its file.
+    chips : Chips
+        The configuration, in any form that `Graph.chips` takes. Numbers may be below 0.
+    program : path, optional
+        The program to ask. By default the one that is found.
+
+    Returns
+    -------
+    Configuration
+        The inverse.
+
+    Raises
+    ------
+    ValueError
+        The graph or the chips are refused, by the package or by the program (`Fault`).
+    KeyError
+        A name is that of no vertex.
+
+    See Also
+    --------
+    add, identity, recurrent_representative
+
+    Notes
+    -----
+    Proved: the inverse, if no chips are below 0 and the library finds it in one call. If a play may be too long for
+    that, or without the library, the program plays: then it is the representative of 0 less the chips, and the
+    stabilizations are proved. Not proved: that chips below 0 are lifted right, and that the inverse is passed on.
+
+    Examples
+    --------
+    >>> graph = chipfire.complete(3)
+    >>> chipfire.inverse(graph, {1: 1})
+    {1: 0, 2: 1}
+    >>> chipfire.add(graph, {1: 1}, {2: 1}) == chipfire.identity(graph)
+    True
     """
     return as_configuration(graph, chips, program).inverse(program=program)
 
 
 def is_superstable(graph: AnyGraph, chips: Chips, *, program: AnyProgram = None) -> bool:
-    """Whether a configuration is superstable: no vertices can fire together, not even several times each.
+    """Returns whether a configuration is superstable: no set of vertices can fire together, not even several times each.
 
-    Together they may fire if none is left with fewer than 0 chips. On an undirected graph these are the parking
-    functions. The question is the same as whether what it lacks to the maximal stable configuration is recurrent.
-    Proved and not proved: as of `is_recurrent`."""
+    Vertices may fire together if none of them is left with fewer than 0 chips. On an undirected graph the superstable
+    configurations are the parking functions.
+
+    Parameters
+    ----------
+    graph : Graph or path
+        The graph, or the name of its file.
+    chips : Chips
+        The configuration, in any form that `Graph.chips` takes.
+    program : path, optional
+        The program to ask. By default the one that is found.
+
+    Returns
+    -------
+    bool
+        Whether the configuration is superstable.
+
+    Raises
+    ------
+    ValueError
+        The graph or the chips are refused, by the package or by the program (`Fault`).
+    KeyError
+        A name is that of no vertex.
+
+    See Also
+    --------
+    is_recurrent, superstable_representative
+
+    Notes
+    -----
+    A configuration is superstable exactly if the maximal stable one, less this one, is recurrent.
+
+    Proved: what is proved of `is_recurrent`. Not proved: what is not proved there, and the difference.
+
+    Examples
+    --------
+    >>> chipfire.is_superstable(chipfire.complete(3), {1: 1}), chipfire.is_superstable(chipfire.complete(3), {1: 1, 2: 1})
+    (True, False)
+    """
     return as_configuration(graph, chips, program).is_superstable(program=program)
 
 
@@ -116,11 +404,42 @@ def superstables(graph: AnyGraph, *, as_array: bool, program: AnyProgram = ...) 
 
 
 def superstables(graph: AnyGraph, *, as_array: bool = False, program: AnyProgram = None) -> Any:
-    """All superstable configurations of a small graph, one after the other; `order` says how many there are.
+    """Returns all superstable configurations of a small graph.
 
-    With `as_array` all are rows of one array, with a column for each vertex by numbers, 0 for the sink; it is one of
-    NumPy if that is installed, else a list of rows. What there is no memory for is a MemoryError before it begins.
-    Nothing of this is proved but the burning script: no call lists them, so Python burns each of them itself.
+    Parameters
+    ----------
+    graph : Graph or path
+        The graph, or the name of its file.
+    as_array : bool, optional
+        Whether to return one array in place of an iterator.
+    program : path, optional
+        The program to ask. By default the one that is found.
+
+    Returns
+    -------
+    iterator of Configuration, or array of shape (order, vertices)
+        The configurations. A column of the array is a vertex by its number, 0 for the sink. The array is one of NumPy
+        if that is installed, else a list of rows.
+
+    Raises
+    ------
+    MemoryError
+        There is no room for the array.
+    ValueError
+        The graph is refused, by the package or by the program (`Fault`).
+
+    See Also
+    --------
+    recurrents, order
+
+    Notes
+    -----
+    Nothing of this is proved but the burning script: Python burns each configuration itself.
+
+    Examples
+    --------
+    >>> sorted(tuple(it.values()) for it in chipfire.superstables(chipfire.complete(3)))
+    [(0, 0), (0, 1), (1, 0)]
     """
     known = known_graph(graph, program)
     if as_array:
@@ -191,8 +510,45 @@ def recurrents(graph: AnyGraph, *, as_array: bool, program: AnyProgram = ...) ->
 
 
 def recurrents(graph: AnyGraph, *, as_array: bool = False, program: AnyProgram = None) -> Any:
-    """All recurrent configurations of a small graph: what its `superstables` lack to the maximal stable one.
-    They come one after the other, or `as_array`, as those do."""
+    """Returns all recurrent configurations of a small graph.
+
+    Parameters
+    ----------
+    graph : Graph or path
+        The graph, or the name of its file.
+    as_array : bool, optional
+        Whether to return one array in place of an iterator.
+    program : path, optional
+        The program to ask. By default the one that is found.
+
+    Returns
+    -------
+    iterator of Configuration, or array of shape (order, vertices)
+        The configurations. A column of the array is a vertex by its number, 0 for the sink. The array is one of NumPy
+        if that is installed, else a list of rows.
+
+    Raises
+    ------
+    MemoryError
+        There is no room for the array.
+    ValueError
+        The graph is refused, by the package or by the program (`Fault`).
+
+    See Also
+    --------
+    superstables, order, random_recurrent
+
+    Notes
+    -----
+    They are the differences between the maximal stable configuration and the superstable ones.
+
+    Nothing of this is proved but the burning script.
+
+    Examples
+    --------
+    >>> sorted(tuple(it.values()) for it in chipfire.recurrents(chipfire.complete(3)))
+    [(0, 1), (1, 0), (1, 1)]
+    """
     known = known_graph(graph, program)
     most = known.max_stable().numbers
     rows = (tuple(map(operator.sub, most, chips)) for chips in _superstable_rows(known, program))

@@ -38,8 +38,43 @@ def as_configuration(graph: AnyGraph, chips: Chips, program: AnyProgram) -> Conf
 
 
 def stabilize(graph: AnyGraph, chips: Chips, *, program: AnyProgram = None) -> Configuration:
-    """What lies there when no vertex can fire any more: `plain(graph, chips).configuration`.
+    """Returns the configuration in which no vertex can fire any more.
+
+    Parameters
+    ----------
+    graph : Graph or path
+        The graph, or the name of its file.
+    chips : Chips
+        The chips at the start, in any form that `Graph.chips` takes, or the name of a chips file.
+    program : path, optional
+        The program to ask. By default the one that is found.
+
+    Returns
+    -------
+    Configuration
+        The stabilization: ``plain(graph, chips).configuration``.
+
+    Raises
+    ------
+    ValueError
+        The graph or the chips are refused, by the package or by the program (`Fault`).
+    KeyError
+        A name is that of no vertex.
+    ValueError
+        A vertex would fire more than 2^40 times.
+
+    See Also
+    --------
+    plain, stabilize_many, is_stable
+
+    Notes
+    -----
     Proved: the chips, which are those of every play to the end, in any order. Not proved: that they are passed on.
+
+    Examples
+    --------
+    >>> chipfire.stabilize(chipfire.path(2), {0: 2, 1: 1})
+    {0: 1, 1: 0}
     """
     return as_configuration(graph, chips, program).stabilize(program=program)
 
@@ -47,8 +82,42 @@ def stabilize(graph: AnyGraph, chips: Chips, *, program: AnyProgram = None) -> C
 def add(
     graph: AnyGraph, first: Chips, second: Chips, *, program: AnyProgram = None
 ) -> Configuration:
-    """The stable sum: both configurations together, stabilized. The recurrent ones are a group under it.
-    Proved: the stabilization. Not proved: that Python adds."""
+    """Returns the stable sum of two configurations: both added, then stabilized.
+
+    Parameters
+    ----------
+    graph : Graph or path
+        The graph, or the name of its file.
+    first, second : Chips
+        The two configurations, in any form that `Graph.chips` takes.
+    program : path, optional
+        The program to ask. By default the one that is found.
+
+    Returns
+    -------
+    Configuration
+        The stabilization of the sum. The recurrent configurations are a group under it.
+
+    Raises
+    ------
+    ValueError
+        The graph or the chips are refused, by the package or by the program (`Fault`).
+    KeyError
+        A name is that of no vertex.
+
+    See Also
+    --------
+    identity, inverse, stabilize
+
+    Notes
+    -----
+    Proved: the stabilization. Not proved: that Python adds.
+
+    Examples
+    --------
+    >>> chipfire.add(chipfire.complete(3), {1: 1}, {1: 1})
+    {1: 0, 2: 1}
+    """
     known = known_graph(graph, program)
     return (
         as_configuration(known, first, program) + as_configuration(known, second, program)
@@ -56,8 +125,40 @@ def add(
 
 
 def is_stable(graph: AnyGraph, chips: Chips) -> bool:
-    """Whether no vertex can fire: each but the sink has fewer chips than edges lead out of it.
-    Nothing of this is proved: Python compares each number with the vertex's degree."""
+    """Returns whether no vertex can fire.
+
+    Parameters
+    ----------
+    graph : Graph or path
+        The graph, or the name of its file.
+    chips : Chips
+        The configuration, in any form that `Graph.chips` takes. Numbers may be below 0.
+
+    Returns
+    -------
+    bool
+        Whether each vertex but the sink has fewer chips than edges lead out of it.
+
+    Raises
+    ------
+    ValueError
+        The graph or the chips are refused, by the package or by the program (`Fault`).
+    KeyError
+        A name is that of no vertex.
+
+    See Also
+    --------
+    stabilize
+
+    Notes
+    -----
+    Nothing of this is proved: Python compares each number with the vertex's degree.
+
+    Examples
+    --------
+    >>> chipfire.is_stable(chipfire.path(2), {0: 1}), chipfire.is_stable(chipfire.path(2), {0: 2})
+    (True, False)
+    """
     return as_configuration(graph, chips, None).is_stable()
 
 
@@ -103,12 +204,45 @@ def stabilize_many(
     workers: int = 1,
     program: AnyProgram = None,
 ) -> Any:
-    """What lies there when no vertex can fire any more, of many configurations: a row for each, with a column for each
-    vertex by numbers, where the sink has its chips too.
+    """Stabilizes many configurations of one graph.
 
-    They are rows of an array, or come in any form of chips. The answer is an array of NumPy if that is installed, else
-    a list of rows. `workers` threads play side by side.
-    Proved: the chips. Not proved: that Python passes them on."""
+    Parameters
+    ----------
+    graph : Graph or path
+        The graph, or the name of its file.
+    configurations : iterable of Chips, or array of shape (n, vertices) or (n, vertices - 1)
+        The configurations, each in any form of chips, or as the rows of an array, with or without a column for the
+        sink.
+    workers : int, optional
+        The number of threads. By default one.
+    program : path, optional
+        The program to ask. By default the one that is found.
+
+    Returns
+    -------
+    numpy.ndarray of shape (n, vertices), or list of rows
+        The chips at the end, with a column for each vertex by its number, also for the sink. Without NumPy a list.
+
+    Raises
+    ------
+    ValueError
+        The graph or the chips are refused, by the package or by the program (`Fault`).
+    KeyError
+        A name is that of no vertex.
+
+    See Also
+    --------
+    stabilize, are_recurrent
+
+    Notes
+    -----
+    Proved: the chips. Not proved: that Python passes them on.
+
+    Examples
+    --------
+    >>> [list(map(int, row)) for row in chipfire.stabilize_many(chipfire.path(1), [[2], [3]])]
+    [[0, 2], [1, 2]]
+    """
     known = known_graph(graph, program)
     width = known.vertices
     start = in_words(rows_of(known, configurations, 0, program))

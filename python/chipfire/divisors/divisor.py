@@ -20,14 +20,47 @@ MOST = 100_000
 
 
 class Divisor(AsArray, Sums):
-    """The chips of all vertices of an undirected graph, the sink among them, by names; they may be below 0.
+    """The chips of all vertices of an undirected graph, the sink among them: a mapping from names to numbers.
 
-    graph    the graph, each edge of which leads both ways: a family, `Graph.undirected`, or one of another tool
-    numbers  the chips by the numbers of the vertices
+    The numbers may be below 0. A divisor is added, subtracted and multiplied by numbers, and never changed.
 
-    They come in each form that `Graph.chips` takes, but a sequence has a number for each vertex, and one number is for
-    all of them. A divisor is never changed. It is a mapping, is added, subtracted and multiplied by numbers. NumPy
-    takes it as the array of its numbers, and pandas as a Series.
+    Parameters
+    ----------
+    graph : Graph or path
+        The graph, each edge of which leads both ways: a family, `Graph.undirected`, or one of another tool.
+    chips : Chips
+        The chips, in any form that `Graph.chips` takes, but with a number for the sink. One number is for all
+        vertices.
+
+    Attributes
+    ----------
+    graph : Graph
+        The graph.
+    numbers : tuple of int
+        The chips by the numbers of the vertices.
+    degree : int
+        The sum of the chips.
+
+    Raises
+    ------
+    ValueError
+        The graph is directed or has loops, or the chips are not those of this graph.
+
+    See Also
+    --------
+    canonical_divisor, genus, Configuration
+
+    Notes
+    -----
+    NumPy takes a divisor as the array of its numbers, and pandas as a Series.
+
+    Proved: the stabilizations that its methods ask for. Not proved: the sums between them, and the rank.
+
+    Examples
+    --------
+    >>> divisor = chipfire.Divisor(chipfire.complete(3), {0: 2})
+    >>> divisor.degree, divisor.rank(), divisor.is_equivalent({1: 1, 2: 1})
+    (2, 1, True)
     """
 
     def __init__(self, graph: AnyGraph, chips: Chips) -> None:
@@ -106,13 +139,71 @@ class Divisor(AsArray, Sums):
 
 
 def genus(graph: AnyGraph) -> int:
-    """The genus of an undirected graph: how many edges it has, less its vertices but one."""
+    """Returns the genus of an undirected graph: its edges, less its vertices, plus 1.
+
+    Parameters
+    ----------
+    graph : Graph or path
+        An undirected graph, or the name of its file.
+
+    Returns
+    -------
+    int
+        The genus.
+
+    Raises
+    ------
+    ValueError
+        The graph is directed, or has loops.
+
+    See Also
+    --------
+    canonical_divisor, Divisor
+
+    Notes
+    -----
+    Nothing of this is proved: Python counts edges.
+
+    Examples
+    --------
+    >>> chipfire.genus(chipfire.complete(4))
+    3
+    """
     rows = smith.undirected(known_graph(graph))
     return sum(row[vertex] for vertex, row in enumerate(rows)) // 2 - len(rows) + 1
 
 
 def canonical_divisor(graph: AnyGraph) -> Divisor:
-    """The canonical divisor of an undirected graph: on each vertex, how many edges it has, less 2."""
+    """Returns the canonical divisor of an undirected graph: the degree of each vertex, less 2.
+
+    Parameters
+    ----------
+    graph : Graph or path
+        An undirected graph, or the name of its file.
+
+    Returns
+    -------
+    Divisor
+        The divisor, of degree ``2 * genus(graph) - 2``.
+
+    Raises
+    ------
+    ValueError
+        The graph is directed, or has loops.
+
+    See Also
+    --------
+    Divisor, genus
+
+    Notes
+    -----
+    Nothing of this is proved: Python counts edges.
+
+    Examples
+    --------
+    >>> chipfire.canonical_divisor(chipfire.complete(4))
+    {0: 1, 1: 1, 2: 1, 3: 1}
+    """
     known = known_graph(graph)
     return Divisor(known, [row[vertex] - 2 for vertex, row in enumerate(smith.undirected(known))])
 

@@ -18,6 +18,7 @@ from chipfire.configurations.configuration import in_words, stabilized_rows
 from chipfire.configurations.laplacian import order
 from chipfire.configurations.recurrent import recurrents, superstables
 from chipfire.graphs.graph import Graph
+from chipfire.progress import AnyProgress, Progress
 from chipfire.utils import as_int, with_unit
 
 Power = TypeVar("Power", int, tuple[int, int], tuple[int, ...])
@@ -32,31 +33,113 @@ Step = Callable[[int], Iterator[tuple[int, int, int]]]
 MOST = 100_000
 
 
-def tutte_polynomial(graph: AnyGraph, *, most: int = MOST) -> dict[tuple[int, int], int]:
-    """The Tutte polynomial T(x, y) of an undirected graph with multiplicities: the coefficient of x^i y^j at (i, j).
+def tutte_polynomial(
+    graph: AnyGraph, *, most: int = MOST, progress: AnyProgress = None
+) -> dict[tuple[int, int], int]:
+    """Returns the Tutte polynomial of an undirected graph.
 
-    The edges of one vertex after the other are deleted and contracted; smaller graphs that come out the same are one. A
-    ValueError tells if there are more than `most` of them with one number of vertices: they are counted first, which
-    takes seconds. A complete graph of 8 vertices takes 0.01 s, and 4 by 4 squares 1 s. Nothing of this is proved, and
-    the program is not asked."""
+    Parameters
+    ----------
+    graph : Graph or path
+        An undirected graph, or the name of its file.
+    most : int, optional
+        How many different minors with one number of vertices there may be. They are counted first, which takes
+        seconds.
+    progress : bool or callable, optional
+        True shows how many minors are done, by tqdm or in lines. A function is called with the number done and of
+        all.
+
+    Returns
+    -------
+    dict of (int, int) to int
+        The coefficient of ``x ** i * y ** j`` at (i, j).
+
+    Raises
+    ------
+    ValueError
+        The graph is directed or has loops, or there are more than `most` minors.
+
+    See Also
+    --------
+    level_polynomial, order
+
+    Notes
+    -----
+    The edges of one vertex after the other are deleted and contracted, and minors that come out the same are one. A
+    complete graph of 8 vertices takes 0.01 s, and 4 by 4 squares 1 s.
+
+    Nothing of this is proved, and the program is not asked.
+
+    Examples
+    --------
+    The Tutte polynomial of the triangle is x^2 + x + y:
+
+    >>> chipfire.tutte_polynomial(chipfire.cycle(3)) == {(2, 0): 1, (1, 0): 1, (0, 1): 1}
+    True
+    """
     found: Terms = Counter()
-    for (i, j), count in _whitney(known_graph(graph), most, False).items():
+    for (i, j), count in _whitney(known_graph(graph), most, False, progress).items():
         for power in range(i + 1):  # (x - 1 to the power i)
             found[power, j] += count * math.comb(i, power) * (-1) ** (i - power)
     return _sorted(found)
 
 
 def level_polynomial(
-    graph: AnyGraph, *, most: int = MOST, program: AnyProgram = None
+    graph: AnyGraph, *, most: int = MOST, program: AnyProgram = None, progress: AnyProgress = None
 ) -> dict[int, int]:
-    """How many recurrent configurations have each level: their chips less the least that a recurrent one has.
+    """Returns how many recurrent configurations have each level.
 
-    On an undirected graph it is T(1, y), by Merino, and found by deleting and contracting, as in `tutte_polynomial`. On
-    others all recurrent ones are gone through; a ValueError tells if there are more than `most`.
-    Loops are left out. Nothing of this is proved but the burning script of a directed graph."""
+    The level of a configuration is the number of its chips, less the least number that a recurrent one has.
+
+    Parameters
+    ----------
+    graph : Graph or path
+        The graph, or the name of its file.
+    most : int, optional
+        How many recurrent configurations of a directed graph, or minors of an undirected one, there may be.
+    program : path, optional
+        The program to ask. By default the one that is found.
+    progress : bool or callable, optional
+        True shows how many minors are done, by tqdm or in lines. A function is called with the number done and of
+        all.
+
+    Returns
+    -------
+    dict of int to int
+        The number of configurations by their level.
+
+    Raises
+    ------
+    ValueError
+        There are more than `most`.
+
+    See Also
+    --------
+    tutte_polynomial, avalanche_polynomial, recurrents
+
+    Notes
+    -----
+    On an undirected graph it is the Tutte polynomial at x = 1, by Merino [1]_, and found by deleting and contracting.
+    On others all recurrent configurations are visited. Loops are left out.
+
+    Nothing of this is proved but the burning script of a directed graph.
+
+    References
+    ----------
+    .. [1] C. Merino, "Chip firing and the Tutte polynomial", Annals of Combinatorics 1 (1997).
+
+    Examples
+    --------
+    The Tutte polynomial of the triangle is x^2 + x + y:
+
+    >>> chipfire.level_polynomial(chipfire.complete(3)) == {0: 2, 1: 1}
+    True
+    """
     known = known_graph(graph, program).loop_free
     if smith.is_undirected(known):
-        return _sorted({j: count for (_, j), count in _whitney(known, most, True).items()})
+        return _sorted(
+            {j: count for (_, j), count in _whitney(known, most, True, progress).items()}
+        )
     _require_few(known, most)
     degrees = Counter(chips.degree for chips in superstables(known, program=program))
     return _sorted({max(degrees) - degree: count for degree, count in degrees.items()})
@@ -90,11 +173,45 @@ def avalanche_polynomial(
 def avalanche_polynomial(
     graph: AnyGraph, *, multivariable: bool = False, most: int = MOST, program: AnyProgram = None
 ) -> dict[int, int] | dict[tuple[int, ...], int]:
-    """How many avalanches have each size, of one chip that is dropped on each vertex of each recurrent configuration.
-    If `multivariable`, how many have each odometer: the firings of each vertex but the sink, in their order.
+    """Returns how many avalanches have each size, over all recurrent configurations and all vertices.
 
-    A ValueError tells if there are more than `most` recurrent configurations.
-    Proved: the play that each chip causes. Not proved: that these are all, and the sums."""
+    Each avalanche is that of one chip which is dropped on a vertex of a recurrent configuration.
+
+    Parameters
+    ----------
+    graph : Graph or path
+        The graph, or the name of its file.
+    multivariable : bool, optional
+        Whether to count avalanches by their odometers in place of their sizes.
+    most : int, optional
+        How many recurrent configurations there may be.
+    program : path, optional
+        The program to ask. By default the one that is found.
+
+    Returns
+    -------
+    dict
+        The number of avalanches by their size; or, if `multivariable`, by the tuple of the firings of each vertex but
+        the sink.
+
+    Raises
+    ------
+    ValueError
+        There are more than `most` recurrent configurations.
+
+    See Also
+    --------
+    level_polynomial, recurrents
+
+    Notes
+    -----
+    Proved: the play that each chip causes. Not proved: that these are all, and the sums.
+
+    Examples
+    --------
+    >>> chipfire.avalanche_polynomial(chipfire.complete(3)) == {0: 2, 1: 2, 2: 2}
+    True
+    """
     known = known_graph(graph, program)
     _require_few(known, most)
     width = known.vertices
@@ -127,7 +244,7 @@ def _sorted(polynomial: dict[Power, int]) -> dict[Power, int]:
     return {power: count for power, count in sorted(polynomial.items()) if count}
 
 
-def _whitney(graph: Graph, most: int, is_one: bool) -> Terms:
+def _whitney(graph: Graph, most: int, is_one: bool, progress: AnyProgress) -> Terms:
     """T(x, y) by powers of x - 1 and of y; at x = 1, if `is_one`.
 
     The last vertex is contracted into one of its neighbours, after its edges to those behind that are deleted. Of the
@@ -135,21 +252,27 @@ def _whitney(graph: Graph, most: int, is_one: bool) -> Terms:
     all edges of the vertex are deleted: x - 1. The graphs alone are made first, since their terms take far longer.
     """
     start, steps = _steps(graph, is_one)
-    _refuse_more(start, steps, as_int(most, "the most smaller graphs", 1))
+    count = _count_graphs(start, steps, as_int(most, "the most smaller graphs", 1))
     graphs: dict[int, Terms] = {start: Counter({(0, 0): 1})}
-    for step in steps:
-        smaller: dict[int, Terms] = defaultdict(Counter)
-        for joined, terms in graphs.items():
-            for after, of_x, mult in step(joined):
-                _add(smaller[after], terms, of_x, mult)
-        graphs = smaller
+    done = 0
+    with Progress(progress, count, "graphs") as shown:
+        for step in steps:
+            smaller: dict[int, Terms] = defaultdict(Counter)
+            for joined, terms in graphs.items():
+                for after, of_x, mult in step(joined):
+                    _add(smaller[after], terms, of_x, mult)
+                done += 1
+                shown.show(done, done == count)
+            graphs = smaller
     return graphs[0]
 
 
-def _refuse_more(start: int, steps: Sequence[Step], most: int) -> None:
-    """Refuses a graph of which more smaller ones come out with one number of vertices."""
+def _count_graphs(start: int, steps: Sequence[Step], most: int) -> int:
+    """How many graphs a vertex is taken out of. More than `most` with one number of vertices are refused."""
     graphs = {start}
+    count = 0
     for step in steps:
+        count += len(graphs)
         smaller: set[int] = set()
         for joined in graphs:
             smaller.update(after for after, _, _ in step(joined))
@@ -157,6 +280,7 @@ def _refuse_more(start: int, steps: Sequence[Step], most: int) -> None:
                 told = f"{with_unit(len(smaller), 'smaller graph')} come out"
                 raise ValueError(f"at least {told}, and {most:,} at most are looked at")
         graphs = smaller
+    return count
 
 
 def _steps(graph: Graph, is_one: bool) -> tuple[int, list[Step]]:

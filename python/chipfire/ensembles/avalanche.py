@@ -15,18 +15,52 @@ from chipfire.configurations.stabilization import as_configuration
 from chipfire.ensembles.drops import names_of, PART
 from chipfire.ensembles.pile import LentPile
 from chipfire.graphs.graph import Graph
-from chipfire.utils import as_int, random_generator
+from chipfire.utils import as_int, random_generator, WithArea
 
 
 def random_drops(
     graph: AnyGraph, count: int, seed: Any, *, program: AnyProgram = None
 ) -> Iterator[Hashable]:
-    """The names of `count` vertices but the sink, drawn evenly by `random.Random(seed)`, one after the other.
+    """Yields the names of random vertices but the sink, drawn evenly.
 
-    A seed is a whole number, also one of NumPy or a float like 3.0, which is 3; another float, a text or bytes; or
-    None, and then no two calls draw the same. The text "3" is another seed than 3. A `Generator` of NumPy gives one
-    number of 64 bits as the seed, and the next call gets its next one. A `SeedSequence` gives each call the same, by
-    its `generate_state`, and each that it spawns another one."""
+    Parameters
+    ----------
+    graph : Graph or path
+        The graph, or the name of its file.
+    count : int
+        The number of names.
+    seed : int, float, str, bytes, None, numpy.random.Generator or numpy.random.SeedSequence
+        The seed of a `random.Random`. A float like 3.0 is the same seed as 3, and the text "3" is another one. With
+        None no two calls draw the same. A Generator gives one number of 64 bits, and the next call gets its next one.
+        A SeedSequence gives each call the same.
+    program : path, optional
+        The program to ask. By default the one that is found.
+
+    Returns
+    -------
+    iterator of hashable
+        The names, one after the other.
+
+    Raises
+    ------
+    ValueError
+        The graph is refused, or the count is below 0.
+    TypeError
+        The seed has another type.
+
+    See Also
+    --------
+    drops, avalanches, chains
+
+    Notes
+    -----
+    Nothing of this is proved: Python draws the vertices.
+
+    Examples
+    --------
+    >>> list(chipfire.random_drops(chipfire.path(1), 3, seed=1))
+    [0, 0, 0]
+    """
     known = known_graph(graph, program)
     count = as_int(count, "the number of drops")
     inner = [name for vertex, name in enumerate(known.names) if vertex != known.sink]
@@ -38,15 +72,36 @@ def random_drops(
 
 
 @dataclass(frozen=True, eq=False)
-class Avalanche:
+class Avalanche(WithArea):
     """What one chip causes that is dropped on a stable configuration.
 
-    vertex         the name of the vertex that got it
-    size           how many firings it has
-    extent         how many vertices fired
-    lost           how many chips the firings brought to the sink
-    fired          how often each vertex fired, of those that did, by names
-    configuration  the chips that lie there after it
+    Attributes
+    ----------
+    vertex : hashable
+        The name of the vertex that got the chip.
+    size : int
+        The number of firings.
+    extent, area : int
+        The number of different vertices that fired.
+    lost : int
+        The number of chips that firings brought to the sink: the dissipated ones.
+    fired : dict of hashable to int
+        How often each vertex fired, of those that did, by names.
+    configuration : Configuration
+        The chips after the avalanche.
+
+    See Also
+    --------
+    avalanche, avalanches, Drops
+
+    Notes
+    -----
+    Proved: the numbers. Not proved: that Python passes them on.
+
+    Examples
+    --------
+    >>> chipfire.avalanche(chipfire.path(2), {0: 1, 1: 1}, 0).fired
+    {0: 1, 1: 1}
     """
 
     vertex: Hashable
@@ -70,8 +125,44 @@ class Avalanche:
 def avalanche(
     graph: AnyGraph, chips: Chips, vertex: Hashable, *, program: AnyProgram = None
 ) -> Avalanche:
-    """What happens when one chip is dropped on a vertex of a stable configuration.
+    """Drops one chip on a vertex of a stable configuration, and returns the avalanche.
+
+    Parameters
+    ----------
+    graph : Graph or path
+        The graph, or the name of its file.
+    chips : Chips
+        A stable configuration, in any form that `Graph.chips` takes.
+    vertex : hashable
+        The name of the vertex that gets the chip.
+    program : path, optional
+        The program to ask. By default the one that is found.
+
+    Returns
+    -------
+    Avalanche
+        Its firings, area and dissipated chips, and the configuration after it.
+
+    Raises
+    ------
+    KeyError
+        No vertex has this name.
+    ValueError
+        The configuration is not stable.
+
+    See Also
+    --------
+    avalanches, drops, Pile
+
+    Notes
+    -----
     Proved: the play that the chip causes, and its numbers. Not proved: that Python passes them on.
+
+    Examples
+    --------
+    >>> found = chipfire.avalanche(chipfire.path(2), {0: 1, 1: 1}, 0)
+    >>> found.size, found.area, found.lost, found.configuration
+    (2, 2, 2, {0: 1, 1: 0})
     """
     return next(avalanches(graph, chips, [vertex], program=program))
 
@@ -79,11 +170,45 @@ def avalanche(
 def avalanches(
     graph: AnyGraph, chips: Chips, vertices: Iterable[Hashable], *, program: AnyProgram = None
 ) -> Iterator[Avalanche]:
-    """The avalanches of chips that are dropped one after another, each on what the one before it left.
+    """Drops one chip after another, and yields each avalanche.
 
-    They come one at a time, as they are wanted, on a pile that the graph keeps. `drops` has the numbers of all of them
-    in columns, and sooner.
+    Parameters
+    ----------
+    graph : Graph or path
+        The graph, or the name of its file.
+    chips : Chips
+        A stable configuration, on which the first chip falls.
+    vertices : iterable of hashable
+        The names of the vertices on which chips fall. They are drawn as avalanches are asked for.
+    program : path, optional
+        The program to ask. By default the one that is found.
+
+    Returns
+    -------
+    iterator of Avalanche
+        One for each chip. Each chip falls on what the avalanche before it left.
+
+    Raises
+    ------
+    KeyError
+        No vertex has such a name.
+    ValueError
+        The configuration is not stable.
+
+    See Also
+    --------
+    avalanche, drops, Pile
+
+    Notes
+    -----
+    `drops` returns the numbers of all avalanches in columns, and sooner.
+
     Proved: the play that each chip causes, and its numbers. Not proved: that Python passes them on.
+
+    Examples
+    --------
+    >>> [it.size for it in chipfire.avalanches(chipfire.path(2), {0: 1, 1: 1}, [0, 1])]
+    [2, 0]
     """
     start = as_configuration(graph, chips, program)
     if not start.is_stable():

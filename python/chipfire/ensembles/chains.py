@@ -33,6 +33,7 @@ from chipfire.utils import (
     processors,
     require_memory,
     with_unit,
+    WithArea,
 )
 
 
@@ -41,10 +42,37 @@ _OTHERS = ("made", "chips")
 
 
 class Firings(NamedTuple):
-    """Which vertices fired by each drop, as the rows of a sparse matrix. The entries of drop `d` of chain `k`, with
-    `at = k * drops + d`, are those from `offsets[at]` to `offsets[at + 1]`: the names of `vertices`, in the order of
-    their numbers, and their `counts`. Names that are no whole numbers stand in an array of objects. A vertex that fires
-    takes 12 bytes, or 16 in a graph with names, and up to 60 before all are in order."""
+    """Which vertices each drop fired, as the rows of a sparse matrix.
+
+    The entries of drop d of chain k, with ``at = k * drops + d``, are those from ``offsets[at]`` to ``offsets[at +
+    1]``.
+
+    Attributes
+    ----------
+    offsets : array of shape (n * drops + 1,)
+        Where the entries of each drop begin.
+    vertices : array
+        The names of the vertices that fired, of each drop in the order of their numbers. Names that are no whole
+        numbers stand in an array of objects.
+    counts : array
+        How often they fired.
+
+    See Also
+    --------
+    chains
+
+    Notes
+    -----
+    A vertex that fires takes 12 bytes, or 16 in a graph with names, and up to 60 before all are in order.
+
+    Proved: the counts. Not proved: that Python passes them on.
+
+    Examples
+    --------
+    >>> found = chipfire.chains(chipfire.path(2), 1, 3, seed=1, chips={0: 1, 1: 1}, fired=True)
+    >>> int(found.fired.counts.sum()) == int(found.size.sum())
+    True
+    """
 
     offsets: Any
     vertices: Any
@@ -52,22 +80,47 @@ class Firings(NamedTuple):
 
 
 @dataclass(frozen=True, repr=False, eq=False)
-class Chains:
-    """What `chains` answers: arrays with a row for each chain, of NumPy if it is installed, else lists of rows.
+class Chains(WithArea):
+    """What `chains` returns: arrays with a row for each chain, of NumPy if it is installed, else lists of rows.
 
-    seeds   the seed of each chain: `random_drops(graph, drops, seeds[k])` has the vertices of chain `k`
-    size    how many firings each drop of each chain caused; 0 for those that were not made
-    extent  how many different vertices fired
-    lost    how many chips the firings brought to the sink
-    made    how many drops each chain made
-    chips   what lies on each vertex after the last one, by numbers; the sink has what it got in all
-    fired   which vertices fired by each drop, if that was asked for, else None
-    seed    the seed from which `chains` plays the same again: the one that was drawn, if None was given, and the number
-            that a `Generator` or a `SeedSequence` of NumPy gave; None of chains of several seeds
-    first   the number of the first chain of that seed
+    Two results add up to one, whose rows are those of the first and then those of the second. If these go on where
+    the first ends, the sum is what one call for all returns.
 
-    The chains of two results add up to one result, whose rows are those of the first and then those of the second. If
-    these go on where the first ends, it is what one call for all has.
+    Attributes
+    ----------
+    seeds : sequence of str
+        The seed of each chain: ``random_drops(graph, drops, seeds[k])`` yields the vertices of chain k.
+    size : array of shape (n, drops)
+        The number of firings of each drop, 0 for those that were not made.
+    extent, area : array of shape (n, drops)
+        The number of different vertices that fired.
+    lost : array of shape (n, drops)
+        The number of chips that firings brought to the sink: the dissipated ones.
+    made : array of shape (n,)
+        How many drops each chain made.
+    chips : array of shape (n, vertices)
+        The chips after the last drop, by numbers. The sink has what it got in all.
+    fired : Firings or None
+        Which vertices each drop fired, if that was asked for.
+    seed : int, float, str, bytes or None
+        The seed from which `chains` plays the same again; None of chains of several seeds.
+    first : int
+        The number of the first chain of that seed.
+
+    See Also
+    --------
+    chains, Histograms, moments
+
+    Notes
+    -----
+    Proved: sizes, areas, dissipated chips and the chips at the end. Not proved: that Python passes them on, and adds
+    results.
+
+    Examples
+    --------
+    >>> one, other = (chipfire.chains(chipfire.path(3), 2, 4, seed=1, first=at) for at in (0, 2))
+    >>> len((one + other).seeds)
+    4
     """
 
     seeds: Sequence[str]
@@ -87,6 +140,12 @@ class Chains:
         if not isinstance(other, Chains):
             return NotImplemented
         return _sum(self, other)
+
+    def __radd__(self, other: int) -> Chains:
+        # (`sum` begins with 0)
+        if other != 0:
+            return NotImplemented
+        return self
 
     def _title(self) -> str:
         return f"{len(self.seeds)} of up to {len(self.size[0])} drops"
@@ -233,33 +292,80 @@ def chains(
     checkpoint: FileName | None = None,
     partial: bool = False,
 ) -> Chains | Histograms:
-    """Drops chips on random vertices in n chains, each with its own seed and `drops` drops, each drop on what the play
-    of the one before it left. It takes the library: without it that is a `ProgramNotFound`. The seeds of the chains are
-    made of `seed`, which is as in `random_drops`; the result has the one that None or a `Generator` drew. Chains have
-    numbers from `first` on, and the chain of a number is the same whoever plays it, beside whichever others.
+    """Drops chips on random vertices in many independent chains.
 
-    Each chain begins with `chips`: in one of their forms for all, or rows of an array or list, one for each. Without
-    them each begins with a `random_recurrent` configuration of its own, from which on the drops are stationary. Chips
-    fall `on` all vertices but the sink alike, or on those whose names are given, or on names by their weights. A drop
-    has one chip, or as many as `amounts` says: a number, or one for each drop.
+    Each chain has a seed of its own and `drops` drops, each on what the avalanche of the one before it left. Chains
+    have numbers from `first` on. The chain with a number is the same whoever plays it, beside whichever others.
 
-    `workers` threads play, by default as many as there are processors for this process; or an `executor` of
-    `concurrent.futures`, of Dask or of mpi4py, whose processes have this package and its library. A drop takes 24
-    bytes, and a vertex 16 in each chain: what there is no memory for does not begin.
+    Parameters
+    ----------
+    graph : Graph or path
+        The graph, or the name of its file.
+    n : int
+        The number of chains.
+    drops : int
+        The number of drops of each chain.
+    seed : int, float, str, bytes, None, numpy.random.Generator or numpy.random.SeedSequence
+        The seed from which the seeds of the chains are made, as in `random_drops`. The result has the seed that was
+        drawn if this is None or a Generator.
+    first : int, optional
+        The number of the first chain.
+    chips : Chips, or array of shape (n, vertices) or (n, vertices - 1), optional
+        The start of all chains, or of each of them. By default each begins with a `random_recurrent` configuration of
+        its own, from which on the drops are stationary.
+    on : iterable of hashable, or mapping of names to weights, optional
+        The vertices on which chips fall. By default all but the sink, alike.
+    amounts : int or sequence of int, optional
+        The number of chips of each drop. By default one.
+    workers : int, optional
+        The number of threads. By default one for each processor of this process.
+    executor : concurrent.futures.Executor, optional
+        What plays in place of threads: an executor of `concurrent.futures`, Dask or mpi4py, whose processes have this
+        package and its library.
+    fired : bool, optional
+        Whether to return which vertices each drop fires. This takes NumPy.
+    until : {"loss", "spans"}, optional
+        Ends a chain with the first drop that loses a chip to the sink, or whose firings touch two opposite borders of
+        a grid. This takes NumPy. "spans" does not know which borders are joined.
+    collect : {"columns", "histogram"}, optional
+        Whether to return a number for each drop, or histograms alone, which take no memory for drops but their
+        amounts. Histograms go with none of `fired`, `until` and `checkpoint`.
+    progress : bool or callable, optional
+        True shows progress by tqdm or in lines. A function is called with the number of drops made and of all.
+    checkpoint : path, optional
+        A file to which parts are written as they are done. Another call with the same arguments, or with more chains,
+        goes on from it. Its numbers are believed, so nobody else should be able to write to it.
+    partial : bool, optional
+        Whether an interrupt returns what was made until then, in place of KeyboardInterrupt.
 
-    If it is asked for what `fired`, or `until` a drop has a "loss" of chips, or "spans" a grid, which is that the
-    vertices that fired touch two opposite borders, each call makes one drop of many chains, by NumPy. `until` stops a
-    chain after the first such drop. In a direction that is joined there are no borders, and "spans" does not know that.
-    To `collect` a "histogram" of each column of each chain takes no memory for drops but their amounts; it goes with
-    neither of them, nor with a checkpoint.
+    Returns
+    -------
+    Chains or Histograms
+        The results, with a row for each chain. A drop takes 24 bytes, and a vertex 16 bytes in each chain.
 
-    `progress` shows how many drops are made: True by tqdm or lines, or a function of this number and of how many there
-    are. After an interrupt all stop soon; if `partial` is true, what was made is the result: `made` has the numbers of
-    drops, and chains that had not begun have no chips. A `checkpoint` is a file to which parts are written as they are
-    done: another call with the same arguments, or with more chains, goes on from it. Its numbers are believed, so it
-    should be one that only you can write.
+    Raises
+    ------
+    ProgramNotFound
+        There is no library.
+    MemoryError
+        There is no room for the results. Nothing was played.
+    ValueError
+        Arguments do not fit together, or a checkpoint is that of another call.
 
-    Proved: sizes, extents, losses and counts of the drops. Not proved: that they are evenly drawn, and what stops.
+    See Also
+    --------
+    drops, moments, collapse, random_recurrent
+
+    Notes
+    -----
+    Proved: sizes, areas, dissipated chips and counts of the drops. Not proved: that vertices are evenly drawn, and
+    which drop ends a chain.
+
+    Examples
+    --------
+    >>> found = chipfire.chains(chipfire.grid(4, 4), 3, 5, seed=1)
+    >>> [list(row).count(0) <= 5 for row in found.size], list(found.made)
+    ([True, True, True], [5, 5, 5])
     """
     known = known_graph(graph)
     n = as_int(n, "the number of chains", 1)
@@ -314,6 +420,11 @@ def _refuse_options(
         import_optional("numpy", "what fired, and when to stop, are found by NumPy")
     if executor is not None and workers is not None:
         raise ValueError("either workers play, or an executor")
+    if executor is not None and not hasattr(executor, "submit"):
+        kind = type(executor).__name__
+        raise TypeError(
+            f"an executor is one of concurrent.futures, or has its `submit`, and this is a {kind}"
+        )
     if executor is None and library.find_library() is None:
         raise ProgramNotFound(
             2,

@@ -26,6 +26,7 @@ from chipfire.utils import (
     listed,
     MAX_LIMIT,
     with_unit,
+    WithArea,
 )
 
 ROWS_HEADER = "vertex,chips,size,extent,lost\n"
@@ -38,16 +39,37 @@ _BYTES = 2**20
 
 
 @dataclass(frozen=True, repr=False, eq=False)
-class Drops:
-    """What chips came to that were dropped one after another, by columns: a number for each drop, in their order.
+class Drops(WithArea):
+    """What drops caused, in columns with a number for each drop, in their order.
 
-    size    how many firings the drop caused: that of its avalanche
-    extent  how many different vertices fired
-    lost    how many chips the firings brought to the sink
-    report  the report of all together: of a play from the chips at the start and those that were dropped
+    The columns are arrays of NumPy if it is installed, else of the standard library.
 
-    The columns are arrays of NumPy if it is installed, else of the standard library. If a vertex has fired 2^40 times
-    in all, that stops the play of a drop: the drop is the last, and has no row; `report.closed` is false then.
+    Attributes
+    ----------
+    size : array of shape (n,)
+        The number of firings of each avalanche.
+    extent, area : array of shape (n,)
+        The number of different vertices that fired.
+    lost : array of shape (n,)
+        The number of chips that firings brought to the sink: the dissipated ones.
+    report : Report
+        The report of a play from all chips together, those at the start and those that were dropped.
+
+    See Also
+    --------
+    drops, Pile, Chains
+
+    Notes
+    -----
+    If a vertex has fired 2^40 times in all, that stops the play of a drop. This drop is the last, and has no row;
+    `report.closed` is then false.
+
+    Proved: each row, and the report. Not proved: that Python passes them on, and the histogram.
+
+    Examples
+    --------
+    >>> chipfire.drops(chipfire.path(2), {0: 1, 1: 1}, [0, 1]).histogram()
+    {0: 1, 2: 1}
     """
 
     size: Any

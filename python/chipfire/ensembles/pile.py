@@ -20,13 +20,22 @@ from chipfire.graphs.graph import Graph
 from chipfire.utils import as_int, FILE, MAX_CHIPS, MAX_LIMIT
 
 
+#: How many chips a drop may have that is played in this process, however many lie there.
+_FEW_CHIPS = 64
+
+
 class Drop(NamedTuple):
-    """What one drop on a pile caused: how many firings, of how many different vertices, and how many chips these brought
-    to the sink."""
+    """What one drop on a pile caused: the number of firings, that of different vertices that fired, and that of chips
+    which the firings brought to the sink."""
 
     size: int
     extent: int
     lost: int
+
+    @property
+    def area(self) -> int:
+        """How many different vertices fired: `extent` by the name that the field has for it."""
+        return self.extent
 
 
 class _Fork:
@@ -44,23 +53,47 @@ if hasattr(os, "register_at_fork"):
 
 
 class Pile:
-    """A graph with chips, which are played to their end, and on which chips are dropped. The graph is made once, so a
-    drop costs its firings alone.
+    """Chips on a graph that are kept stable, and on which more are dropped.
 
-        with chipfire.Pile(chipfire.grid(64, 64), 3) as pile:
-            size, extent, lost = pile.drop(0)
+    The graph is made once, so a drop costs its firings alone. A pile is a context manager: its end, or `close`, gives
+    the memory back.
 
-    graph  the graph, or the name of its file
-    chips  what lies there at the start, in a form of chips, or the name of a file; none, if they are left out
-    limit  how often each vertex may fire in all plays together, 2^40 if it is left out
+    Parameters
+    ----------
+    graph : Graph or path
+        The graph, or the name of its file.
+    chips : Chips, optional
+        The chips at the start, which are stabilized. By default none.
+    limit : int, optional
+        How often each vertex may fire in all plays together, from 0 to 2^40, which is the default. If it stops a
+        play, `is_stopped` is true, and each later drop is a `Fault` with number 13, until `put`.
+    program : path, optional
+        The program to ask. By default the one that is found.
 
-    If the limit stops a play, `is_stopped` is true, and each later drop is a `Fault` with number 13, until `put`.
+    Raises
+    ------
+    Fault
+        The graph or the chips are refused.
 
-    The library keeps the pile in this process, if it is there and the plays are short, and else the program plays each
-    drop, with the same results. Threads may share a pile: one call waits for another. A forked child goes on with a pile
-    of its own, made anew from the graph and all chips. A copy and a pickle have graph, chips, counts and limit. `close`,
-    the end of `with`, or the end of the pile gives its memory back.
+    See Also
+    --------
+    drops, avalanches, Drops
+
+    Notes
+    -----
+    The library keeps the pile in this process, if it is there, and plays in portions, between which an interrupt is
+    seen. A drop of many chips, or each drop if there is no library, is played by the program, with the same results.
+    Threads may share a pile: one call waits for another. A forked child goes on with a pile of its own. A copy and a
+    pickle have graph, chips, counts and limit.
+
     Proved: the chips, the counts and the numbers of each drop. Not proved: that Python passes them on, and adds.
+
+    Examples
+    --------
+    >>> with chipfire.Pile(chipfire.path(2), {0: 1, 1: 1}) as pile:
+    ...     size, area, lost = pile.drop(0)
+    ...     print(size, area, lost, pile.chips)
+    2 2 2 (1, 0, 2)
     """
 
     def __init__(
@@ -139,15 +172,12 @@ class Pile:
         amount = as_int(amount, "the number of chips")
         with self._alone():
             pile = self._before([amount])
-            if pile and self._total + amount <= library.most(self.graph):
-                number = pile.drop(at, amount)
-                if number == 0 or self._is_last_word(number):
-                    self._add(at, amount)
-                    self._is_stopped = number != 0
-                    if number:
-                        raise refused(kept.STOPPED, 0, self.graph)
-                    return Drop(*pile.told)
-                self._let_go(is_whole=False)
+            if pile and self._is_short([amount]):
+                self._is_stopped = self._stops(pile.drop(at, amount))
+                self._add(at, amount)
+                if self._is_stopped:
+                    raise refused(kept.STOPPED, 0, self.graph)
+                return Drop(*pile.told)
             found = self._by_program(array("Q", [at]), array("Q", [amount]))
             if not len(found):
                 raise refused(kept.STOPPED, 0, self.graph)
@@ -160,11 +190,8 @@ class Pile:
         at, many = dropped_on(self.graph, vertices, amounts)
         with self._alone():
             pile = self._before(many)
-            if pile and self._total + sum(many) <= library.most(self.graph):
-                found = self._by_library(pile, at, many)
-                if found is not None:
-                    return found
-                self._let_go(is_whole=False)
+            if pile and self._is_short(many):
+                return self._by_library(pile, at, many)
             return self._by_program(at, many)
 
     def close(self) -> None:
@@ -228,20 +255,15 @@ class Pile:
         self, start: array[int], limit: int, old: kept.KeptPile | None
     ) -> kept.KeptPile | None:
         """The library's pile with these chips, played to the end; None if that is the program's to do."""
-        most = library.most(self.graph)
         found = library.loaded() if self._program is None else None
-        if found is None or self._total >= most:
+        if found is None:
             return None
         own = old if old is not None and old.is_own else None
         if own is None:
-            own = self._made(found, start, min(limit, most))
-        elif number := own.put(start, min(limit, most)):
+            own = self._made(found, start, limit)
+        elif number := own.put(start, limit):
             raise refused(number, 0, self.graph)
-        number = own.play()
-        if number and not self._is_last_word(number):
-            own.free()
-            return None
-        self._is_stopped = number != 0
+        self._is_stopped = self._stops(own.play())
         return own
 
     def _made(self, found: Any, start: array[int], limit: int) -> kept.KeptPile:
@@ -256,11 +278,16 @@ class Pile:
     def _free(self) -> Graph:
         return self.graph.loop_free
 
-    def _is_last_word(self, number: int) -> bool:
-        """Whether the library's pile was stopped by the limit of this one, and not by that of plays in this process."""
-        if number != kept.STOPPED:
+    def _stops(self, number: int) -> bool:
+        """Whether the limit has stopped a play of the library's pile. Another fault is raised."""
+        if number not in (0, kept.STOPPED):
             raise refused(number, 0, self.graph)
-        return self._game[1] <= library.most(self.graph)
+        return number != 0
+
+    def _is_short(self, amounts: Sequence[int]) -> bool:
+        """Whether drops are played in this process, where a drop is played at once."""
+        is_light = self._total + sum(amounts) <= library.most(self.graph)
+        return is_light or max(amounts, default=0) <= _FEW_CHIPS
 
     def _before(self, amounts: Sequence[int]) -> kept.KeptPile | None:
         """The library's pile before drops of these amounts, which are refused if they are too many or the limit has
@@ -316,8 +343,8 @@ class Pile:
             if pile.is_own:
                 self._end_of(pile)
 
-    def _by_library(self, pile: kept.KeptPile, at: array[int], amounts: array[int]) -> Drops | None:
-        """Drops on the library's pile; None if they are too long for this process."""
+    def _by_library(self, pile: kept.KeptPile, at: array[int], amounts: array[int]) -> Drops:
+        """Drops on the library's pile."""
         columns = [array("Q", bytes(8 * len(at))) for _ in range(3)]
         made = 0
         number = 0
@@ -329,11 +356,9 @@ class Pile:
             return number == 0
 
         in_calls(call, at, amounts, columns)
-        if number and not self._is_last_word(number):
-            return None
-        fallen = made + (number != 0)
+        self._is_stopped = self._stops(number)
+        fallen = made + self._is_stopped
         self._add_all(at[:fallen], amounts[:fallen])
-        self._is_stopped = number != 0
         size, extent, lost = shown([column[:made] for column in columns])
         return Drops(size, extent, lost, self._report())
 

@@ -34,13 +34,35 @@ _GAUSS = [(0.0, 128 / 225)] + [
 
 
 class PowerLaw(NamedTuple):
-    """A discrete power law: a size from `least` to `most` has a probability that goes with `size ** -exponent`.
+    """A discrete power law: a size from `least` to `most` has a probability that goes with ``size ** -exponent``.
 
-    exponent  the one by which the sizes that were seen are the most probable
-    error     its standard error
-    used      how many sizes lay in the range
-    distance  the distance of Kolmogorov and Smirnov between the sizes and the law; None if it was not asked for
-    p_value   the share of `trials` from the law whose distance is not less; None without trials
+    Attributes
+    ----------
+    exponent : float
+        The exponent by which the sizes that were seen are the most probable.
+    error : float
+        Its standard error.
+    least, most : int
+        The range of sizes.
+    used : int
+        How many sizes lay in the range.
+    distance : float or None
+        The distance of Kolmogorov and Smirnov between the sizes and the law, if it was asked for.
+    p_value : float or None
+        The share of samples from the law whose distance is not less, if there were trials.
+
+    See Also
+    --------
+    power_law
+
+    Notes
+    -----
+    Nothing of this is proved.
+
+    Examples
+    --------
+    >>> chipfire.power_law({1: 8, 2: 2}).most
+    2
     """
 
     exponent: float
@@ -60,15 +82,55 @@ def power_law(
     trials: int = 0,
     seed: int = 0,
 ) -> PowerLaw:
-    """The power law of sizes from `least`, 1 or more, to `most`, or to the largest, by maximum likelihood. Sizes out of
-    that range are left out, as those of 0 are. They come one by one, or as a histogram; two at least must differ.
-    The range has up to 10,000,000 sizes.
+    """Fits a discrete power law to sizes, by maximum likelihood.
 
-    A border ends the law of avalanches, so `most` is best far below the largest one. The "best" least size is that
-    whose law has the least distance of Kolmogorov and Smirnov, among up to 64 of those that were seen. With `trials`
-    as many samples are drawn from the law, by NumPy's generator of `seed`, and below a best least size from what was
-    seen there; each is fitted in the same way. A p-value below 0.1 speaks against the law, if there are 100 trials or
-    more. Both take NumPy. Clauset, Shalizi and Newman (2009).
+    Parameters
+    ----------
+    sizes : iterable of int, or mapping of int to int
+        The sizes one by one, or a histogram. Sizes out of the range are left out, as those of 0 are. Two at least
+        differ.
+    least : int or "best", optional
+        The least size of the range, 1 or more. The "best" one is that whose law has the least distance of Kolmogorov
+        and Smirnov to the sizes, among up to 64 of those that were seen. This takes NumPy.
+    most : int, optional
+        The largest size of the range. By default the largest that was seen. The range has up to 10,000,000 sizes.
+    trials : int, optional
+        How many samples are drawn from the law, and fitted in the same way, for a p-value. This takes NumPy.
+    seed : int, optional
+        The seed of the samples.
+
+    Returns
+    -------
+    PowerLaw
+        The exponent with its standard error, and the p-value if there are trials.
+
+    Raises
+    ------
+    ImportError
+        NumPy is missing, and a best least size or trials are asked for.
+    ValueError
+        No two sizes in the range differ, or the range is too long.
+
+    See Also
+    --------
+    plot_sizes, drops, collapse
+
+    Notes
+    -----
+    The border of a grid ends the law of avalanches, so `most` is best far below the largest size. A p-value below 0.1
+    speaks against the law, if there are 100 trials or more [1]_. Below a best least size samples are drawn from what
+    was seen there.
+
+    Nothing of this is proved.
+
+    References
+    ----------
+    .. [1] A. Clauset, C. R. Shalizi and M. E. J. Newman, "Power-law distributions in empirical data", SIAM Review 51 (2009).
+
+    Examples
+    --------
+    >>> chipfire.power_law({1: 8, 2: 2, 4: 1}, 1, 2).used
+    10
     """
     told = counted(sizes)
     trials = as_int(trials, "the number of trials")
@@ -210,9 +272,42 @@ def plot_sizes(
     most: int | None = None,
     axes: Any = None,
 ) -> Any:
-    """Draws by Matplotlib how many sizes there are, and their power law, into axes, or new ones, which it returns.
-    Each point has the sizes from a power of 2 up to the next, and is at the number of them for each size. Sizes of 0
-    are left out, and the line is that of `power_law`."""
+    """Draws by Matplotlib how many avalanches have each size, and their power law.
+
+    Parameters
+    ----------
+    sizes : iterable of int, or mapping of int to int
+        The sizes one by one, or a histogram. Sizes of 0 are left out.
+    least, most : int, optional
+        The range of sizes to which the power law is fitted.
+    axes : matplotlib.axes.Axes, optional
+        Where to draw. By default new axes are made.
+
+    Returns
+    -------
+    matplotlib.axes.Axes
+        The axes. Each point has the sizes from a power of 2 up to the next, and is at the number of them for each
+        size.
+
+    Raises
+    ------
+    ImportError
+        Matplotlib is missing.
+    ValueError
+        No two sizes in the range differ.
+
+    See Also
+    --------
+    power_law
+
+    Notes
+    -----
+    Nothing of this is proved.
+
+    Examples
+    --------
+    >>> axes = chipfire.plot_sizes({1: 80, 2: 40, 4: 10})
+    """
     pyplot = import_optional("matplotlib.pyplot", "a plot is one of Matplotlib")
     told = counted(sizes)
     law = power_law(told, least, most)

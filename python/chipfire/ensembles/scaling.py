@@ -18,11 +18,29 @@ _ORDERS = (1.0, 1.25, 1.5, 1.75, 2.0, 2.25, 2.5, 2.75, 3.0)
 
 
 class Moments(NamedTuple):
-    """Means of powers of what drops caused: arrays with a place for each order.
+    """Means of powers of what drops caused.
 
-    orders  to which power
-    means   the mean of that power over all drops
-    errors  the standard error of the mean
+    Attributes
+    ----------
+    orders : array of shape (q,)
+        The powers.
+    means : array of shape (q,)
+        The mean of each power over all drops.
+    errors : array of shape (q,)
+        The standard error of each mean.
+
+    See Also
+    --------
+    moments
+
+    Notes
+    -----
+    Nothing of this is proved.
+
+    Examples
+    --------
+    >>> list(chipfire.moments(chipfire.chains(chipfire.path(3), 2, 4, seed=1), orders=[0]).errors)
+    [0.0]
     """
 
     orders: Any
@@ -38,9 +56,53 @@ def moments(
     resamples: int = 1000,
     seed: int = 0,
 ) -> Moments:
-    """The moments of a column of chains, or of their histograms, with errors by the bootstrap: as many chains are drawn with replacement as
-    there are, `resamples` times, and the error is how far apart their moments lie. So drops of one chain may depend on
-    one another. It takes two chains at least, and NumPy. Efron (1979).
+    """Returns the moments of a column of chains, with their standard errors.
+
+    Parameters
+    ----------
+    chains : Chains or Histograms
+        The chains, two or more.
+    of : {"size", "extent", "lost"}, optional
+        The column.
+    orders : sequence of float, optional
+        The powers whose means are taken.
+    resamples : int, optional
+        How many times the bootstrap draws chains.
+    seed : int, optional
+        The seed of the bootstrap.
+
+    Returns
+    -------
+    Moments
+        The mean of each power over all drops, and its standard error.
+
+    Raises
+    ------
+    ImportError
+        NumPy is missing.
+    ValueError
+        There are fewer than two chains.
+
+    See Also
+    --------
+    chains, collapse
+
+    Notes
+    -----
+    The bootstrap [1]_ draws whole chains, as many as there are, with replacement. So drops of one chain may depend on
+    one another.
+
+    Nothing of this is proved.
+
+    References
+    ----------
+    .. [1] B. Efron, "Bootstrap methods: another look at the jackknife", Annals of Statistics 7 (1979).
+
+    Examples
+    --------
+    >>> chains = chipfire.chains(chipfire.grid(4, 4), 3, 5, seed=1)
+    >>> list(chipfire.moments(chains, orders=[0]).means)
+    [1.0]
     """
     numpy = import_optional("numpy", "moments are found by NumPy")
     if of not in COLUMNS:
@@ -71,14 +133,35 @@ def _sums(numpy: Any, chains: Chains | Histograms, of: str, made: Any, order: fl
 
 @dataclass(frozen=True, eq=False)
 class Collapse:
-    """How avalanches scale with the length of the system: the probability of a size is
-    `size ** -exponent * G(size / length ** dimension)`.
+    """How avalanches scale with the length of the system.
 
-    exponent   tau
-    dimension  D, the dimension of avalanches
-    errors     the standard errors of both, by the scatter of the moments about the fit
-    orders     the orders of the moments that were used
-    slopes     by which power of the length each moment grows
+    The probability of a size is ``size ** -exponent * G(size / length ** dimension)``.
+
+    Attributes
+    ----------
+    exponent : float
+        The exponent tau.
+    dimension : float
+        The dimension D of avalanches.
+    errors : (float, float)
+        The standard errors of both, by the scatter of the moments about the fit.
+    orders : array of shape (q,)
+        The orders of the moments that were used.
+    slopes : array of shape (q,)
+        The power of the length by which each moment grows.
+
+    See Also
+    --------
+    collapse
+
+    Notes
+    -----
+    Nothing of this is proved.
+
+    Examples
+    --------
+    >>> chipfire.collapse({4: [16], 8: [64], 16: [256]}).orders[0]
+    1.0
     """
 
     exponent: float
@@ -108,12 +191,54 @@ class Collapse:
 def collapse(
     sizes: Mapping[float, Iterable[int] | Mapping[int, int]], orders: Sequence[float] = _ORDERS
 ) -> Collapse:
-    """The exponents of finite-size scaling, of the sizes of avalanches by the length of their system: sizes one by one,
-    rows of them, or histograms. Sizes of 0 are left out. It takes two lengths at least, and NumPy.
+    """Fits the exponents of finite-size scaling.
 
-    The moment of order q grows with the length to the power D (q + 1 - tau), if q is above tau - 1: lines are fitted by
-    least squares to the logarithms of the moments, and one to their slopes. Tebaldi, De Menech and Stella (1999).
-    Corrections to scaling are not fitted, so leave out what is small.
+    The probability of a size s in a system of length L is ``s ** -tau * G(s / L ** D)``. The moment of order q then
+    grows as ``L ** (D * (q + 1 - tau))``, for q above tau - 1.
+
+    Parameters
+    ----------
+    sizes : mapping of float to sizes
+        For each length its avalanches: sizes one by one, rows of them, or a histogram. Sizes of 0 are left out. There
+        are two lengths at least.
+    orders : sequence of float, optional
+        The orders q of the moments.
+
+    Returns
+    -------
+    Collapse
+        The exponent tau, the dimension D, and their standard errors.
+
+    Raises
+    ------
+    ImportError
+        NumPy is missing.
+    ValueError
+        There are fewer than two lengths, or a length has no size above 0.
+
+    See Also
+    --------
+    chains, moments, power_law
+
+    Notes
+    -----
+    Lines are fitted by least squares to the logarithms of the moments, and one line to their slopes [1]_. Corrections
+    to scaling are not fitted, so leave small systems out.
+
+    Nothing of this is proved.
+
+    References
+    ----------
+    .. [1] C. Tebaldi, M. De Menech and A. L. Stella, "Multifractal scaling in the Bak-Tang-Wiesenfeld sandpile and edge
+       events", Physical Review Letters 83 (1999).
+
+    Examples
+    --------
+    All avalanches have the square of the length as their size:
+
+    >>> found = chipfire.collapse({4: [16], 8: [64], 16: [256]})
+    >>> round(found.exponent, 6), round(found.dimension, 6)
+    (1.0, 2.0)
     """
     numpy = import_optional("numpy", "exponents are fitted by NumPy")
     told = {float(length): counted(its) for length, its in sizes.items()}

@@ -22,18 +22,52 @@ def from_networkx(
     loops: str | None = None,
     weight_scale: int = 1,
 ) -> Graph:
-    """A graph of NetworkX, of any of its four kinds, with one of its vertices as the sink, or a list or set of them.
+    """Returns a graph of NetworkX as a graph of chipfire.
 
-    An edge sends as many chips as its attribute of the name `weight` says, a whole number above 0; without that, or if
-    `weight` is None, it sends one. An undirected edge is one edge each way. Edges out of the sink are in the Laplacian
-    alone. Vertices keep their names; a list or a set of sinks becomes one vertex, the last, whose name is "sink".
+    Parameters
+    ----------
+    graph : networkx.Graph, DiGraph, MultiGraph or MultiDiGraph
+        The graph. Vertices keep their names, and an undirected edge becomes one edge each way.
+    sink : hashable, or list or set of hashable
+        The sink, by name. Several become one vertex, the last, whose name is "sink". Edges out of the sink are in the
+        Laplacian alone.
+    weight : str or None, optional
+        The attribute of an edge that says how many chips it sends, a whole number above 0. Without the attribute, or
+        if this is None, an edge sends one.
+    loops : {"drop", "sage"}, optional
+        Leaves loops out, or takes them as SageMath does. By default they are refused when something is played.
+    weight_scale : int, optional
+        By how much weights are multiplied: 0.25 and ``Fraction(3, 4)`` are taken with 4, and a chip is a quarter
+        then.
 
-    Loops are refused when something is played, or left out with `loops="drop"`. With `loops="sage"` they are those of
-    SageMath: a vertex needs a chip more to fire for each, or two for an undirected one, and keeps it. The game is that
-    without loops then, with the chips that vertices keep more: so are plays, drops, and what is stable or recurrent;
-    but not sums, orders, the identity and what is superstable. Nothing is played on fewer chips than loops.
+    Returns
+    -------
+    Graph
+        The graph.
 
-    Rational weights are taken `weight_scale` times: 0.25 and `Fraction(3, 4)` with 4, and a chip is a quarter then.
+    Raises
+    ------
+    ValueError
+        A weight is not a whole number above 0, or no vertex is the sink.
+
+    See Also
+    --------
+    to_networkx, from_sage, from_edges
+
+    Notes
+    -----
+    With ``loops="sage"`` a vertex needs one chip more to fire for each loop, or two for an undirected one, and keeps
+    it. The game is then that without loops, with as many chips less on each vertex. Plays, drops and what is stable
+    or recurrent are those of that game; sums, orders, the identity and what is superstable are not. Nothing is played
+    on fewer chips than loops.
+
+    Nothing of this is proved: Python makes the graph, and each play checks that it is one.
+
+    Examples
+    --------
+    >>> import networkx
+    >>> chipfire.order(chipfire.from_networkx(networkx.cycle_graph(5), 0))
+    5
     """
     if not callable(getattr(graph, "edges", None)) or not callable(
         getattr(graph, "is_directed", None)
@@ -56,11 +90,49 @@ def from_edges(
     loops: str | None = None,
     weight_scale: int = 1,
 ) -> Graph:
-    """The graph of a table with a row for each edge: a DataFrame of pandas, or a dict of columns.
+    """Returns the graph of a table with a row for each edge.
 
-    `source` and `target` name the columns of the ends, and `weight` that of how many chips the edge sends, one if there
-    is no such column. Each edge leads both ways, unless they are `directed`. The order of the names, or else that in
-    which they come, gives the numbers. All else is as in `from_networkx`."""
+    Parameters
+    ----------
+    table : pandas.DataFrame or dict of columns
+        The table.
+    sink : hashable, or list or set of hashable
+        The sink, by name. Several become one vertex.
+    source, target : hashable, optional
+        The columns of the ends of the edges.
+    weight : hashable, optional
+        The column of the number of chips that an edge sends. Without it an edge sends one.
+    directed : bool, optional
+        Whether an edge leads one way alone. By default it leads both ways.
+    loops : {"drop", "sage"}, optional
+        Leaves loops out, or takes them as SageMath does, as in `from_networkx`. By default they are refused by plays.
+    weight_scale : int, optional
+        By how much weights are multiplied, for rational ones.
+
+    Returns
+    -------
+    Graph
+        The graph. Names are numbered in their order if they have one, and else as they come.
+
+    Raises
+    ------
+    ValueError
+        A column is missing or has a gap, a weight is not a whole number above 0, or no vertex is the sink.
+
+    See Also
+    --------
+    from_networkx, Graph.undirected
+
+    Notes
+    -----
+    Nothing of this is proved: Python makes the graph, and each play checks that it is one.
+
+    Examples
+    --------
+    >>> graph = chipfire.from_edges({"source": ["a", "b"], "target": ["b", "c"]}, "c")
+    >>> chipfire.stabilize(graph, {"a": 1})
+    {'a': 0, 'b': 1}
+    """
     is_table = (
         isinstance(table, Mapping) or hasattr(table, "columns") and hasattr(table, "__getitem__")
     )
@@ -93,9 +165,43 @@ def from_edges(
 def from_sage(
     graph: Any, sink: Any = None, *, loops: str | None = None, weight_scale: int = 1
 ) -> Graph:
-    """A graph of SageMath: a `Sandpile` with the sink that it has, or a `DiGraph` or `Graph` and its sink.
-    An edge sends as many chips as its label says, or one if it has none; one of label 0, which Sage adds in some
-    graphs, is left out. Vertices have the order of Sage's `vertices()`. All else is as in `from_networkx`.
+    """Returns a graph of SageMath as a graph of chipfire.
+
+    Parameters
+    ----------
+    graph : Sandpile, DiGraph or Graph of SageMath
+        The graph. Vertices have the order of Sage's ``vertices()``. An edge sends as many chips as its label says, or
+        one if it has none; an edge of label 0 is left out.
+    sink : hashable, optional
+        The sink. A `Sandpile` has its own.
+    loops : {"drop", "sage"}, optional
+        As in `from_networkx`.
+    weight_scale : int, optional
+        As in `from_networkx`.
+
+    Returns
+    -------
+    Graph
+        The graph.
+
+    Raises
+    ------
+    ValueError
+        A label is not a whole number, or no vertex is the sink.
+
+    See Also
+    --------
+    from_networkx
+
+    Notes
+    -----
+    Nothing of this is proved: Python makes the graph, and each play checks that it is one.
+
+    Examples
+    --------
+    >>> from sage.all import sandpiles  # doctest: +SKIP
+    >>> chipfire.order(chipfire.from_sage(sandpiles.Complete(4)))  # doctest: +SKIP
+    16
     """
     if not callable(getattr(graph, "edge_iterator", None)):
         raise TypeError(f"this takes a graph of SageMath, and no {type(graph).__name__}")
@@ -121,17 +227,79 @@ def from_sage(
 
 
 def to_scipy(graph: AnyGraph) -> Any:
-    """The Laplacian as a sparse matrix of SciPy in coordinates (COO); the sink's row is as in `laplacian`."""
+    """Returns the Laplacian as a sparse matrix of SciPy.
+
+    Parameters
+    ----------
+    graph : Graph or path
+        The graph, or the name of its file.
+
+    Returns
+    -------
+    scipy.sparse.coo_matrix
+        The matrix, of shape (vertices, vertices). The sink's row is as in `laplacian`.
+
+    Raises
+    ------
+    ImportError
+        SciPy is missing.
+    ValueError
+        The graph is refused.
+
+    See Also
+    --------
+    laplacian, reduced_laplacian
+
+    Notes
+    -----
+    Nothing of this is proved.
+
+    Examples
+    --------
+    >>> chipfire.to_scipy(chipfire.complete(3)).shape
+    (3, 3)
+    """
     return laplacian(graph, sparse=True).tocoo()
 
 
 def to_networkx(graph: AnyGraph) -> Any:
-    """The graph in NetworkX: a `Graph` if each edge leads both ways, and else a `DiGraph`.
+    """Returns the graph as one of NetworkX.
 
-    Vertices have their names. The attribute "weight" of an edge is its multiplicity, parallel edges are one, and the
-    graph's attribute "sink" names the sink, which has its edges of `laplacian`. So `from_networkx(it,
-    it.graph["sink"])` plays the same. Its edges stand in the order of NetworkX: it `is_like` a graph without parallel
-    edges, and need not equal it. Loops are refused."""
+    Parameters
+    ----------
+    graph : Graph or path
+        The graph, or the name of its file.
+
+    Returns
+    -------
+    networkx.Graph or networkx.DiGraph
+        A `Graph` if each edge leads both ways, and else a `DiGraph`. Vertices have their names. The attribute
+        "weight" of an edge is its multiplicity, parallel edges are one, and the graph's attribute "sink" names the
+        sink.
+
+    Raises
+    ------
+    ImportError
+        NetworkX is missing.
+    ValueError
+        The graph has loops, or is refused.
+
+    See Also
+    --------
+    from_networkx, to_scipy
+
+    Notes
+    -----
+    ``from_networkx(it, it.graph["sink"])`` plays the same. Its edges stand in the order of NetworkX: it `is_like` a
+    graph without parallel edges, and need not equal it.
+
+    Nothing of this is proved.
+
+    Examples
+    --------
+    >>> chipfire.to_networkx(chipfire.cycle(5)).number_of_edges()
+    5
+    """
     known = known_graph(graph)
     networkx = import_optional("networkx", "a graph of NetworkX is one of NetworkX")
     known.refuse_loops()

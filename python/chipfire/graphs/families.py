@@ -23,7 +23,36 @@ def _both_ways(
 
 
 def path(length: int) -> Graph:
-    """A path of `length` vertices whose two ends lose a chip to the sink, which is the last vertex."""
+    """Returns a path whose two ends lose a chip to the sink.
+
+    Parameters
+    ----------
+    length : int
+        The number of vertices but the sink, 1 or more.
+
+    Returns
+    -------
+    Graph
+        The graph. The sink is its last vertex.
+
+    Raises
+    ------
+    ValueError
+        The length is below 1, or too large.
+
+    See Also
+    --------
+    cycle, grid
+
+    Notes
+    -----
+    Nothing of this is proved: Python makes the graph, and each play checks that it is one.
+
+    Examples
+    --------
+    >>> chipfire.plain(chipfire.path(3), {1: 2}).chips
+    (1, 0, 1, 0)
+    """
     length = as_int(length, "the length of a path", 1, MAX_LARGE_VERTICES - 1)
     edges = [(v, u, 1) for v in range(length) for u in (v - 1, v + 1) if 0 <= u < length]
     edges += [(0, length, 1), (length - 1, length, 1)]
@@ -31,13 +60,71 @@ def path(length: int) -> Graph:
 
 
 def cycle(length: int) -> Graph:
-    """A cycle of `length` vertices, 3 at least, with edges both ways; vertex 0 is the sink."""
+    """Returns a cycle with edges both ways.
+
+    Parameters
+    ----------
+    length : int
+        The number of vertices, 3 or more.
+
+    Returns
+    -------
+    Graph
+        The graph. Vertex 0 is the sink.
+
+    Raises
+    ------
+    ValueError
+        There are fewer than 3 vertices, or too many.
+
+    See Also
+    --------
+    path, wheel
+
+    Notes
+    -----
+    Nothing of this is proved: Python makes the graph, and each play checks that it is one.
+
+    Examples
+    --------
+    >>> chipfire.invariant_factors(chipfire.cycle(12))
+    (12,)
+    """
     length = as_int(length, "the length of a cycle", 3, MAX_LARGE_VERTICES)
     return _both_ways(length, 0, ((v, (v + 1) % length) for v in range(length)))
 
 
 def wheel(vertices: int) -> Graph:
-    """A cycle of the vertices from 1 on, 3 at least, each beside the hub 0 too; the hub is the sink."""
+    """Returns a wheel: a cycle, each of whose vertices is also beside the hub.
+
+    Parameters
+    ----------
+    vertices : int
+        The number of vertices, 4 or more.
+
+    Returns
+    -------
+    Graph
+        The graph. The hub is vertex 0, and the sink.
+
+    Raises
+    ------
+    ValueError
+        There are fewer than 4 vertices, or too many.
+
+    See Also
+    --------
+    cycle, complete
+
+    Notes
+    -----
+    Nothing of this is proved: Python makes the graph, and each play checks that it is one.
+
+    Examples
+    --------
+    >>> chipfire.order(chipfire.wheel(4)) == chipfire.order(chipfire.complete(4))
+    True
+    """
     rim = range(1, as_int(vertices, "the number of vertices of a wheel", 4, MAX_LARGE_VERTICES))
     return _both_ways(vertices, 0, [*((v, v % len(rim) + 1) for v in rim), *((v, 0) for v in rim)])
 
@@ -59,8 +146,38 @@ def torus(
     rows: int | None = None,
     columns: int | None = None,
 ) -> Graph:
-    """A grid whose borders are joined, 3 by 3 at least, by its sizes as in `grid`: vertex `width * row + column`;
-    vertex 0 is the sink."""
+    """Returns a grid whose borders are joined.
+
+    Parameters
+    ----------
+    width, height : int
+        The numbers of columns and of rows, 3 or more each.
+    rows, columns : int, optional
+        The same sizes by other names: ``torus(rows=height, columns=width)``.
+
+    Returns
+    -------
+    Graph
+        The graph. Vertex ``width * row + column`` is also called ``(row, column)``, and vertex 0 is the sink.
+
+    Raises
+    ------
+    ValueError
+        A size is below 3, sizes are given twice, or the torus is too large.
+
+    See Also
+    --------
+    grid
+
+    Notes
+    -----
+    Nothing of this is proved: Python makes the graph, and each play checks that it is one.
+
+    Examples
+    --------
+    >>> chipfire.torus(4, 3).degrees()[1]
+    4
+    """
     sizes = sizes_of("a torus", width, height, rows, columns)
     width, height = (as_int(it, f"the {word} of a torus", 3) for word, it in sizes)
     size = as_int(width * height, "the number of squares", 9, MAX_LARGE_VERTICES)
@@ -70,6 +187,35 @@ def torus(
 
 
 def complete(vertices: int) -> Graph:
-    """The complete graph: an edge each way between any two vertices; vertex 0 is the sink."""
+    """Returns the complete graph, in which an edge leads from each vertex to each other one.
+
+    Parameters
+    ----------
+    vertices : int
+        The number of vertices, 2 or more.
+
+    Returns
+    -------
+    Graph
+        The graph. Vertex 0 is the sink.
+
+    Raises
+    ------
+    ValueError
+        There are fewer than 2 vertices, or too many.
+
+    See Also
+    --------
+    cycle, wheel, grid
+
+    Notes
+    -----
+    Nothing of this is proved: Python makes the graph, and each play checks that it is one.
+
+    Examples
+    --------
+    >>> chipfire.order(chipfire.complete(4))
+    16
+    """
     vertices = as_int(vertices, "the number of vertices", 1, math.isqrt(MAX_LARGE_EDGES) + 1)
     return _both_ways(vertices, 0, itertools.combinations(range(vertices), 2))

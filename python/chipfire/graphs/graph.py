@@ -16,6 +16,7 @@ from collections import Counter, OrderedDict
 from collections.abc import Hashable, Iterable, Iterator, Mapping, Sequence, Set
 from typing import Any
 
+from chipfire.backend import library
 from chipfire.backend.process import Kept
 from chipfire.configurations import smith
 from chipfire.configurations.configuration import Chips, Configuration, identity, Sums
@@ -58,6 +59,41 @@ def _checked_names(names: tuple[Hashable, ...], vertices: int) -> tuple[Hashable
     return names
 
 
+def _heads_of_first(columns: Columns, sink: int) -> list[int]:
+    """Where the edges out of vertex 0 lead, but for those to the sink."""
+    tails, heads, _ = columns
+    numpy = numpy_in_use() if tails else None
+    if numpy:
+        ends = numpy.frombuffer(tails, "i"), numpy.frombuffer(heads, "i")
+        heads_of_first: list[int] = ends[1][ends[0] == 0].tolist()
+        return [head for head in heads_of_first if head != sink]
+    return [head for tail, head in zip(tails, heads) if tail == 0 and head != sink]
+
+
+def _are_neighbours(columns: Columns, squares: int, width: int) -> bool:
+    """Whether the ends of each edge but those to the sink are neighbours on a grid of so many squares."""
+    tails, heads, _ = columns
+    numpy = numpy_in_use() if tails else None
+    if numpy:
+        ends = numpy.frombuffer(tails, "i"), numpy.frombuffer(heads, "i")
+        u, v = (column[ends[1] != squares] for column in ends)
+        far = abs(u - v)
+        return bool(((far == width) | (far == 1) & (u // width == v // width)).all())
+    inner = ((tail, head) for tail, head in zip(tails, heads) if head != squares)
+    return all(
+        abs(u - v) == width or abs(u - v) == 1 and u // width == v // width for u, v in inner
+    )
+
+
+def _is_accepted(graph: Graph) -> bool:
+    """Whether the library is there and takes the graph."""
+    try:
+        library.stabilize_all(graph.loop_free, *(array("Q") for _ in range(3)))
+    except (OSError, ValueError):
+        return False
+    return True
+
+
 def _checked_loops(loops: Sequence[int], vertices: int, sink: int) -> Sequence[int]:
     """Loops of each vertex, 0 of the sink; none, if no vertex has one."""
     held = [*as_ints(loops, lambda at: f"the loops of vertex {at}")]
@@ -71,17 +107,53 @@ def _checked_loops(loops: Sequence[int], vertices: int, sink: int) -> Sequence[i
 class Graph:
     """A directed multigraph with a sink: the sandpile graph.
 
-    vertices  how many there are; they have the numbers from 0 on
-    sink      the number of the vertex that never fires
-    edges     rows (tail, head) or (tail, head, mult); a firing of the tail sends `mult` chips, or one, to the head
-    names     what the vertices are called in dicts, by number; their numbers, if none are given
-    shape     how many rows and columns a picture of it has, or None; `squares` has the place of each vertex in them,
-              by rows; a sink that is the last vertex has none
-    from_sink edges out of the sink, rows (head, mult) that only `laplacian` shows; None: one back for each edge into it
-    loops     how many chips each vertex needs to fire beyond those that it sends, and keeps; none, if it is empty
+    A graph is never changed. A copy and a pickle have what it is made of, and nothing that was found out about it.
 
-    A graph is never changed. The program says whether chipfire takes it: `check(graph)`. A copy and a pickle have what
-    it is made of, and nothing that was found out about it.
+    Parameters
+    ----------
+    vertices : int
+        The number of vertices, which have the numbers from 0 on.
+    sink : int
+        The number of the vertex that never fires.
+    edges : iterable of (tail, head) or (tail, head, mult), or array of shape (m, 2) or (m, 3)
+        The edges. A firing of the tail sends `mult` chips to the head, or one.
+    names : sequence of hashable, optional
+        What the vertices are called in dicts, by number. By default their numbers.
+    shape : (int, int), optional
+        The numbers of rows and columns of a picture.
+    squares : sequence of int, optional
+        The place of each vertex in the picture, by rows. By default its number. A sink that is the last vertex has
+        none.
+    from_sink : sequence of (head, mult) or None, optional
+        The edges out of the sink, which only `laplacian` shows. None stands for one back for each edge into it.
+    loops : sequence of int, optional
+        How many chips each vertex needs to fire beyond those that it sends, and keeps.
+
+    Attributes
+    ----------
+    edges : tuple of (int, int, int)
+        The edges with their multiplicities. An edge's number is its place.
+
+    Raises
+    ------
+    ValueError
+        A number is out of its range, or the names are not one for each vertex and different.
+
+    See Also
+    --------
+    grid, from_networkx, from_edges, check
+
+    Notes
+    -----
+    The program checks what chipfire takes: see `check`.
+
+    Nothing of this is proved: Python keeps the graph, and each play checks that it is one.
+
+    Examples
+    --------
+    >>> triangle = chipfire.Graph(3, 2, [(0, 1), (0, 2), (1, 0), (1, 2)])
+    >>> triangle.degrees(), triangle.max_stable()
+    ((2, 2, 0), {0: 1, 1: 1})
     """
 
     vertices: int
@@ -160,19 +232,12 @@ class Graph:
     @functools.cached_property
     def shape(self) -> tuple[int, int] | None:
         """The shape of a grid that was not made as one; a single line of vertices is a row."""
-        tails, heads, _ = self.columns
-        width = max(
-            (head for tail, head in zip(tails, heads) if tail == 0 and head != self.sink), default=1
-        )
+        width = max(_heads_of_first(self.columns, self.sink), default=1)
         squares = self.vertices - 1
         width = squares if width == 1 else width
         if squares < 1 or self.sink != squares or squares % width:
             return None
-        inner = ((tail, head) for tail, head in zip(tails, heads) if head != squares)
-        is_grid = all(
-            abs(u - v) == width or abs(u - v) == 1 and u // width == v // width for u, v in inner
-        )
-        return (squares // width, width) if is_grid else None
+        return (squares // width, width) if _are_neighbours(self.columns, squares, width) else None
 
     @classmethod
     def undirected(cls, edges: Iterable[Sequence[Any]], sink: Any) -> Graph:
@@ -321,6 +386,11 @@ class Graph:
     @functools.cached_property
     def wrong(self) -> str:
         """What makes it no graph to play on, by the names of its vertices; an empty text if it is one."""
+        return "" if _is_accepted(self) else self.why_refused
+
+    @functools.cached_property
+    def why_refused(self) -> str:
+        """The same as `wrong`, found without asking the library: of a graph that was refused."""
         tails, heads, _ = self.columns
         sizes = (self.vertices, MAX_LARGE_VERTICES, "vertices"), (
             len(tails),

@@ -72,15 +72,51 @@ def grid(
     loss: Any = 0,
     lattice: str = "square",
 ) -> Graph:
-    """The grid `grid(width, height)` or `grid(rows=height, columns=width)`, in Sage `sandpiles.Grid(height, width)`:
-    vertex `width * row + column`, or `(row, column)`, and the sink after them all. On the border it loses a chip to the
-    sink on each side without a neighbour: each has degree 4.
+    """Returns a grid that loses chips at its border.
 
-    With more sizes there are more directions: a third one has vertex `width * (height * layer + row) + column`, and a
-    picture of it the layers one below the other. In a `periodic` direction, of 2 at least, the borders are joined: in
-    all, or as said of each, that of the width first, as `(True, False)` of a cylinder. A firing loses `loss` more
-    chips, one number for all, or in a form of chips one for each vertex. If all directions are periodic some is needed.
-    The `lattice` is as in `region`; that of "hexagonal" has an even size if it is periodic."""
+    Parameters
+    ----------
+    width, height : int
+        The numbers of columns and of rows.
+    *more : int
+        The sizes in further directions. With a third one there are layers, and vertex
+        ``width * (height * layer + row) + column``.
+    rows, columns : int, optional
+        The same sizes by other names: ``grid(rows=height, columns=width)``.
+    periodic : bool or sequence of bool, optional
+        The directions whose borders are joined: all, or as said of each, that of the width first. Such a direction
+        has at least two vertices.
+    loss : int or Chips, optional
+        How many more chips a firing loses: one number for all vertices, or one for each. If all directions are
+        periodic, some is needed.
+    lattice : {"square", "triangular", "hexagonal"}, optional
+        The neighbours of a vertex, as in `region`. A hexagonal lattice has an even size in a periodic direction.
+
+    Returns
+    -------
+    Graph
+        The graph. Vertex ``width * row + column`` is also called ``(row, column)``, and the sink comes after all. On
+        the border a vertex loses a chip to the sink on each side without a neighbour. SageMath calls this
+        ``sandpiles.Grid(height, width)``.
+
+    Raises
+    ------
+    ValueError
+        A size is below 1, sizes are given twice, or the grid is too large.
+
+    See Also
+    --------
+    torus, region, aztec, grid_for
+
+    Notes
+    -----
+    Nothing of this is proved: Python makes the graph, and each play checks that it is one.
+
+    Examples
+    --------
+    >>> chipfire.stabilize(chipfire.grid(2, 2), {(0, 0): 4})
+    {0: 0, 1: 1, 2: 1, 3: 0}
+    """
     sizes = [*sizes_of("a grid", width, height, rows, columns), *zip(_WORDS, more)]
     given = [as_int(it, f"the {word}", 1) for word, it in sizes]
     as_int(math.prod(given), "the number of squares", 1, MAX_LARGE_VERTICES - 1)
@@ -163,11 +199,45 @@ def _moved(extents: Sequence[int], joined: Sequence[bool], way: Sequence[int]) -
 
 
 def grid_for(chips: int) -> Graph:
-    """A square grid that `chips` chips on its middle do not leave; the middle is vertex `graph.sink // 2`.
+    """Returns a square grid that this many chips on its middle do not leave.
 
-    By Levine and Peres (2009, theorem 4.1), pi r^2 chips stay in a circle of radius (1 / sqrt(2) + e) r + c, for each e
-    above 0 and some c. Here e is 0 and c is 2, tried for all piles of up to 9,000 chips and some greater ones, and not
-    proved: a report whose sink has no chip says that it was enough. A million chips get 801 by 801, and need 729.
+    Parameters
+    ----------
+    chips : int
+        The number of chips.
+
+    Returns
+    -------
+    Graph
+        The grid. Its middle is vertex ``graph.sink // 2``.
+
+    Raises
+    ------
+    ValueError
+        The number is below 0, or the grid would be too large.
+
+    See Also
+    --------
+    grid
+
+    Notes
+    -----
+    By Levine and Peres [1]_ chips stay in a circle of radius ``(1 / sqrt(2) + e) * r + c`` if there are ``pi * r **
+    2`` of them, for each e above 0 and some c. Here e is 0 and c is 2. This was tried for all piles of up to 9,000
+    chips and some greater ones. A million chips get 801 by 801 squares, and need 729.
+
+    Nothing of this is proved. A report whose sink has no chip says that the grid was large enough.
+
+    References
+    ----------
+    .. [1] L. Levine and Y. Peres, "Strong spherical asymptotics for rotor-router aggregation and the divisible sandpile",
+       Potential Analysis 30 (2009), theorem 4.1.
+
+    Examples
+    --------
+    >>> grid = chipfire.grid_for(2000)
+    >>> chipfire.plain(grid, {grid.sink // 2: 2000}).chips[grid.sink]
+    0
     """
     half = math.isqrt(int(as_int(chips, "the number of chips") / (2 * math.pi))) + 2
     if (2 * half + 1) ** 2 >= MAX_LARGE_VERTICES:
@@ -205,11 +275,41 @@ def _plain_grid(width: int, height: int) -> Graph:
 
 
 def region(mask: Iterable[Iterable[Any]], lattice: str = "square") -> Graph:
-    """The squares of a mask (rows of true and false, or an array of NumPy), numbered by rows, and the sink after them.
+    """Returns the graph of the squares of a mask.
 
-    A vertex loses a chip to the sink for each neighbour that it lacks. The lattice is "square"; "triangular", with 6
-    neighbours: also those above to the right and below to the left; or "hexagonal", with 3: left, right, and below if
-    row and column together are even, else above."""
+    Parameters
+    ----------
+    mask : array or iterable of rows of bool
+        Which squares are vertices. They are numbered by rows.
+    lattice : {"square", "triangular", "hexagonal"}, optional
+        The neighbours of a vertex: 4; 6, also those above to the right and below to the left; or 3, left, right, and
+        below if row and column together are even, else above.
+
+    Returns
+    -------
+    Graph
+        The graph, with the sink as its last vertex. A vertex loses a chip to the sink for each neighbour that it
+        lacks.
+
+    Raises
+    ------
+    ValueError
+        No square is a vertex, rows have different lengths, or the region is too large.
+
+    See Also
+    --------
+    grid, aztec
+
+    Notes
+    -----
+    Nothing of this is proved: Python makes the graph, and each play checks that it is one.
+
+    Examples
+    --------
+    >>> ring = chipfire.region([[1, 1, 1], [1, 0, 1], [1, 1, 1]])
+    >>> ring.vertices, ring.degrees()[0]
+    (9, 4)
+    """
     wanted = "a mask has rows of true and false"
     found: Any = in_order(mask, wanted)
     rows = [_mask_row(row) for row in (found if isinstance(found, Iterable) else [found])]
@@ -243,7 +343,37 @@ def _mask_row(row: Any) -> list[Any]:
 
 
 def aztec(size: int) -> Graph:
-    """The Aztec diamond: the squares whose corners all lie in |x| + |y| <= size + 1, at most 2 * size in a row."""
+    """Returns the Aztec diamond: the squares whose corners all lie in ``|x| + |y| <= size + 1``.
+
+    Parameters
+    ----------
+    size : int
+        The size, 1 or more. The longest rows have ``2 * size`` squares.
+
+    Returns
+    -------
+    Graph
+        The graph, with the sink as its last vertex. A square loses a chip to the sink on each side without a
+        neighbour.
+
+    Raises
+    ------
+    ValueError
+        The size is below 1, or the graph is too large.
+
+    See Also
+    --------
+    grid, region
+
+    Notes
+    -----
+    Nothing of this is proved: Python makes the graph, and each play checks that it is one.
+
+    Examples
+    --------
+    >>> chipfire.aztec(2).vertices
+    13
+    """
     size = as_int(size, "the size of a diamond", 1)
     off = [abs(2 * place + 1 - 2 * size) for place in range(2 * size)]
     return region([[row + column <= 2 * size for column in off] for row in off])

@@ -27,11 +27,16 @@ _REFUSED, _PASSIVE = 46, 32
 Log = Union[FileName, "list[Row]"]
 
 
+def _as_edge(edge: Any) -> int:
+    """The number of an edge. (ctypes would take the remainder of a greater one.)"""
+    return as_int(edge, "an edge", 0, _NEUTRAL - 1)
+
+
 class _Side:
     """The tallies of the edges into a process, or out of it: three words each, by ascending edges."""
 
     def __init__(self, edges: Iterable[int]) -> None:
-        self.edges = sorted(as_int(edge, "an edge", 0, _NEUTRAL - 1) for edge in edges)
+        self.edges = sorted(map(_as_edge, edges))
         if len(set(self.edges)) < len(self.edges):
             raise ValueError("an edge is named twice")
         self.words = array("Q", [word for edge in self.edges for word in (edge, 0, 0)])
@@ -59,21 +64,56 @@ _NOTHING = array("Q", [0])
 
 
 class Books:
-    """The books of one process, with the numbers of the edges into it and out of it.
+    """The counters of one process for the detector of Dijkstra and Scholten, over calls of the library.
 
-    The duties are calls, and nobody else can see to their moment:
+    Use it in a program that sends by its own means; `Detector` sends for you. The process calls `sent` before a
+    message can be got, `got` with the message before it is worked on, and `acknowledge` and `settled` at any time.
+    The root calls `is_over`. One thread at a time may call.
 
-        sent(edge)          before the message can be got
-        got(edge)           with the message, before it is worked on
-        acknowledge(passive)  at any time; `passive` is true if the process sends nothing until it gets a message
-        settled(edge, count)  at any time, with what `acknowledge` of the edge's head returned
-        is_over()           of the root alone, once it sends no more
+    Parameters
+    ----------
+    ins, outs : iterable of int, optional
+        The numbers of the edges into the process and out of it.
+    root : bool, optional
+        Whether the process is the root: it begins at work, and no edge leads to it.
+    process : int, optional
+        The number of the process in the log.
+    log : file or list, optional
+        What gets a row (process, kind, channel) for `judge_log` at each call. Rows in files have no header.
 
-    One thread at a time may call. The `root` alone begins at work, and no edge leads to it. What is refused is raised as
-    a `Fault`, and changes nothing: 46 for an edge or a count, 32 if the process sends while it is passive.
+    Raises
+    ------
+    Fault
+        A call is refused, and changes nothing: with 46 for an edge or a count, with 32 if the process sends while it
+        is passive.
+    ProgramNotFound
+        There is no library.
 
-    `log` is a file or a list that gets a row (process, kind, channel) for `judge` at each duty, by the number `process`;
-    rows in files have no header. Books pickle, with a list as its copy.
+    See Also
+    --------
+    Detector, judge_log
+
+    Notes
+    -----
+    Books can be pickled; a log that is a list is copied.
+
+    Proved: each call notes exactly its step on sound counters. If the calls of all processes make a legal log,
+    `is_over` returns true only when all is over. Not proved: that your program calls in the right moments, and what
+    Python adds.
+
+    Examples
+    --------
+    The root sends a message, which is acknowledged:
+
+    >>> root, other = chipfire.Books(outs=[0], root=True), chipfire.Books(ins=[0])
+    >>> root.sent(0)
+    >>> other.got(0)
+    >>> root.is_over()
+    False
+    >>> for edge, count in other.acknowledge(passive=True):
+    ...     _ = root.settled(edge, count)
+    >>> root.is_over()
+    True
     """
 
     def __init__(
@@ -131,12 +171,12 @@ class Books:
         """Adds an edge into the process, as if it had been there with counts 0 from the start."""
         if self.is_root:
             raise ValueError("no edge leads to the root")
-        self._ins.add(as_int(edge, "an edge", 0, _NEUTRAL - 1))
+        self._ins.add(_as_edge(edge))
         self._point()
 
     def add_out(self, edge: int) -> None:
         """Adds an edge out of the process, as if it had been there with counts 0 from the start."""
-        self._outs.add(as_int(edge, "an edge", 0, _NEUTRAL - 1))
+        self._outs.add(_as_edge(edge))
         self._point()
 
     def has_in(self, edge: int) -> bool:
@@ -145,6 +185,7 @@ class Books:
 
     def sent(self, edge: int) -> None:
         """Notes a message out of the process, before anybody can get it."""
+        edge = _as_edge(edge)
         if not self.is_active:
             raise _fault(_PASSIVE, self.process, f"it sends on edge {edge} while it is passive")
         self._call("sent", f"no message can be sent on edge {edge}", edge)
@@ -152,6 +193,7 @@ class Books:
 
     def got(self, edge: int) -> None:
         """Notes a message into the process, with it and before it is worked on."""
+        edge = _as_edge(edge)
         self._call("got", f"no message can be got on edge {edge}", edge)
         self._owed.add(edge)
         self.is_active = True
@@ -170,6 +212,7 @@ class Books:
     def settled(self, edge: int, count: int) -> int:
         """Notes how many messages of an edge are acknowledged so far, as its head says or said before. Returns how many
         of these are new."""
+        edge, count = _as_edge(edge), as_int(count, "a count", 0, _NEUTRAL)
         more = ctypes.c_uint64()
         why = f"{count} acknowledgements on edge {edge} are more than its messages"
         self._call("settled", why, edge, count, more)

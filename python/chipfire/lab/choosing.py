@@ -27,10 +27,37 @@ def choice_page(
     title: str | None = None,
     positions: Mapping[Any, Point] | None = None,
 ) -> None:
-    """Writes a page on which one picks each event among those that may happen, from the start of a game on.
+    """Writes a page on which a reader picks each event of a game among those that are possible.
 
-    detector  a name of `chipfire.detectors.DETECTORS` or a class; the events of others than the machine's have no words
-    setting   the game, if not the one that stands there; it has at most 2,000 states, if a send is one event
+    Parameters
+    ----------
+    detector : str or type
+        A name of `chipfire.detectors.DETECTORS`, or a class. Events of a detector's own have no words on the page.
+    file : path
+        The page to write, one HTML file that loads nothing.
+    setting : Setting, optional
+        The game, of at most 2,000 states. By default the one that `DETECTORS` has for the detector.
+    title : str, optional
+        The title of the page.
+    positions : mapping of names to (right, down), optional
+        Where the vertices are drawn.
+
+    Raises
+    ------
+    ValueError
+        The game has more than 2,000 states, or the detector is none.
+
+    See Also
+    --------
+    page, wrong_page, explore
+
+    Notes
+    -----
+    A send is one event on this page. Nothing of this is proved: all replies are those of the model in Python.
+
+    Examples
+    --------
+    >>> chipfire.choice_page("right", "choose.html", chipfire.Setting(chipfire.path(1), (2, 0)))
     """
     write_text(file, choice_page_text(detector, setting, title=title, positions=positions))
 

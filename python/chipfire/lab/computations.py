@@ -18,13 +18,42 @@ Sends = Iterable[tuple[int, Any]]
 
 
 class Computation:
-    """What the vertices of a graph do: make a class of your own of this one.
+    """What the vertices of a graph compute: a base class for computations of your own.
 
-    A vertex is passive until a message comes. It answers with messages on its own edges, and may then be at work: as
-    long as it is, it goes on of itself, once all is sent, each time in one of some ways.
+    A vertex is passive until a message comes. It returns messages for its own edges, and may then be at work: it then
+    goes on of itself once all is sent, each time in one of some ways. A state is a vertex of the model. What the
+    computation knows stands in the state's attributes alone, as plain values, and so do loads. A state has the
+    vertex's `number`, and in `outs` its edges; `chips`, `fired`, `halt` and `parent` are the model's.
 
-    A state is a vertex of the model: what the computation knows stands in its attributes alone, as plain values. It has
-    the vertex's `number`, and in `outs` its edges; `chips`, `fired`, `halt`, `parent` are the model's. Loads are plain.
+    Parameters
+    ----------
+    graph : Graph
+        The graph. A message of the root can go to each vertex.
+
+    Attributes
+    ----------
+    begins : dict of str to Any
+        The attributes that each state has at the start.
+
+    See Also
+    --------
+    explore, random_schedule, play
+
+    Notes
+    -----
+    Nothing of this is proved.
+
+    Examples
+    --------
+    >>> class Once(chipfire.Computation):
+    ...     begins = {"got": 0}
+    ...     def on_start(self):
+    ...         return [(0, 1)]
+    ...     def on_message(self, state, edge, load):
+    ...         state.got += load
+    ...         return []
+    >>> chipfire.explore(Once(chipfire.path(1)), "right").status
+    0
     """
 
     #: The attributes that each state has at the start.

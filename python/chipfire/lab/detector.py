@@ -233,16 +233,53 @@ class Process:
 
 
 class Detector:
-    """Knows when processes of one's own are over. `processes` are their names.
+    """Detects that processes of your own are over, and sends their messages.
 
-    backend   "threading"; "asyncio", where all is one loop's; or "multiprocessing", or a context of that module: then
-              each process of the detector goes to one of the system as an argument, before it is used
-    log       a folder, which is made, in which each process writes a file of rows; then `check` judges them
+    A message goes to the one inbox that each process has, which never fills up; edges come as they are needed. Each
+    process loops over its messages, and sends others. `begin` sends the first messages, by a root of the detector's
+    own. `wait`, or ``await`` in asyncio, returns when all is over. What a process is refused is raised there, and by
+    `wait` too, if that has not returned yet. In asyncio the detector is made inside the running loop.
 
-    A message goes to the one inbox that each process has, which has no end of room; edges come as they are needed.
-    `begin` sends the first messages, by a root of the detector's own. `wait`, or `await` in asyncio, returns when all is
-    over. What a process is refused is raised there, and by `wait` too if that has not returned yet. In asyncio the
-    detector is made inside the running loop.
+    Parameters
+    ----------
+    processes : iterable of hashable
+        The names of the processes.
+    backend : {"threading", "asyncio", "multiprocessing"} or context, optional
+        How processes run. With "multiprocessing", or a context of that module, ``detector[name]`` goes to a process
+        of the system as an argument, before it is used.
+    log : path, optional
+        A folder, which is made, in which each process writes a file of rows; then `check` judges them.
+
+    Raises
+    ------
+    Fault
+        A process does what it may not do, such as to send while it is passive.
+    ProgramNotFound
+        There is no library.
+
+    See Also
+    --------
+    Books, judge_log
+
+    Notes
+    -----
+    Proved: the counters of each process, and that the root does not see an end too early if the calls make a legal
+    log. Not proved: that the inboxes and the loops of Python do.
+
+    Examples
+    --------
+    >>> import threading
+    >>> def work(me, got):
+    ...     for number in me:
+    ...         got.append(number)
+    ...         if number:
+    ...             me.send("worker", number - 1)
+    >>> detector, got = chipfire.Detector(["worker"]), []
+    >>> detector.begin("worker", 3)
+    >>> threading.Thread(target=work, args=(detector["worker"], got)).start()
+    >>> detector.wait(timeout=60)
+    >>> got
+    [3, 2, 1, 0]
     """
 
     def __init__(
@@ -325,7 +362,8 @@ class Detector:
         """Adds a process. One that comes when all is over has nothing to do."""
         with self._lock:
             if name in self._processes:
-                raise ValueError(f"there is a process {name!r}")
+                whose = ", the detector's own" if name == ROOT else ""
+                raise ValueError(f"there is a process {name!r}{whose}")
             number = len(self._processes)
             books = Books(root=name == ROOT, process=number, log=self._file(number))
             inbox = self._inboxes[name] = self._backend.inbox()

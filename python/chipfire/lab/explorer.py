@@ -46,27 +46,62 @@ def explore(
     feeds: Iterable[Sequence[int]] = (),
     seals: Iterable[int] = (),
 ) -> Explored:
-    """Goes through all schedules of a game, breadth first, until the root is closed and something is left. The game is
-    a `Setting` of chip-firing or a `Computation`, the detector a name or a class; `chipfire.detectors` has both.
+    """Tries a detector in all schedules of a small game.
 
-    A firing of several at a time is one step. A send is three: clear, claim and put, as on threads. With `whole_sends`
-    it is one, so that there are fewer states, and a detector that is wrong between them is not found.
+    It visits the states breadth first, until the root is closed while something is left.
 
-    most   how many states are looked at, from 1 on; if there are more, the result says what was found among these
-    feeds  what the root feeds, in this order: (root edge, chips), in a setting that is `fed`. It may note the end at
-           any time, and feeds no more after that
-    seals  edges of the graph that may be sealed, each at any time
+    Parameters
+    ----------
+    setting : Setting or Computation
+        The game.
+    detector : str or type, optional
+        A name of `chipfire.detectors.DETECTORS`, or a class.
+    most : int, optional
+        How many states are visited. If there are more, the result says what was found among these.
+    whole_sends : bool, optional
+        Whether a send is one step. By default it is three: clear, claim and put, as on threads. With one step there
+        are fewer states, and a detector that is wrong between two of the three is not found.
+    feeds : iterable of (int, int), optional
+        What the root feeds, in this order: root edges and numbers of chips. The setting has to be `fed`. The root may
+        note the end of feeding at any time, and feeds no more after that.
+    seals : iterable of int, optional
+        The edges of the graph that may be sealed, each at any time.
 
-    Not tried are other chips, feeds, seals, limits and rings, and messages that are lost, come twice, or overtake. A
-    look at others is looked for in the logs of the shortest schedule to each closed root, and of random ones, up to
-    1,000 and as many as there are states. One that never helps to close the root is not found.
+    Returns
+    -------
+    Explored
+        What was found. Its `status` is 0 if the detector is right in this game, 2 if it closes the root too early, 3
+        if it can miss the end, 4 if there were too many states, and 5 if the root knows what no message told it;
+        `schedule` leads there.
 
-    The state is all that stands in attributes of the game, its edges and its vertices, but for those that the class of
-    the detector names in `not_state`. An attribute that cannot be compared is a ValueError. So is a detector that does
-    not do the same again on a game of its own, because its state stands elsewhere or it asks chance or the clock: the
-    schedules found are played so, and 200 random ones. So are an exception in a class, a detector that changes the game
-    or opens a closed root, and an event of its own of which `tells` does not say who tells whom. The error's `schedule`
-    leads there."""
+    Raises
+    ------
+    ValueError
+        The detector cannot be tried: an attribute cannot be compared; it does not repeat its steps on a game of its
+        own; it raises an exception, changes the game, or opens a closed root; or `tells` lacks one of its events. The
+        error's `schedule` leads there.
+
+    See Also
+    --------
+    judge, random_schedule, shrink, wrong_page
+
+    Notes
+    -----
+    Other chips, feeds, seals, limits and rings are not tried, nor messages that are lost, doubled or overtaken. The
+    logs of the shortest schedule to each closed root, and of up to 1,000 random ones, show whether the root knew what
+    no message told it. A look at other parts that never helps to close the root is not found.
+
+    The state is all that stands in attributes of the game, its edges and its vertices, but for those that the class
+    names in `not_state`. The schedules found, and 200 random ones, are played a second time.
+
+    Nothing of this is proved.
+
+    Examples
+    --------
+    >>> game = chipfire.Setting(chipfire.path(1), (2, 0))
+    >>> chipfire.explore(game, "right").status, chipfire.explore(game, "at-once").status
+    (0, 2)
+    """
     return _Search(setting, detector, most, whole_sends, feeds, seals).result()
 
 

@@ -97,18 +97,51 @@ class Judged:
 def judge(
     setting: Setting, log: Iterable[Sequence[Any]] | FileName, *, also: Collection[str] = ()
 ) -> Judged:
-    """Judges the log of somebody's own machine that plays a game: rows of an event, where it was, a count, its reply.
+    """Checks the log of a machine of your own that plays a game against the model.
 
-    It is a list of such rows, or a file whose header is event,at,count,reply. A row `root,0,0,closed` claims that the
-    root is closed, and one with `open` that it is not. A claim is judged where it stands and by the game alone: what
-    was taken, fired and sent. So a detector that acknowledges otherwise than the right one has a row that differs, and
-    may be right. A log that ends with an open root missed the end if nothing is left: log until your machine rests.
+    Parameters
+    ----------
+    setting : Setting
+        The game.
+    log : iterable of rows, or path
+        Rows of an event, where it was, a count and its reply; or a file of them with the header
+        ``event,at,count,reply``. A row ``root,0,0,closed`` claims that the root is closed, and one with ``open`` that
+        it is not.
+    also : collection of str, optional
+        Events of the machine's own detector, such as those of a token. They are passed over.
 
-    also  the events of the machine's own detector, such as those of a token, which are passed over
+    Returns
+    -------
+    Judged
+        The first reply that differs from the right detector's, the verdict on each claim, and what is left at the
+        end.
 
-    Messages may be acknowledged and settled one by one. An edge holds as many messages as the log puts there, and may
-    be said to be full when it holds one. A row that is none, an event that is neither known nor listed, and a log of
-    another computation are a ValueError.
+    Raises
+    ------
+    ValueError
+        A row is none, an event is neither known nor listed, or the log is that of another computation.
+
+    See Also
+    --------
+    judge_log, explore
+
+    Notes
+    -----
+    A claim is judged where it stands and by the game alone: by what was taken, fired and sent. So a detector that
+    acknowledges otherwise than the right one has a row that differs, and may be right. A log that ends with an open
+    root missed the end if nothing is left, so log until your machine rests. Messages may be acknowledged and settled
+    one by one. An edge holds as many messages as the log puts there, and may be said to be full when it holds one.
+
+    Nothing of this is proved, and the program is not asked.
+
+    Examples
+    --------
+    The root closes while vertex 0 can fire:
+
+    >>> from chipfire import detectors
+    >>> log = [("take", 4, 0, "got 0 4"), ("ack", 4, 0, "done 1"), ("settle", 4, 0, "done 1"), ("root", 0, 0, "closed")]
+    >>> chipfire.judge(detectors.DETECTORS["right"].game, log).is_true
+    False
     """
     core = opened(setting)
     core.ring = MAX_CHIPS

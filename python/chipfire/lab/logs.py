@@ -83,23 +83,60 @@ def judge_log(
     progress: bool = False,
     program: FileName | None = None,
 ) -> JudgedLog:
-    """Judges the claims in a log of any distributed program that its computation is over, by the program's verdicts.
+    """Checks the claims in a log of any distributed program that its computation is over.
 
-    The log is rows (process, kind, channel) with any hashable names, or a file of such rows with numbers. The place of
-    a `Fault` is a row, or a process and its row, as they were given. If rows fit together in no order, its words follow
-    the waits from there to the process that nobody can serve, which is tested and not proved.
+    Parameters
+    ----------
+    log : iterable of rows, or path
+        Rows (process, kind, channel) with any hashable names; or a file of such rows with numbers and a header.
+    past : bool, optional
+        Whether to report the causal past of each early claim: how many rows of each process come before it in every
+        order.
+    first : bool, optional
+        Whether to stop at the first early claim, by process and row, and to report that one alone, if there is one.
+    processes : int or iterable of hashable, optional
+        The processes that need to have a row, or how many, from 0 on. Without a process that began active and whose
+        rows are all lost, an early claim might be called right.
+    reactive : bool, optional
+        For processes that do not log when they become passive. A process that gets a message is then active until its
+        last ``send`` before it gets the next one, and one that sends before it gets any begins active. If it is
+        active for longer, an early claim may be called right; in a trial this happened to 2 of 90.
+    cut : bool, optional
+        For logs that are cut off. If the rows fit together in no order, those that wait after maximal progress are
+        left out, with all after them.
+    progress : bool, optional
+        Whether `sys.stderr` gets a line about once a second that says which claim is checked.
+    program : path, optional
+        The program to ask. By default the one that is found.
 
-    past      tells how many rows of each process are before an early claim, in the order with the fewest
-    first     judges up to the first early claim, by process and row, and tells that one alone, if there is one
-    processes the names of processes that have to have a row, or how many, from 0 on. If a process began active and all
-              of its rows are lost, an early claim might else be called right
-    reactive  for processes that do not log when they are passive: one that gets a message is active until its last
-              `send` before it gets the next, and one that sends before it gets any begins active. If it is active for
-              longer, this can acquit: in a trial 2 of 90 early claims were called right
-    cut       for logs that are cut off: if rows fit together in no order, those that wait at greatest progress are left
-              out with all behind them. The verdicts on the claims before them do not change, as tests on random logs
-              have it; that is not proved
-    progress  gives `sys.stderr` a line about once a second that says which claim is judged
+    Returns
+    -------
+    JudgedLog
+        The verdict on each claim, and how the log ends.
+
+    Raises
+    ------
+    Fault
+        A row is refused, or the rows fit together in no order. The fault's place is a row, or a process and its row,
+        by the names given. Its words follow the waits from there.
+
+    See Also
+    --------
+    read_json_lines, read_shiviz, model_log, judge
+
+    Notes
+    -----
+    Proved: the verdicts on the rows as they are numbered for the program, and that leaving rows out by `cut` keeps
+    the verdicts on the claims before them, if each process that begins active has its first row. Not proved: that
+    Python numbers the names and passes the verdicts on, `reactive`, and where the waits lead.
+
+    Examples
+    --------
+    >>> rows = [("a", "active", 0), ("a", "send", "work"), ("a", "passive", 0), ("a", "hear", "done"), ("a", "over", 0)]
+    >>> rows += [("b", "receive", "work"), ("b", "tell", "done"), ("b", "passive", 0)]
+    >>> print(chipfire.judge_log(rows))
+    over a 4 early: process b is active
+    end missed
     """
     options: dict[str, Any] = {
         "past": bool(past),
@@ -332,11 +369,45 @@ def read_json_lines(
     kind: Key = "kind",
     channel: Key = "channel",
 ) -> list[Row]:
-    """The rows of logs of JSON lines, of one file or several, for `judge_log`.
+    r"""Reads logs of JSON lines as rows for `judge_log`.
 
-    Each argument is a key of the object in a line, or a function that finds its value there; lists become tuples. If
-    `process` is None, each file is a process of its name. A line whose kind is None is passed over. What is wrong is a
-    ValueError that names file and line.
+    Parameters
+    ----------
+    files : path or iterable of path
+        The files, with an object in each line.
+    process : str, callable or None, optional
+        The key of the process, or a function that finds it in an object. With None each file is a process of its
+        name.
+    kind : str or callable, optional
+        The key of the kind, or a function that finds it. A line whose kind is None is passed over.
+    channel : str or callable, optional
+        The key of the channel, or a function that finds it. Lists become tuples.
+
+    Returns
+    -------
+    list of (process, kind, channel)
+        The rows.
+
+    Raises
+    ------
+    ValueError
+        A line is wrong. The error names the file and the line.
+
+    See Also
+    --------
+    judge_log, read_shiviz
+
+    Notes
+    -----
+    Nothing of this is proved.
+
+    Examples
+    --------
+    >>> import pathlib
+    >>> text = '{"process": "a", "kind": "passive", "channel": 0}\n{"process": "a", "kind": "over", "channel": 0}\n'
+    >>> _ = pathlib.Path("log.json").write_text(text)
+    >>> chipfire.read_json_lines("log.json")
+    [('a', 'passive', 0), ('a', 'over', 0)]
     """
     rows: list[Row] = []
     for file in [files] if isinstance(files, FILE) else files:
@@ -389,18 +460,48 @@ def read_shiviz(
     expression: str = r"(?<host>\S*) (?<clock>{.*})\n(?<event>.*)",
     gaps: bool = False,
 ) -> list[Row]:
-    r"""The rows of a log of GoVector or ShiViz, for `judge_log`: of its text, or of the file of that name.
+    r"""Reads a log of GoVector or ShiViz as rows for `judge_log`.
 
-    kind_of     the kind of an event by its text, or None if it is passed over
-    message_of  the message that an event sends or gets, by its text, or None if the clocks tell. They cannot name the
-                sender of a message that brings nothing new
-    expression  as ShiViz takes it; if not said, that for GoVector. Where the event stands above its clock it is
-                `(?<event>.*)\n(?<host>\S*) (?<clock>{.*})`
-    gaps        takes a log without some of the events that its clocks count, as a logger with levels writes it. If a
-                `send`, an `active`, or a `tell` that was heard is not there, an early claim may be called right
+    Parameters
+    ----------
+    log : str or path
+        The text of the log, or the name of its file.
+    kind_of : callable
+        Returns the kind of an event by its text, or None if the event is passed over.
+    message_of : callable, optional
+        Returns the message that an event sends or gets by its text, or None if the clocks say it. They cannot name
+        the sender of a message that brings nothing new.
+    expression : str, optional
+        The expression of ShiViz, by default that for GoVector. Where the event stands above its clock it is
+        ``(?<event>.*)\n(?<host>\S*) (?<clock>{.*})``.
+    gaps : bool, optional
+        Whether to take a log without some of the events that its clocks count, as a logger with levels writes it. If
+        a ``send``, an ``active``, or a ``tell`` that was heard is missing, an early claim may be called right.
 
-    A message has a channel for each process that gets it; no others are seen. A ValueError names a wrong line, and one
-    whose clock counts an event that is not there.
+    Returns
+    -------
+    list of (process, kind, channel)
+        The rows. A message has a channel for each process that gets it; no others are seen.
+
+    Raises
+    ------
+    ValueError
+        A line is wrong, or its clock counts an event that is missing. The error names the line.
+
+    See Also
+    --------
+    judge_log, read_json_lines, shiviz
+
+    Notes
+    -----
+    Nothing of this is proved.
+
+    Examples
+    --------
+    >>> log = 'a {"a":1}\nrests\na {"a":2}\nclaims\n'
+    >>> rows = chipfire.read_shiviz(log, lambda text: {"rests": "passive", "claims": "over"}[text])
+    >>> [row[:2] for row in rows]
+    [('a', 'passive'), ('a', 'over')]
     """
     events = list(_events(log, kind_of, message_of, expression))
     # (the clock of an event counts more than that of one that it depends on)

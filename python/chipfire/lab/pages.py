@@ -69,11 +69,40 @@ def page(
 ) -> None:
     """Writes a page on which a run can be watched, event by event.
 
-    simulation  what `simulate` or `recorded` answered, of at most 10,000 rows; the program is asked once more, with
-                books, and the events of rounds are spelled out; or what `play` answered, for which nothing is asked
-    positions   where the vertices stand, by names: (to the right, down); else a grid is drawn as one, and other graphs
-                by the distances of their vertices, the same graph always alike
-    program     the program to ask, if not the one that is found"""
+    Parameters
+    ----------
+    simulation : Simulation or Play
+        What `simulate`, `recorded` or `play` returned, of at most 10,000 rows. The program simulates once more, with
+        books and with the events of rounds; of a `Play` nothing is asked.
+    file : path
+        The page to write, one HTML file that loads nothing.
+    title : str, optional
+        The title of the page.
+    positions : mapping of names to (right, down), optional
+        Where the vertices are drawn. By default a grid is drawn as one, and other graphs by the distances of their
+        vertices.
+    program : path, optional
+        The program to ask. By default the one that is found.
+
+    Raises
+    ------
+    ValueError
+        There are too many rows, or the model disagrees with the program.
+
+    See Also
+    --------
+    simulate, recorded, play, wrong_page
+
+    Notes
+    -----
+    Proved: the replies and the books of a simulation. Not proved: chips and messages, which are those of the model in
+    Python, and the page.
+
+    Examples
+    --------
+    >>> triangle = chipfire.Graph(3, 2, [(0, 1), (0, 2), (1, 0), (1, 2)])
+    >>> chipfire.page(chipfire.simulate(triangle, [4, 0, 0], [("take", 4, 0), ("fire", 0, 2)]), "run.html")
+    """
     write_text(file, page_text(simulation, title=title, positions=positions, program=program))
 
 
@@ -232,11 +261,51 @@ def recorded(
     ring: int | None = None,
     program: AnyProgram = None,
 ) -> Simulation:
-    """A recorded run (`run` with `trace`) as a simulation with books: each vertex takes and fires what it wrote down.
+    """Returns a run on threads, by its trace, as a simulation with books.
 
-    No trace tells when a vertex sent and acknowledged, nor how the rows of different vertices lie beside each other:
-    such events are made up, as early as they can be. Rows that do not fit together are fault 70. The ring is that of
-    the run; if it is not given, the least of 1, 2, 4 and so on that plays all rows."""
+    Parameters
+    ----------
+    graph : Graph or path
+        The graph, or the name of its file.
+    chips : Chips
+        The chips at the start, in any form that `Graph.chips` takes, or the name of a chips file.
+    trace : iterable of rows, or path
+        The rows (vertex, kind, edge, count) that `run` recorded, or the name of their file.
+    limit : int, optional
+        How often each vertex may fire, from 0 to 2^40, which is the default.
+    ring : int, optional
+        The length of the rings of the run. By default the least of 1, 2, 4 and so on that plays all rows.
+    program : path, optional
+        The program to ask. By default the one that is found.
+
+    Returns
+    -------
+    Simulation
+        The simulation, for `page`.
+
+    Raises
+    ------
+    Fault
+        The rows fit together in no order (fault 70), or are refused.
+
+    See Also
+    --------
+    run, replay, page
+
+    Notes
+    -----
+    No trace says when a vertex sent and acknowledged, nor how the rows of different vertices lie beside each other.
+    Such events are added as early as possible.
+
+    Proved: the replies and the books. Not proved: which events are added.
+
+    Examples
+    --------
+    >>> triangle = chipfire.Graph(3, 2, [(0, 1), (0, 2), (1, 0), (1, 2)])
+    >>> report = chipfire.run(triangle, [4, 0, 0], trace="trace.csv")
+    >>> chipfire.recorded(triangle, [4, 0, 0], "trace.csv").report.fired
+    (2, 1, 0)
+    """
     if isinstance(trace, FILE):
         refuse_more(trace)
     rows = read_trace(trace) if isinstance(trace, FILE) else [TraceRow(*row) for row in trace]

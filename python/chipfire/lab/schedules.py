@@ -106,10 +106,45 @@ def is_early(core: Core) -> bool:
 def random_schedule(
     setting: Game, seed: Any, detector: Detector = "right", *, most: int = 100_000
 ) -> Schedule:
-    """A schedule in which each event does something, drawn until the root is closed, by a seed as in `random_drops`.
+    """Draws a schedule in which each event does something, until the root is closed.
 
-    The right detector closes the root in each. With another it may end because nothing can happen any more. After
-    `most` events it is cut, and its `ended` is False: the events of a detector may go round for ever.
+    Parameters
+    ----------
+    setting : Setting or Computation
+        The game.
+    seed : int, float, str, bytes, None, numpy.random.Generator or numpy.random.SeedSequence
+        The seed, as in `random_drops`.
+    detector : str or type, optional
+        A name of `chipfire.detectors.DETECTORS`, or a class.
+    most : int, optional
+        After how many events the schedule is cut.
+
+    Returns
+    -------
+    Schedule
+        The schedule. Its `ended` is False if it was cut, as when the events of a detector go round for ever. With a
+        wrong detector it may also end because nothing can happen any more.
+
+    Raises
+    ------
+    ValueError
+        The detector cannot be played.
+
+    See Also
+    --------
+    play, shrink, explore
+
+    Notes
+    -----
+    The right detector closes the root in each such schedule.
+
+    Nothing of this is proved, and the program is not asked.
+
+    Examples
+    --------
+    >>> from chipfire import detectors
+    >>> chipfire.random_schedule(detectors.DETECTORS["right"].game, seed=1).ended
+    True
     """
     core = opened(setting, detector)
     draw = random_generator(seed)
@@ -142,7 +177,41 @@ class Play:
 
 
 def play(setting: Game, events: Iterable[Sequence[Any]], detector: Detector = "right") -> Play:
-    """Plays a schedule on the model. `page` makes a page of it."""
+    """Plays a schedule on the model, with any detector.
+
+    Parameters
+    ----------
+    setting : Setting or Computation
+        The game.
+    events : iterable of (kind, at, count)
+        The schedule.
+    detector : str or type, optional
+        A name of `chipfire.detectors.DETECTORS`, or a class.
+
+    Returns
+    -------
+    Play
+        The replies and the states, for `page`.
+
+    Raises
+    ------
+    ValueError
+        An event is none, or the detector cannot be played.
+
+    See Also
+    --------
+    page, simulate, random_schedule
+
+    Notes
+    -----
+    Nothing of this is proved, and the program is not asked.
+
+    Examples
+    --------
+    >>> from chipfire import detectors
+    >>> game = detectors.DETECTORS["right"].game
+    >>> chipfire.page(chipfire.play(game, [("take", 4, 0), ("fire", 0, 2)]), "play.html")
+    """
     core = opened(setting, detector)
     schedule = Schedule(events)
     replies = []
@@ -166,9 +235,44 @@ def shrink(
     events: Iterable[Sequence[Any]],
     is_bad: Callable[[Core], bool] = is_early,
 ) -> Schedule:
-    """A schedule after which the game is still bad, and no longer so if any one of its events is left out.
+    """Leaves out events of a schedule as long as the game stays bad after it.
 
-    Bad is, if nothing else is said, that the root is closed and something is left."""
+    Parameters
+    ----------
+    setting : Setting or Computation
+        The game.
+    detector : str or type
+        A name of `chipfire.detectors.DETECTORS`, or a class.
+    events : iterable of (kind, at, count)
+        The schedule.
+    is_bad : callable, optional
+        Returns whether a game is bad. By default it is bad if the root is closed and something is left.
+
+    Returns
+    -------
+    Schedule
+        A schedule after which the game is bad, and no longer so if any one of its events is left out.
+
+    Raises
+    ------
+    ValueError
+        The game is not bad after the schedule.
+
+    See Also
+    --------
+    random_schedule, explore
+
+    Notes
+    -----
+    Nothing of this is proved.
+
+    Examples
+    --------
+    >>> from chipfire import detectors
+    >>> game = detectors.DETECTORS["right"].game
+    >>> [kind for kind, at, count in chipfire.shrink(game, "at-once", chipfire.explore(game, "at-once").schedule)]
+    ['take', 'ack', 'settle']
+    """
     kept = [Event(*event) for event in events]
     if not is_bad(played(setting, detector, kept)):
         raise ValueError("nothing is wrong after this schedule, so there is nothing to shrink")
@@ -185,10 +289,42 @@ def shrink(
 
 
 def shiviz(setting: Game, events: Iterable[Sequence[Any]], detector: Detector = "right") -> str:
-    """A log that ShiViz draws: of each event two lines, the part with its vector clock, and what happened.
+    r"""Returns a schedule as a log that ShiViz draws.
 
-    Events of a detector's own, such as those of a token, are a ValueError: their clocks are not known. ShiViz reads the
-    log with the expression `(?<host>\\S*) (?<clock>{.*})\\n(?<event>.*)`."""
+    Parameters
+    ----------
+    setting : Setting or Computation
+        The game.
+    events : iterable of (kind, at, count)
+        The schedule.
+    detector : str or type, optional
+        A name of `chipfire.detectors.DETECTORS`, or a class.
+
+    Returns
+    -------
+    str
+        Two lines for each event: its part with the vector clock, and what happened. ShiViz reads them with the
+        expression ``(?<host>\S*) (?<clock>{.*})\n(?<event>.*)``.
+
+    Raises
+    ------
+    ValueError
+        The detector has events of its own, whose clocks are not known.
+
+    See Also
+    --------
+    read_shiviz, play
+
+    Notes
+    -----
+    Nothing of this is proved.
+
+    Examples
+    --------
+    >>> from chipfire import detectors
+    >>> print(chipfire.shiviz(detectors.DETECTORS["right"].game, [("take", 4, 0)]).count("\n"))
+    2
+    """
     core = opened(setting, detector)
     lines = []
     clocks: dict[str, Counter[str]] = defaultdict(Counter)
@@ -229,11 +365,47 @@ def shiviz(setting: Game, events: Iterable[Sequence[Any]], detector: Detector = 
 def model_log(
     setting: Game, detector: Detector, events: Iterable[Sequence[Any]]
 ) -> list[tuple[int, str, int]]:
-    """A schedule as a log for `chipfire.judge_log`: vertices are processes, and the root is the one behind them.
+    """Returns a schedule of the model as a log for `judge_log`.
 
-    Messages of edge e are on channel e, and its acknowledgements go back there. With m edges, those of the root with
-    them, what a tail sees of the cells of e is told on m + e, and of a seal on 2m + e. A detector with events of its
-    own says in `tells` who tells whom. The root claims that all is over when it closes first.
+    Parameters
+    ----------
+    setting : Setting or Computation
+        The game.
+    detector : str or type
+        A name of `chipfire.detectors.DETECTORS`, or a class. With events of its own it says in `tells` who tells
+        whom.
+    events : iterable of (kind, at, count)
+        The schedule.
+
+    Returns
+    -------
+    list of (int, str, int)
+        Rows (process, kind, channel). Vertices are processes, and the root is the one after them. It claims that all
+        is over when it first closes.
+
+    Raises
+    ------
+    ValueError
+        An event is none, or `tells` lacks one.
+
+    See Also
+    --------
+    judge_log, random_schedule
+
+    Notes
+    -----
+    Messages of edge e are on channel e, and its acknowledgements go back there. With m edges, those of the root among
+    them, what a tail reads of the cells of e is on channel m + e, and of a seal on 2m + e.
+
+    Nothing of this is proved.
+
+    Examples
+    --------
+    >>> from chipfire import detectors
+    >>> game = detectors.DETECTORS["right"].game
+    >>> found = chipfire.explore(game, "at-once")
+    >>> chipfire.judge_log(chipfire.model_log(game, "at-once", found.schedule)).is_right
+    False
     """
     core = opened(setting, detector)
     root = len(core.vertices)

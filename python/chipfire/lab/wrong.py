@@ -27,8 +27,37 @@ def wrong_page(
 ) -> None:
     """Writes a page of the shortest schedule after which a wrong detector says too early that all is over.
 
-    detector  one of `chipfire.detectors.DETECTORS`, or a class
-    setting   the game to search, if not the one that stands there: a `Setting` or a `Computation`
+    Parameters
+    ----------
+    detector : str or type
+        A name of `chipfire.detectors.DETECTORS`, or a class.
+    file : path
+        The page to write, one HTML file that loads nothing. It shows the right detector too.
+    setting : Setting or Computation, optional
+        The game to search. By default the one that `DETECTORS` has for the detector.
+    title : str, optional
+        The title of the page.
+    positions : mapping of names to (right, down), optional
+        Where the vertices are drawn.
+    program : path, optional
+        The program to ask. By default the one that is found.
+
+    Raises
+    ------
+    ValueError
+        The detector is never too early in this game, or cannot be tried.
+
+    See Also
+    --------
+    explore, page, choice_page
+
+    Notes
+    -----
+    Nothing of this is proved but the replies of the right detector in a game of chips.
+
+    Examples
+    --------
+    >>> chipfire.wrong_page("at-once", "wrong.html")
     """
     write_text(
         file, wrong_page_text(detector, setting, title=title, positions=positions, program=program)

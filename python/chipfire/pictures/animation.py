@@ -23,12 +23,30 @@ COUNT = 24
 
 @dataclass(frozen=True)
 class Frames:
-    """A play as it stands at growing limits.
+    """Pictures of a play at growing limits, or of growing numbers of chips.
 
-    limits    how often each vertex may fire, or how many chips were dropped, for each picture
-    reports   what the program answers at each of them
-    pictures  the pictures of these answers
-    unit      what the limits are called under a picture
+    Attributes
+    ----------
+    limits : tuple of int
+        For each picture how often each vertex may fire, or how many chips were dropped.
+    reports : tuple of Report
+        The result at each of them.
+    pictures : tuple of Picture
+        The pictures of these results.
+    unit : str
+        What the limits are called below a picture.
+
+    See Also
+    --------
+    frames, frames_by_chips
+
+    Notes
+    -----
+    Proved: the position in each picture. Not proved: that the pictures show it.
+
+    Examples
+    --------
+    >>> chipfire.frames(chipfire.grid(3, 3), {4: 9}, [0, 1]).save("play.html")
     """
 
     limits: tuple[int, ...]
@@ -90,11 +108,50 @@ def frames(
     palette: Palette | None = None,
     program: AnyProgram = None,
 ) -> Frames:
-    """The play of these chips as it stands at growing limits: each vertex may fire that often at most.
+    """Returns pictures of a play at growing limits.
 
-    Without `limits`, up to 24 are spread evenly from 0, the start, to the end of the play. `columns` and `palette` are
-    those of `Report.picture`. Each limit is a play of its own.
+    Parameters
+    ----------
+    graph : Graph or path
+        The graph, or the name of its file.
+    chips : Chips
+        The chips at the start, in any form that `Graph.chips` takes, or the name of a chips file.
+    limits : iterable of int, optional
+        How often each vertex may fire at most, for each picture. By default up to 24 limits are spread evenly from 0
+        to the end of the play.
+    columns : int, optional
+        How many vertices stand in a row of the pictures, for a graph without a shape.
+    palette : str or sequence of str, optional
+        The colours, as in `Report.picture`.
+    program : path, optional
+        The program to ask. By default the one that is found.
+
+    Returns
+    -------
+    Frames
+        The pictures, and the report at each limit.
+
+    Raises
+    ------
+    ValueError
+        The graph or the chips are refused, by the package or by the program (`Fault`).
+    KeyError
+        A name is that of no vertex.
+
+    See Also
+    --------
+    frames_by_chips, Frames
+
+    Notes
+    -----
+    Each limit is a play of its own.
+
     Proved: the position at each limit, which no order of the firings changes. Not proved: that the pictures show it.
+
+    Examples
+    --------
+    >>> chipfire.frames(chipfire.grid(3, 3), {4: 9}, [0, 1, 2]).limits
+    (0, 1, 2)
     """
     graph = known_graph(graph, program)
     known = dict[int, Report]()
@@ -124,8 +181,48 @@ def frames_by_chips(
     palette: Palette | None = None,
     program: AnyProgram = None,
 ) -> Frames:
-    """What becomes of chips that are dropped on a vertex, for each of these growing numbers of chips.
+    """Returns pictures of what becomes of growing numbers of chips on one vertex.
+
+    Parameters
+    ----------
+    graph : Graph or path
+        The graph, or the name of its file.
+    vertex : hashable
+        The name of the vertex that gets the chips.
+    counts : iterable of int
+        The numbers of chips, growing.
+    columns : int, optional
+        How many vertices stand in a row of the pictures, for a graph without a shape.
+    palette : str or sequence of str, optional
+        The colours, as in `Report.picture`.
+    program : path, optional
+        The program to ask. By default the one that is found.
+
+    Returns
+    -------
+    Frames
+        A picture for each number of chips.
+
+    Raises
+    ------
+    ValueError
+        The graph or the chips are refused, by the package or by the program (`Fault`).
+    KeyError
+        A name is that of no vertex.
+
+    See Also
+    --------
+    frames
+
+    Notes
+    -----
     Proved: each position, to which all orders of drops and firings lead. Not proved: that the pictures show it.
+
+    Examples
+    --------
+    >>> found = chipfire.frames_by_chips(chipfire.path(1), 0, [1, 2])
+    >>> [it.configuration for it in found.reports]
+    [{0: 1}, {0: 0}]
     """
     graph = known_graph(graph, program)
     counts = tuple(counts)

@@ -72,10 +72,28 @@ _SIGNS = "0123456789abcdefghijklmnopqrstuvwxyz"
 class Picture:
     """Squares in rows, each with the number of its colour.
 
-    rows     the squares
-    palette  the colours, each `#rrggbb`; the last one is that of the sink
-    title    what the picture shows, in words
-    most     what the last colour but that of the sink stands for, if the colours are spread from 0 to there
+    Parameters
+    ----------
+    rows : sequence of sequence of int
+        The squares.
+    palette : tuple of str
+        The colours, each ``#rrggbb``. The last one is that of the sink.
+    title : str, optional
+        What the picture shows, in words.
+    most : int, optional
+        What the last colour but that of the sink stands for, if the colours are spread from 0 to there.
+
+    See Also
+    --------
+    frames, PALETTES
+
+    Notes
+    -----
+    Nothing of this is proved.
+
+    Examples
+    --------
+    >>> chipfire.plain(chipfire.grid(3, 3), {4: 9}).picture().save("heap.png")
     """
 
     rows: Sequence[Sequence[int]]

@@ -52,8 +52,8 @@ export interface Lattice {
   /** "square", if not said; "triangular", with 6 neighbours: also those above to the right and below to the left; or
    * "hexagonal", with 3: left, right, and below if row and column together are even, else above. */
   lattice?: "square" | "triangular" | "hexagonal";
-  /** Whether the first and the last row are neighbours, and whether the first and the last column are. */
-  periodic?: readonly [boolean, boolean];
+  /** Whether the first and the last row are neighbours, and whether the first and the last column are; or one for both. */
+  periodic?: boolean | readonly [boolean, boolean];
   /** How many chips more each square sends to the sink. If both directions are periodic, some are needed. */
   loss?: number;
 }
@@ -113,6 +113,8 @@ export interface Burning {
 
 /** A game that is kept, and on which chips are dropped. The most chips and the limit are for all drops together. */
 export interface Pile {
+  /** Plays on by about so many visits, of a vertex or an edge, to the end if not said; whether the play has still to end. */
+  play(visits?: Whole): boolean;
   /** Plays what is still to be played, then drops chips on a vertex, 1 if not said, and plays to the end. */
   drop(vertex: Whole, amount?: Whole): Avalanche;
   /** The same for many drops, one after another: `amounts[i]` chips, 1 if not said, on vertex `at[i]`. All are looked at
@@ -130,30 +132,27 @@ export interface Pile {
 }
 
 /** The books of a process, by which it knows when messages may be acknowledged, and a root when all is over (Dijkstra
- * and Scholten). docs/DETECTOR.md says what a process owes. An edge is a number below 2^64 - 1. */
+ * and Scholten). docs/DETECTOR.md says what a process owes. An edge is a number below 2^64 - 1. A call takes no longer for
+ * many edges than for one, but for a search. */
 export interface Books {
-  /** For each edge into the process its number, how many messages came, and how many of them are acknowledged. */
-  ins: BigUint64Array;
-  /** For each edge out of it its number, how many messages were sent, and how many are known to be acknowledged. */
-  outs: BigUint64Array;
   /** The edge whose message engages the process, or null. */
-  parent: bigint | null;
+  readonly parent: bigint | null;
+  /** How many acknowledgements the process waits for. */
+  readonly deficit: bigint;
   /** Notes a message that was sent on the edge. */
   sent(edge: Whole): void;
   /** Notes a message that came on the edge. It engages a neutral process. */
   got(edge: Whole): void;
-  /** How many messages of the edge may be acknowledged now. */
-  mayAck(edge: Whole, passive: boolean): bigint;
-  /** Notes that so many messages of the edge are acknowledged. */
-  acked(edge: Whole, passive: boolean, count: Whole): void;
-  /** Notes how many messages of the edge its head has acknowledged from the beginning on; returns how many are new. */
-  settled(edge: Whole, acknowledged: Whole): bigint;
-  /** How many acknowledgements the process waits for. */
-  deficit(): bigint;
+  /** Acknowledges all that may be: pairs of an edge and how many of its messages are acknowledged so far. Each goes to the
+   * tail of its edge, for `settled`; a later pair of an edge makes an earlier one needless. `passive` says that the
+   * process sends nothing, and that only a message makes it work again. */
+  acknowledge(passive: boolean): [edge: bigint, count: bigint][];
+  /** Notes how many messages of the edge its head has acknowledged so far; returns how many are new. */
+  settled(edge: Whole, count: Whole): bigint;
   /** Asked of the root: whether all is over, once it sends no more. */
   isOver(ended: boolean): boolean;
-  /** Throws a fault if the books are not sound. */
-  check(): void;
+  /** Gives its memory back: there are no books any more. */
+  free(): void;
 }
 
 /** The proved functions, in one instance of the module. After a trap, as of the engine's stack, it refuses each call,
@@ -191,7 +190,7 @@ export class Chipfire {
   identity(graph: Graph): BigUint64Array;
   /** Keeps a game. It plays nothing yet. */
   pile(graph: Graph, chips: Wholes, options?: Limited): Pile;
-  /** New books of a process, by the numbers of its edges, ascending. */
+  /** New books of a process, by the numbers of its edges. */
   books(ins: Iterable<Whole>, outs: Iterable<Whole>): Books;
 }
 

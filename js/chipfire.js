@@ -15,8 +15,8 @@ export { Graph };
 export const MAX_LIMIT = 2n ** 40n;
 /** The parent of a process that no message engages. */
 const NEUTRAL = 2n ** 64n - 1n;
-/** The most vertices of a graph. */
-const MOST_VERTICES = 2 ** 21;
+/** How many numbers the struct of books has, and where the parent and the deficit stand among them. */
+const STRUCT = { length: 7, parent: 4, deficit: 6 };
 /** The numbers of some faults. */
 const FAULT = { vertices: 1, stopped: 13, noPile: 14, noMemory: 90 };
 
@@ -30,31 +30,20 @@ export class ChipfireFault extends Error {
   }
 }
 
-/** Numbers that a call reads. */
-const read = (array) => ({ array, length: [BigInt(array.length)], isWritten: false });
-/** Numbers that a call reads and writes. */
-const written = (array) => ({ array, length: [BigInt(array.length)], isWritten: true });
-/** One number that a call writes. */
-const cell = (array) => ({ array, length: [], isWritten: true });
-/** Tallies of edges, of three numbers each. */
-const tallied = (array) => ({ array, length: [BigInt(array.length / 3)], isWritten: true });
-
 /** A graph as each call takes it. */
-function given({ vertices, sink, tails, heads, mults }) {
-  return [word(vertices), word(sink), ...[tails, heads, mults].map(read)];
-}
-
-/** Numbers that a call writes, one for each vertex. */
-function none({ vertices }) {
-  if (vertices > MOST_VERTICES) throw new ChipfireFault(FAULT.vertices, 0);
-  return new BigUint64Array(Number(vertices));
-}
+const given = ({ vertices, sink, tails, heads, mults }) => [word(vertices), word(sink), tails, heads, mults];
 
 /** How many configurations of a graph lie behind one another; a part of one counts too, and is refused. */
 const configurations = (graph, chips) => Math.ceil(chips.length / Math.max(Number(graph.vertices), 1));
 
-/** Columns of avalanches, one number for each drop. */
-const columns = (drops) => [0, 1, 2].map(() => new BigUint64Array(drops));
+/** Numbers that a call writes, one for each vertex, of which a graph has up to 2^21. */
+function none({ vertices }) {
+  if (vertices > 2 ** 21) throw new ChipfireFault(FAULT.vertices, 0);
+  return new BigUint64Array(Number(vertices));
+}
+
+/** Columns that a call writes, one number for each drop. */
+const columns = (drops) => Object.fromEntries(["sizes", "areas", "losts"].map((it) => [it, new BigUint64Array(drops)]));
 
 /** An instance of the module, and its memory. */
 class Instance {
@@ -62,18 +51,14 @@ class Instance {
 
   constructor(exports) {
     this.#exports = exports;
-  }
-
-  get exports() {
-    if (this.#exports) return this.#exports;
-    throw new Error("a call has trapped, and its instance was thrown away: load another");
+    this.memory = exports.memory;
   }
 
   /** Calls a function of the module. A trap leaves the memory in the midst of a change, so there is no further call. */
-  run(name, ...given) {
-    const { [`chipfire_${name}`]: call } = this.exports;
+  run(name, ...numbers) {
+    if (!this.#exports) throw new Error("a call has trapped, and its instance was thrown away: load another");
     try {
-      return call(...given);
+      return this.#exports[`chipfire_${name}`](...numbers);
     } catch (error) {
       this.#exports = null;
       throw error;
@@ -89,39 +74,33 @@ class Instance {
 
   /** The numbers that lie in the memory. (If the memory grows, an earlier view has none any more.) */
   view(at, length) {
-    return new BigUint64Array(this.exports.memory.buffer, Number(at), length);
+    return new BigUint64Array(this.memory.buffer, Number(at), length);
   }
 
-  /** Calls a function on numbers and on copies of arrays; what it writes is copied back. A fault is thrown. */
-  call(name, given, place = [0n]) {
-    const arrays = given.filter((it) => typeof it !== "bigint");
-    const first = this.take(arrays.reduce((sum, it) => sum + it.array.length, 0));
+  /** Calls a function on numbers, on copies of arrays, and on those of `found`, which it writes. Behind these it may write
+   * up to three numbers, which are returned. A fault is thrown: the first of them is its place. */
+  call(name, its, found = {}) {
+    const written = Object.values(found);
+    const all = [...its, ...written].map((it) => (typeof it === "bigint" ? it : words(it)));
+    const first = this.take(all.reduce((sum, it) => sum + (it.length ?? 0), 3));
     let end = first;
-    for (const it of arrays) {
-      it.at = end;
-      this.view(end, it.array.length).set(it.array);
-      end += 8n * BigInt(it.array.length);
-    }
-    const values = given.flatMap((it) => (typeof it === "bigint" ? [it] : [it.at, ...it.length]));
-    const status = Number(this.run(name, ...values));
-    for (const { array, at } of arrays.filter((it) => it.isWritten)) {
-      array.set(this.view(at, array.length));
+    const numbers = all.flatMap((it) => {
+      if (typeof it === "bigint") return it;
+      const at = end;
+      this.view(at, it.length).set(it);
+      end += 8n * BigInt(it.length);
+      return [at, BigInt(it.length)];
+    });
+    this.view(end, 3).fill(0n);
+    const status = this.run(name, ...numbers, end, end + 8n, end + 16n);
+    const told = this.view(end, 3).slice();
+    for (const array of written.reverse()) {
+      end -= 8n * BigInt(array.length);
+      array.set(this.view(end, array.length));
     }
     this.run("free", first);
-    if (status !== 0) throw new ChipfireFault(status, Number(place[0]));
-  }
-
-  /** The same for a function that writes the place of a fault last. */
-  callWithPlace(name, given) {
-    const place = new BigUint64Array(1);
-    this.call(name, [...given, cell(place)], place);
-  }
-
-  /** The same for a function that writes some numbers last, which are returned. */
-  ask(name, given, count = 1) {
-    const found = Array.from({ length: count }, () => new BigUint64Array(1));
-    this.call(name, [...given, ...found.map(cell)]);
-    return found.map((it) => it[0]);
+    if (status !== 0n) throw new ChipfireFault(Number(status), Number(told[0]));
+    return told;
   }
 }
 
@@ -140,235 +119,186 @@ export class Chipfire {
   }
 
   get memory() {
-    return this.#instance.exports.memory.buffer.byteLength;
+    return this.#instance.memory.buffer.byteLength;
   }
 
   stabilize(graph, chips, { limit, guess } = {}) {
     const its = this.stabilizeAll(graph, chips, { limit, guesses: guess, games: 1 });
-    return { chips: its.chips, fired: its.fired, stopped: its.stopped[0] };
+    return { ...its, stopped: its.stopped[0] };
   }
 
   stabilizeAll(graph, chips, { limit = MAX_LIMIT, guesses = [], games } = {}) {
     const ends = words(chips).slice();
     const fired = new BigUint64Array(ends.length);
     const stopped = new BigUint64Array(games ?? configurations(graph, ends));
-    const answers = [ends, fired, stopped].map(written);
-    this.#call("stabilize_all", graph, [word(limit), read(words(guesses)), ...answers]);
-    return { chips: ends, fired, stopped };
+    return this.#call("stabilize_all", graph, [word(limit), guesses], { chips: ends, fired, stopped });
   }
 
   avalanches(graph, chips, at, amounts, { limit = MAX_LIMIT } = {}) {
-    const ends = words(chips).slice();
-    const drops = [words(at), words(amounts)];
-    const [sizes, areas, losts] = columns(at.length);
-    const answers = [ends, sizes, areas, losts].map(written);
-    this.#call("avalanches", graph, [word(limit), ...drops.map(read), ...answers]);
-    return { chips: ends, sizes, areas, losts };
+    const found = { chips: words(chips).slice(), ...columns(at.length) };
+    return this.#call("avalanches", graph, [word(limit), at, amounts], found);
   }
 
   verify(graph, chips, fired, ends, { limit = MAX_LIMIT } = {}) {
-    const claim = [chips, fired, ends].map((it) => read(words(it)));
-    this.#call("verify", graph, [word(limit), ...claim]);
+    this.#call("verify", graph, [word(limit), chips, fired, ends]);
   }
 
   burning(graph) {
-    const [script, chips] = [none(graph), none(graph)];
-    this.#call("burning", graph, [script, chips].map(written));
-    return { script, chips };
+    return this.#call("burning", graph, [], { script: none(graph), chips: none(graph) });
   }
 
   areRecurrent(graph, chips) {
-    const flags = new BigUint64Array(configurations(graph, chips));
-    this.#call("are_recurrent", graph, [read(words(chips)), written(flags)]);
-    return Array.from(flags, (flag) => flag === 1n);
+    const found = { flags: new BigUint64Array(configurations(graph, chips)) };
+    return Array.from(this.#call("are_recurrent", graph, [chips], found).flags, (flag) => flag === 1n);
   }
 
-  recurrent(graph, chips) {
-    return this.#represented("recurrent", graph, chips);
-  }
-
-  superstable(graph, chips) {
-    return this.#represented("superstable", graph, chips);
-  }
-
-  inverse(graph, chips) {
-    return this.#represented("inverse", graph, chips);
-  }
+  recurrent = (graph, chips) => this.#represented("recurrent", graph, chips);
+  superstable = (graph, chips) => this.#represented("superstable", graph, chips);
+  inverse = (graph, chips) => this.#represented("inverse", graph, chips);
+  pile = (graph, chips, options) => pileOf(this.#instance, graph, chips, options);
+  books = (ins, outs) => booksOf(this.#instance, ins, outs);
 
   identity(graph) {
-    const chips = none(graph);
-    this.#call("identity", graph, [written(chips)]);
-    return chips;
+    return this.#call("identity", graph, [], { chips: none(graph) }).chips;
   }
 
   #represented(name, graph, chips) {
     const found = words(chips).slice();
-    this.#call(name, graph, [BigInt(configurations(graph, found)), written(found)]);
+    return this.#call(name, graph, [BigInt(configurations(graph, found))], { found }).found;
+  }
+
+  #call(name, graph, more, found) {
+    this.#instance.call(name, [...given(graph), ...more], found);
     return found;
   }
-
-  #call(name, graph, more) {
-    this.#instance.callWithPlace(name, [...given(graph), ...more]);
-  }
-
-  pile(graph, chips, options) {
-    return new Pile(this.#instance, graph, chips, options);
-  }
-
-  books(ins, outs) {
-    return new Books(this.#instance, ins, outs);
-  }
 }
 
-/** A game that is kept, and on which chips are dropped. Its memory is the module's, until it is freed. */
-class Pile {
-  #instance;
-  #at = 0n;
-  #vertices;
-
-  constructor(instance, graph, chips, { limit = MAX_LIMIT } = {}) {
-    const game = [...given(graph), word(limit), read(words(chips))];
-    const at = instance.take(2);
-    instance.view(at, 2).fill(0n);
+/** Takes memory in the module for so many numbers. Returns where they lie, what calls a function on them, at first to
+ * begin, and what frees them, after a call of `ending`. */
+function kept(instance, length, gone, ending) {
+  let at = instance.take(length);
+  instance.view(at, length).fill(0n);
+  const place = () => {
+    if (at !== 0n) return at;
+    throw gone();
+  };
+  const call = (name, its, found) => instance.call(name, [place(), ...its], found);
+  const free = () => {
+    if (at === 0n) return;
+    if (ending) instance.run(ending, at);
+    instance.run("free", at);
+    at = 0n;
+  };
+  const begin = (name, its) => {
     try {
-      instance.callWithPlace("pile_new", [at, ...game]);
-    } catch (fault) {
-      if (fault instanceof ChipfireFault) instance.run("free", at);
-      throw fault;
+      call(name, its);
+    } catch (error) {
+      if (error instanceof ChipfireFault) free();
+      throw error;
     }
-    this.#instance = instance;
-    this.#vertices = Number(graph.vertices);
-    this.#at = at;
-  }
-
-  /** Where it lies in the module. */
-  get #place() {
-    if (this.#at !== 0n) return this.#at;
-    throw new ChipfireFault(FAULT.noPile, 0);
-  }
-
-  drop(vertex, amount = 1) {
-    const drop = [this.#place, word(vertex), word(amount)];
-    const [size, area, lost] = this.#instance.ask("pile_drop", drop, 3);
-    return { size, area, lost };
-  }
-
-  drops(at, amounts = new Uint32Array(at.length).fill(1)) {
-    const drops = [words(at), words(amounts)];
-    const answers = columns(at.length);
-    const rows = (count) => {
-      const [sizes, areas, losts] = answers.map((it) => it.subarray(0, count));
-      return { sizes, areas, losts };
-    };
-    const call = [this.#place, ...drops.map(read), ...answers.map(written)];
-    try {
-      this.#instance.callWithPlace("pile_drops", call);
-    } catch (fault) {
-      if (fault.number === FAULT.stopped) fault.made = rows(fault.place);
-      throw fault;
-    }
-    return rows(at.length);
-  }
-
-  #copied(name) {
-    const found = new BigUint64Array(this.#vertices);
-    this.#instance.call(name, [this.#place, written(found)]);
-    return found;
-  }
-
-  chips() {
-    return this.#copied("pile_chips");
-  }
-
-  fired() {
-    return this.#copied("pile_fired");
-  }
-
-  put(chips, { limit = MAX_LIMIT } = {}) {
-    this.#instance.call("pile_put", [this.#place, word(limit), read(words(chips))]);
-  }
-
-  free() {
-    if (this.#at === 0n) return;
-    this.#instance.run("pile_free", this.#at);
-    this.#instance.run("free", this.#at);
-    this.#at = 0n;
-  }
+  };
+  return { place, begin, call, free };
 }
 
-/** The books of a process of a computation: tallies of the edges into it and out of it, and its parent edge. */
-class Books {
-  #instance;
-  #parent = BigUint64Array.of(NEUTRAL);
-
-  constructor(instance, ins, outs) {
-    const begun = (edges) => words(Array.from(edges, (edge) => [edge, 0n, 0n]).flat());
-    this.#instance = instance;
-    this.ins = begun(ins);
-    this.outs = begun(outs);
-  }
-
-  get parent() {
-    return this.#parent[0] === NEUTRAL ? null : this.#parent[0];
-  }
-
-  set parent(edge) {
-    this.#parent[0] = edge === null ? NEUTRAL : word(edge);
-  }
-
-  sent(edge) {
-    this.#instance.call("sent", [tallied(this.outs), word(edge)]);
-  }
-
-  got(edge) {
-    this.#instance.call("got", [tallied(this.ins), cell(this.#parent), word(edge)]);
-  }
-
-  mayAck(edge, passive) {
-    const given = [tallied(this.ins), tallied(this.outs), this.#parent[0]];
-    return this.#instance.ask("may_ack", [...given, word(edge), BigInt(Boolean(passive))])[0];
-  }
-
-  acked(edge, passive, count) {
-    const given = [tallied(this.ins), tallied(this.outs), cell(this.#parent), word(edge)];
-    this.#instance.call("acked", [...given, BigInt(Boolean(passive)), word(count)]);
-  }
-
-  settled(edge, acknowledged) {
-    return this.#instance.ask("settled", [tallied(this.outs), word(edge), word(acknowledged)])[0];
-  }
-
-  deficit() {
-    return this.#instance.ask("deficit", [tallied(this.outs)])[0];
-  }
-
-  isOver(ended) {
-    return this.#instance.ask("is_over", [tallied(this.outs), BigInt(Boolean(ended))])[0] === 1n;
-  }
-
-  check() {
-    this.#instance.call("books_check", [tallied(this.ins), tallied(this.outs), this.#parent[0]]);
-  }
+/** A game that is kept, and on which chips are dropped. */
+function pileOf(instance, graph, chips, { limit = MAX_LIMIT } = {}) {
+  const game = [...given(graph), word(limit), words(chips)];
+  const { begin, call, free } = kept(instance, 2, () => new ChipfireFault(FAULT.noPile, 0), "pile_free");
+  begin("pile_new", game);
+  const copied = (name) => {
+    const copy = new BigUint64Array(Number(graph.vertices));
+    call(name, [], { copy });
+    return copy;
+  };
+  return {
+    play: (visits = 2n ** 64n - 1n) => call("pile_play", [word(visits)])[0] !== 0n,
+    drop(vertex, amount = 1) {
+      const [size, area, lost] = call("pile_drop", [word(vertex), word(amount)]);
+      return { size, area, lost };
+    },
+    drops(at, amounts = new Uint32Array(at.length).fill(1)) {
+      const found = columns(at.length);
+      try {
+        call("pile_drops", [at, amounts], found);
+      } catch (fault) {
+        if (fault.number !== FAULT.stopped) throw fault;
+        const made = Object.entries(found).map(([name, column]) => [name, column.subarray(0, fault.place)]);
+        throw Object.assign(fault, { made: Object.fromEntries(made) });
+      }
+      return found;
+    },
+    chips: () => copied("pile_chips"),
+    fired: () => copied("pile_fired"),
+    put(chips, { limit = MAX_LIMIT } = {}) {
+      call("pile_put", [word(limit), chips]);
+    },
+    free,
+  };
 }
 
-/** The module's bytes, of a URL or of a file. */
-async function bytesOf(source) {
+/** Opens books in the module: a struct with a parent edge and two sums, and behind it three numbers for each edge. */
+function opened(instance, ins, outs) {
+  const sides = [ins, outs].map((edges) => Array.from(BigUint64Array.from(edges, word).sort()));
+  const tallies = sides.flat().flatMap((edge) => [edge, 0n, 0n]);
+  const length = STRUCT.length + tallies.length;
+  const its = kept(instance, length, () => new Error("the books were freed"));
+  const [count, others] = sides.map((side) => BigInt(side.length));
+  const first = its.place() + 8n * BigInt(STRUCT.length);
+  const struct = [first, count, first + 24n * count, others, NEUTRAL, 0n, 0n];
+  instance.view(its.place(), length).set([...struct, ...tallies]);
+  its.begin("books_open", []);
+  return its;
+}
+
+/** The books of a process. */
+function booksOf(instance, ins, outs) {
+  const { place, call, free } = opened(instance, ins, outs);
+  const number = (at) => instance.view(place(), STRUCT.length)[at];
+  /** The edges on which messages may wait for their acknowledgement: the parent came first. */
+  const owed = new Set();
+  const acknowledged = (edge, passive) => {
+    const [count, soFar] = call("books_acknowledge", [edge, BigInt(Boolean(passive))]);
+    if (edge !== number(STRUCT.parent)) owed.delete(edge);
+    return count > 0n ? [[edge, soFar]] : [];
+  };
+  return {
+    get parent() {
+      return number(STRUCT.parent) === NEUTRAL ? null : number(STRUCT.parent);
+    },
+    get deficit() {
+      return number(STRUCT.deficit);
+    },
+    sent(edge) {
+      call("books_sent", [word(edge)]);
+    },
+    got(edge) {
+      call("books_got", [word(edge)]);
+      owed.add(word(edge));
+    },
+    // (the last message of the parent waits for those of all other edges)
+    acknowledge: (passive) => [...owed].reverse().flatMap((edge) => acknowledged(edge, passive)),
+    settled: (edge, count) => call("books_settled", [word(edge), word(count)])[0],
+    isOver: (ended) => call("books_is_over", [BigInt(Boolean(ended))])[0] === 1n,
+    free,
+  };
+}
+
+/** What WebAssembly has compiled, or compiles of bytes or of what lies at a URL. */
+async function compiled(source) {
+  if (source instanceof WebAssembly.Module) return source;
+  if (source instanceof ArrayBuffer || ArrayBuffer.isView(source)) return WebAssembly.compile(source);
   const url = new URL(source);
   if (url.protocol === "file:" && globalThis.process?.versions?.node) {
     const { readFile } = await import("node:fs/promises");
-    return readFile(url);
+    return WebAssembly.compile(await readFile(url));
   }
   const response = await fetch(url);
   if (!response.ok) throw new Error(`${url}: ${response.status} ${response.statusText}`);
-  return response.arrayBuffer();
+  return WebAssembly.compile(await response.arrayBuffer());
 }
 
 /** Loads the module: chipfire.wasm beside this file, or from a URL, of bytes, or as WebAssembly has compiled it. */
 export async function load(source = new URL("chipfire.wasm", import.meta.url)) {
-  const isBytes = source instanceof ArrayBuffer || ArrayBuffer.isView(source);
-  let module = source;
-  if (!(source instanceof WebAssembly.Module)) {
-    module = await WebAssembly.compile(isBytes ? source : await bytesOf(source));
-  }
-  return new Chipfire((await WebAssembly.instantiate(module)).exports);
+  const { exports } = await WebAssembly.instantiate(await compiled(source));
+  return new Chipfire(exports);
 }

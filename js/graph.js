@@ -1,7 +1,5 @@
 /* Graphs and chips as the module takes them. This file asks for nothing, and nothing in it is proved. */
 
-/** Which half of a number of 64 bits is the low one here. */
-const LOW = new Uint32Array(BigUint64Array.of(1n).buffer)[0] === 1 ? 0 : 1;
 /** Which squares lie beside one, as [rows down, columns to the right]: if row and column together are even, or odd. */
 const SQUARE = [[-1, 0], [0, -1], [0, 1], [1, 0]];
 const TRIANGULAR = [...SQUARE, [-1, 1], [1, -1]];
@@ -24,11 +22,11 @@ export function word(number) {
 /** Whole numbers as the module has them: the same array, if it has them so. */
 export function words(numbers) {
   if (numbers instanceof BigUint64Array) return numbers;
-  if (!Number.isSafeInteger(numbers?.length)) throw new TypeError("numbers are an array");
+  if (!Number.isSafeInteger(numbers?.length)) throw new TypeError("numbers are an array, as Graph.chips makes one");
   if (!(numbers instanceof Uint32Array)) return BigUint64Array.from(numbers, word);
   const found = new BigUint64Array(numbers.length);
-  const halves = new Uint32Array(found.buffer);
-  for (let at = 0; at < numbers.length; at++) halves[2 * at + LOW] = numbers[at];
+  const halves = new Uint32Array(found.buffer); // (the low one first, as in the module)
+  for (let at = 0; at < numbers.length; at++) halves[2 * at] = numbers[at];
   return found;
 }
 
@@ -56,11 +54,11 @@ export class Graph {
   }
 
   /** The squares of a lattice by rows, and the sink after them, which gets a chip for each side without a neighbour. */
-  static grid(rows, columns = rows, { lattice = "square", periodic = [false, false], loss = 0 } = {}) {
+  static grid(rows, columns = rows, { lattice = "square", periodic = false, loss = 0 } = {}) {
     const [sink, each] = [word(rows) * word(columns), word(loss)].map(Number);
-    const sides = BESIDE[lattice];
+    const [sides, joined] = [BESIDE[lattice], [periodic, periodic].flat()];
     if (!sides) throw new RangeError(`there is no ${lattice} lattice`);
-    if (lattice === "hexagonal" && [rows, columns].some((size, at) => periodic[at] && size % 2)) {
+    if (lattice === "hexagonal" && [rows, columns].some((size, at) => joined[at] && size % 2)) {
       throw new RangeError("a hexagonal lattice has an even size where it is periodic");
     }
     const most = sink * (sides[0].length + 1);
@@ -76,8 +74,8 @@ export class Graph {
       const row = (square - column) / columns;
       let lost = each;
       for (const [down, right] of sides[(row + column) % 2]) {
-        const there = columns * wrapped(row + down, rows, periodic[0]);
-        const head = there + wrapped(column + right, columns, periodic[1]);
+        const there = columns * wrapped(row + down, rows, joined[0]);
+        const head = there + wrapped(column + right, columns, joined[1]);
         if (Number.isNaN(head)) lost += 1;
         else add(square, head, 1);
       }
@@ -90,7 +88,7 @@ export class Graph {
   chips(on = {}) {
     const found = new BigUint64Array(Number(this.vertices));
     for (const [vertex, chips] of Object.entries(on)) {
-      if (!(Number(vertex) < found.length)) throw new RangeError(`there is no vertex ${vertex}`);
+      if (!Object.hasOwn(found, vertex)) throw new RangeError(`there is no vertex ${vertex}`);
       found[vertex] = word(chips);
     }
     return found;

@@ -13,7 +13,7 @@ from packing.repository import Refused
 
 def name(packed):
     """Returns the archive's name."""
-    return contents.archive_name(packed.stated.version)
+    return contents.archive_name(packed.stated.version, packed.machine)
 
 
 def files(packed):
@@ -25,7 +25,8 @@ def files(packed):
 def documents(found):
     """Returns the documents among the files of an archive, by their places."""
     return {
-        place: found[f"{top()}/{place}"].data for place in (contents.MANUAL, *contents.COMPLETIONS)
+        place: found[f"{top()}/{place}"].data
+        for place in (*contents.manuals(), *contents.COMPLETIONS)
     }
 
 

@@ -5,7 +5,7 @@ import os
 from dataclasses import dataclass
 
 import contents
-from contents import BUILT, FILES, HEADERS, MANUAL, PAGES, PROGRAM, SHARED, SONAME, version
+from contents import COMMANDS, FILES, HEADERS, PAGES, PROGRAM, SHARED, SONAME, X86_64, version
 from packing import changes, completions, linking, manual, usage
 from packing.proved import Proved
 from packing.repository import ROOT, Refused, below, content
@@ -30,16 +30,27 @@ class File:
 
 @dataclass(frozen=True)
 class Build:
-    """What was built, bytes by the words of PROVED, what is stated of it, and the program's documents by their places."""
+    """What was built, bytes by the words of PROVED, what is stated of it, the program's documents by their places, and the
+    machine that is packed for."""
 
     built: dict[str, bytes]
     stated: Proved
     documents: dict[str, bytes]
+    machine: contents.Machine = X86_64
+
+    def program(self):
+        """Returns the bytes of the program."""
+        return self.built[self.machine.built[0]]
 
 
-def built_in(folder):
-    """Returns what was built into a folder, bytes by the words of PROVED."""
-    return {word: content(f"{folder}/{name}") for word, name in zip(BUILT, FILES)}
+def built_in(folder, machine=X86_64):
+    """Returns what was built for a machine into a folder, bytes by the words of PROVED."""
+    return {word: content(f"{folder}/{name}") for word, name in zip(machine.built, FILES)}
+
+
+def machines(built):
+    """Returns the machines that something was built for."""
+    return [it for it in contents.MACHINES if built.keys() >= {*it.built}]
 
 
 def link_soname(folder):
@@ -50,9 +61,9 @@ def link_soname(folder):
     os.link(f"{folder}/{SHARED}", f"{folder}/{SONAME}")
 
 
-def lay_out(folder, built):
-    """Writes what was built into a folder."""
-    for word, name in zip(BUILT, FILES):
+def lay_out(folder, built, machine):
+    """Writes what was built for a machine into a folder."""
+    for word, name in zip(machine.built, FILES):
         with open(f"{folder}/{name}", "wb") as file:
             file.write(built[word])
     os.chmod(f"{folder}/{PROGRAM}", 0o755)
@@ -60,7 +71,7 @@ def lay_out(folder, built):
 
 
 def documents(program):
-    """Returns the manual page and the completions of the program with this path, by their places."""
+    """Returns the manual pages and the completions of the program with this path, by their places."""
     told = usage.answer(program, "--version").split()[1]
     if told != version():
         raise Refused(
@@ -68,16 +79,19 @@ def documents(program):
         )
     whole, commands = usage.read_program(program)
     made = {place: make(whole, commands).encode() for place, make in COMPLETIONS.items()}
-    return {MANUAL: manual.page(whole, commands, version(), changes.entry()[0]).encode(), **made}
+    if tuple(it.name for it in commands) != COMMANDS:
+        raise Refused("the program has other commands than python/contents.py says")
+    pages = manual.pages(whole, commands, version(), changes.entry()[0])
+    return {**{place: text.encode() for place, text in pages.items()}, **made}
 
 
 def files(build, libraries, prefix=None):
     """Returns the files of a build, by their places below a folder such as /usr, with the libraries in a folder of it. If
     all lies in one folder for good, that is the prefix."""
     found = {place: File(data) for place, data in build.documents.items()}
-    for word, place in contents.places(libraries).items():
+    for word, place in contents.places(libraries, build.machine).items():
         data = build.stated.text().encode() if word == "PROVED" else build.built[word]
-        found[place] = File(data, 0o755 if word == "program" else 0o644)
+        found[place] = File(data, 0o755 if word == build.machine.built[0] else 0o644)
     found[f"{libraries}/{SHARED}"] = File(SONAME.encode(), LINK)
     for place, text in linking.files(libraries, prefix).items():
         found[f"{libraries}/{place}"] = File(text.encode())

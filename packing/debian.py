@@ -29,12 +29,12 @@ OVERRIDES = """\
 chipfire: unstripped-binary-or-object [usr/bin/chipfire]
 # One package has the program, the library, and what is linked with it: none is there without the others.
 chipfire: package-name-doesnt-match-sonames libchipfire0
-chipfire: link-to-shared-library-in-wrong-package usr/lib/x86_64-linux-gnu/libchipfire.so.0 *
+chipfire: link-to-shared-library-in-wrong-package usr/{libraries}/libchipfire.so.0 *
 """
 CONTROL = """\
 Package: chipfire
 Version: {version}
-Architecture: amd64
+Architecture: {architecture}
 Maintainer: {maintainer}
 Installed-Size: {size}
 Depends: libc6 (>= {libc})
@@ -50,7 +50,7 @@ Description: distributed chip-firing machine that is proved right
 
 def name(packed):
     """Returns the package's file name."""
-    return contents.debian_name()
+    return contents.debian_name(packed.machine)
 
 
 def changelog():
@@ -67,20 +67,25 @@ def changelog():
 
 def control(packed, size):
     """Returns what dpkg reads of a build whose files have so many bytes."""
-    libc = "{}.{}".format(*needs.c_library(packed.built["program"]))
     return CONTROL.format(
-        version=version(), maintainer=MAINTAINER, size=(size + 1023) // 1024, libc=libc
+        version=version(),
+        architecture=packed.machine.debian,
+        maintainer=MAINTAINER,
+        size=(size + 1023) // 1024,
+        libc="{}.{}".format(*needs.c_library(packed.program())),
     )
 
 
 def files(packed):
     """Returns the package's files by their names in the root, with those that dpkg reads below DEBIAN."""
-    inside = build.files(packed, contents.DEBIAN_LIBRARIES, prefix="/usr")
+    libraries = contents.debian_libraries(packed.machine)
+    inside = build.files(packed, libraries, prefix="/usr")
     found = {f"usr/{place}": file for place, file in inside.items()}
-    found[contents.DEBIAN_MANUAL] = File(gzipped(found.pop(f"usr/{contents.MANUAL}").data))
+    for place in contents.manuals():
+        found[f"usr/{place}.gz"] = File(gzipped(found.pop(f"usr/{place}").data))
     found[contents.DEBIAN_CHANGES] = File(gzipped(changelog().encode()))
     found[contents.DEBIAN_COPYRIGHT] = File(COPYRIGHT.encode())
-    found[contents.DEBIAN_OVERRIDES] = File(OVERRIDES.encode())
+    found[contents.DEBIAN_OVERRIDES] = File(OVERRIDES.format(libraries=libraries).encode())
     sums = [
         f"{hashlib.md5(file.data).hexdigest()}  {name}\n"
         for name, file in sorted(found.items())
@@ -96,11 +101,8 @@ def files(packed):
 
 def documents(found):
     """Returns the documents among the files of a package, by their places."""
-    page = gzip.decompress(found[contents.DEBIAN_MANUAL].data)
-    return {
-        contents.MANUAL: page,
-        **{place: found[f"usr/{place}"].data for place in contents.COMPLETIONS},
-    }
+    manuals = {it: gzip.decompress(found[f"usr/{it}.gz"].data) for it in contents.manuals()}
+    return {**manuals, **{place: found[f"usr/{place}"].data for place in contents.COMPLETIONS}}
 
 
 def lay_out(room, inside, seconds):

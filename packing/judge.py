@@ -7,8 +7,9 @@ import tempfile
 import zipfile
 import zlib
 
-from contents import BOARD, version
-from packing import archive, build, debian, proved, wheel
+import contents
+from contents import BOARD, CARRIED, PROGRAM, version
+from packing import archive, build, debian, library_wheel, proved, web, wheel
 from packing.build import Build
 from packing.repository import ROOT, Refused, content, sha256
 
@@ -106,24 +107,53 @@ def part_of(found, name):
     return found[name].data
 
 
-def judge_package(form, path, here):
-    """Returns what is stated in a package of this form, where all its files are those of these sources.
+def machine_of(form, found, stated):
+    """Returns the machine that a package is for: the one of whose files most are in it as PROVED states them."""
 
-    Its program is started for its documents only where it is the one that was packed here."""
+    def fitting(machine):
+        places = form.places(machine).items()
+        return sum(
+            it in found and sha256(found[it].data) == stated.sums.get(word) for word, it in places
+        )
+
+    return max(contents.MACHINES, key=fitting)
+
+
+def documents_here(built, here):
+    """Returns the documents of the program for this machine that was packed here."""
+    word = (contents.own() or contents.X86_64).built[0]
+    program = built[word] if word in built else content(f"target/{PROGRAM}")
+    if sha256(program) != here.sums.get(word):
+        raise Refused(
+            "target/ has another program than the one that was packed here: ./package packs it"
+        )
+    return documents_of(program)
+
+
+def judge_package(form, path, here):
+    """Returns what is stated in a package of this form, where all its files are those of these sources, and what was packed
+    here for its machine. The program that was packed here is started for its documents, if one was.
+    """
     found, documents = unpacked(form, path, form.documents)
-    places = form.places()
-    stated = proved.read(part_of(found, places.pop("PROVED")))
-    if not proved.has_web(stated):
+    if form is wheel and f"{CARRIED}/{PROGRAM}" not in found:
+        form = library_wheel
+    stated = proved.read(part_of(found, form.places(contents.X86_64)["PROVED"]))
+    machine = machine_of(form, found, stated)
+    places = form.places(machine)
+    places.pop("PROVED")
+    if not proved.has(stated, web.NAME):
         places.pop(BOARD, None)
     built = {word: part_of(found, name) for word, name in places.items()}
     judge_stated(stated, built, here)
-    if here is not None:
-        documents = documents_of(built["program"])
-    wanted = form.files(Build(built, stated, documents))
+    if here is not None and not here.sums.keys() >= {*machine.built}:
+        here = None
+    if here is not None and documents:
+        documents = documents_here(built, here)
+    wanted = form.files(Build(built, stated, documents, machine))
     differ = sorted(name for name in {*found, *wanted} if found.get(name) != wanted.get(name))
     if differ:
         raise Refused(f"these files in it are not those of these sources: {' '.join(differ)}")
-    return stated
+    return stated, here
 
 
 def ground(here):
@@ -155,4 +185,5 @@ def judge(path):
         refuse_built(here)
     if form is None:
         raise Refused("it is neither a program nor an archive, a Debian package or a wheel")
-    return judge_package(form, path, here), ground(here)
+    stated, here = judge_package(form, path, here)
+    return stated, ground(here)

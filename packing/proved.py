@@ -1,30 +1,54 @@
 """PROVED: which sources program and libraries were proved and built from, by which kit, and which they are; and the same of
-the package for browsers and Node, if that was made."""
+what was made beside them: that for aarch64, and the package for browsers and Node."""
 from __future__ import annotations
 
 import re
-from dataclasses import dataclass
+from dataclasses import dataclass, field
 
-from contents import BUILT, WEB, WEB_BUILT
+from contents import AARCH64, WEB, WEB_BUILT, X86_64
 from packing import crates
 from packing.repository import Refused, below, content, git, sha256
 
 #: The crates that program and libraries are built of.
 CRATES = ("chipfire", "chip_exports")
-#: What the package for browsers and Node is made of, beside the same crates and the folder `WEB`.
-WEB_SOURCES = ("include/chipfire.h", "tools/board.py", "tools/heap.c", "tools/webassembly.py")
-FORM = "chipfire {}\nkit {}\ncommit {}\nsources sha256:{}\n" + "".join(
-    f"{it} sha256:{{}}\n" for it in BUILT
-)
-WEB_FORM = "web-sources sha256:{}\nweb-tools {}\nweb-made {}\n" + "".join(
-    f"{it} sha256:{{}}\n" for it in WEB_BUILT
-)
+#: What may be made beside program and libraries, by its words in PROVED; each is a part, with a name.
+PARTS = {AARCH64.name: AARCH64.built, "web": WEB_BUILT}
+#: What each part is made of, beside the same crates and for browsers and Node the folder `WEB`.
+PART_SOURCES = {
+    AARCH64.name: (
+        "tools/aarch64.py",
+        "tools/library.py",
+        "tools/making.py",
+        "tools/malloc.c",
+        "tools/os.c",
+    ),
+    "web": (
+        "include/chipfire.h",
+        "packing/faults.py",
+        "tools/board.py",
+        "tools/heap.c",
+        "tools/making.py",
+        "tools/webassembly.py",
+    ),
+}
+FORM = "chipfire {}\nkit {}\ncommit {}\nsources sha256:{}\n"
+PART_FORM = "{0}-sources sha256:{{}}\n{0}-tools {{}}\n{0}-made {{}}\n"
+
+
+def sum_lines(words):
+    """Returns the form of the lines that have the checksums of things that are built."""
+    return "".join(f"{it} sha256:{{}}\n" for it in words)
+
+
+def pattern(form):
+    """Returns the regular expression of what has a form."""
+    return form.replace(".", r"\.").replace("{}", "(.+)")
 
 
 @dataclass(frozen=True)
-class Web:
-    """What is stated of the package for browsers and Node: the checksum of what it is made of beside the crates, the tools
-    that made it beside the kit, and how."""
+class Part:
+    """What is stated of a part: the checksum of what it is made of beside the crates, the tools that made it beside the kit,
+    and how."""
 
     sources: str
     tools: str
@@ -41,29 +65,42 @@ class Proved:
     sources: str
     #: The checksum of each thing that is built, by its word.
     sums: dict[str, str]
-    web: Web | None = None
+    #: What is stated of each part that was made, by its name.
+    parts: dict[str, Part] = field(default_factory=dict)
 
     def text(self):
         """Returns the file PROVED."""
-        sums = [self.sums[word] for word in BUILT]
-        text = FORM.format(self.version, self.kit, self.commit, self.sources, *sums)
-        if self.web is None:
-            return text
-        sums = [self.sums[word] for word in WEB_BUILT]
-        return text + WEB_FORM.format(self.web.sources, self.web.tools, self.web.made, *sums)
+        text = FORM.format(self.version, self.kit, self.commit, self.sources)
+        text += self.text_of(X86_64.built)
+        for name, words in PARTS.items():
+            if name in self.parts:
+                its = self.parts[name]
+                text += PART_FORM.format(name).format(its.sources, its.tools, its.made)
+                text += self.text_of(words)
+        return text
+
+    def text_of(self, words):
+        """Returns the lines with the checksums of these words."""
+        return sum_lines(words).format(*(self.sums[it] for it in words))
 
 
 def read(data):
     """Returns what the bytes of a file PROVED state."""
-    first, more = (form.replace("{}", "(.+)") for form in (FORM, WEB_FORM))
-    fit = re.fullmatch(f"{first}(?:{more})?", data.decode(errors="replace"))
-    if fit is None:
+    text = data.decode(errors="replace")
+    first = re.match(pattern(FORM + sum_lines(X86_64.built)), text)
+    if first is None:
         raise Refused("its PROVED has not the lines that it should have")
-    said, of_web = fit.groups()[: 4 + len(BUILT)], fit.groups()[4 + len(BUILT) :]
-    sums = dict(zip(BUILT, said[4:]))
-    if of_web[0] is None:
-        return Proved(*said[:4], sums)
-    return Proved(*said[:4], {**sums, **dict(zip(WEB_BUILT, of_web[3:]))}, Web(*of_web[:3]))
+    version, kit, commit_of, sources_of, *sums_of_it = first.groups()
+    sums, parts, end = dict(zip(X86_64.built, sums_of_it)), {}, first.end()
+    for name, words in PARTS.items():
+        found = re.compile(pattern(PART_FORM.format(name) + sum_lines(words))).match(text, end)
+        if found is not None:
+            parts[name] = Part(*found.groups()[:3])
+            sums.update(zip(words, found.groups()[3:]))
+            end = found.end()
+    if end != len(text):
+        raise Refused("its PROVED has not the lines that it should have")
+    return Proved(version, kit, commit_of, sources_of, sums, parts)
 
 
 def sums_of(built):
@@ -91,14 +128,19 @@ def sources():
     return sum_of_files(["crates.txt", *(file for it in source_folders() for file in below(it))])
 
 
-def web_sources():
-    """Returns the checksum of what the package for browsers and Node is made of beside the crates."""
-    return sum_of_files([*WEB_SOURCES, *below(WEB)])
+def part_files(name):
+    """Returns the names of the files that a part is made of beside the crates."""
+    return [*PART_SOURCES[name], *(below(WEB) if name == "web" else ())]
 
 
-def has_web(stated):
-    """Returns whether the package for browsers and Node was made, and of what is here beside the crates."""
-    return stated.web is not None and stated.web.sources == web_sources()
+def part_sources(name):
+    """Returns the checksum of what a part is made of beside the crates."""
+    return sum_of_files(part_files(name))
+
+
+def has(stated, name):
+    """Returns whether a part was made, and of what is here beside the crates."""
+    return name in stated.parts and stated.parts[name].sources == part_sources(name)
 
 
 def commit(*more):
@@ -111,8 +153,9 @@ def commit(*more):
 
 
 def is_committed():
-    """Returns whether all sources, those for browsers and Node too, are those of the commit that is checked out."""
-    return commit(*WEB_SOURCES, WEB) == git("rev-parse", "HEAD")
+    """Returns whether all sources, those of the parts too, are those of the commit that is checked out."""
+    files = [file for name in PARTS for file in PART_SOURCES[name]]
+    return commit(*files, WEB) == git("rev-parse", "HEAD")
 
 
 def has_other_sources(name):

@@ -1,58 +1,40 @@
 """The package for browsers and Node, and its page: how they are made, and how they lie in one folder."""
 import os
-import shutil
-import subprocess
-import sys
-import tempfile
 
 from contents import BOARD, MODULE, NPM, WEB, version
-from packing import npm
-from packing.repository import ROOT, Refused, content
+from packing import npm, scripts
+from packing.repository import Refused, content
 
+NAME = "web"
+TITLE = "The package for browsers and Node"
 #: How the module is made: PROVED says so.
 MADE = (
     "the proved functions of chip_exports, lowered by the kit for x86-64, compiled by its LLVM for WebAssembly over "
     "tools/heap.c, and lowered by wasm-opt to 32-bit addresses; no proof covers what follows the first lowering"
 )
-#: What it takes beside the kit: the packages of Debian that have it.
-PACKAGES = {"wasm-opt": "binaryen", "node": "nodejs"}
+#: The tool that makes the module.
+TOOL = "wasm-opt"
 SCRIPTS = ("webassembly.py", "board.py")
+FOLDER = WEB
 #: What Node is told of a package, whose address stands behind it.
 TELLS = "const { load } = await import(process.argv[1]); console.log((await load()).version);"
 
 
-def need_tools():
-    """Refuses to go on where a tool is missing."""
-    for tool, package in PACKAGES.items():
-        if shutil.which(tool) is None:
-            raise Refused(f"{tool} is not on the PATH: Debian's package {package} has it")
+def missing(is_tried=False):
+    """Returns what it lacks here to be made, or to be tried too, as a sentence, or nothing."""
+    return scripts.lacking({TOOL: "binaryen", **({"node": "nodejs"} if is_tried else {})})
 
 
 def tools():
     """Returns the version of the tool on the PATH that makes the module beside the kit, or None."""
-    if shutil.which("wasm-opt") is None:
-        return None
-    asked = subprocess.run(["wasm-opt", "--version"], stdout=subprocess.PIPE, encoding="utf-8")
-    return asked.stdout.strip() if asked.returncode == 0 else None
+    return scripts.first_line(TOOL, "--version")
 
 
-def starts(folder):
-    """Returns whether the package in a folder starts in Node, and tells this version."""
-    words = ["node", "--input-type=module", "--eval", TELLS, f"file://{folder}/chipfire.js"]
-    told = subprocess.run(words, stdin=subprocess.DEVNULL, stdout=subprocess.PIPE, encoding="utf-8")
-    return (told.returncode, told.stdout) == (0, f"{version()}\n")
-
-
-def make():
-    """Makes the package and the page, and returns their bytes by the words of PROVED."""
-    with tempfile.TemporaryDirectory(prefix="chipfire-web-") as room:
-        for script in SCRIPTS:
-            words = [sys.executable, f"{ROOT}/tools/{script}", f"{room}/{WEB}"]
-            if subprocess.run(words).returncode != 0:
-                raise Refused("the package for browsers and Node could not be made")
-        if not starts(os.path.realpath(f"{room}/{WEB}")):
-            raise Refused("the package for browsers and Node does not start in Node")
-        return built_in(room)
+def try_in(folder):
+    """Refuses the package in a folder of another, if it does not start in Node, or tells another version."""
+    words = ["node", "--input-type=module", "--eval", TELLS, f"file://{folder}/{WEB}/chipfire.js"]
+    if not scripts.answers(words, f"{version()}\n"):
+        raise Refused("the package for browsers and Node does not start in Node")
 
 
 def built_in(folder):

@@ -9,9 +9,14 @@ from packing.build import File
 from packing.repository import Refused
 
 
+def tag_for(asking, machine):
+    """Returns which machines a wheel is for, of which these bytes ask for the newest C library."""
+    return "py3-none-manylinux_{}_{}_{}".format(*needs.c_library(asking), machine.name)
+
+
 def tag(packed):
     """Returns which machines the wheel is for."""
-    return "py3-none-manylinux_{}_{}_x86_64".format(*needs.c_library(packed.built["program"]))
+    return tag_for(packed.program(), packed.machine)
 
 
 def name(packed):
@@ -19,16 +24,20 @@ def name(packed):
     return contents.wheel_name(tag(packed))
 
 
+def carried(packed, its_places):
+    """Returns what a wheel with these places carries beside the package, bytes by names."""
+    its = {**packed.built, "PROVED": packed.stated.text().encode()}
+    return {place: its[word] for word, place in its_places.items() if word in its}
+
+
 def bytes_of(packed):
     """Returns the wheel's files, bytes by names."""
-    carried = {**packed.built, "PROVED": packed.stated.text().encode()}
-    inside = {place: carried[word] for word, place in places().items() if word in carried}
-    return wheels.with_package(tag(packed), inside)
+    return wheels.with_package(tag(packed), carried(packed, places(packed.machine)), wheels.COMMAND)
 
 
 def files(packed):
     """Returns the wheel's files by their names."""
-    program = places()["program"]
+    program = f"{contents.CARRIED}/{contents.PROGRAM}"
     return {
         name: File(data, 0o755 if name == program else 0o644)
         for name, data in bytes_of(packed).items()
@@ -42,7 +51,7 @@ def documents(found):
 
 def write(path, packed):
     """Writes the wheel of a build."""
-    wheels.write(path, bytes_of(packed), programs=[places()["program"]])
+    wheels.write(path, bytes_of(packed), programs=[f"{contents.CARRIED}/{contents.PROGRAM}"])
 
 
 def read(path):

@@ -1,84 +1,133 @@
 #!/usr/bin/env python3
-"""The program and the libraries in release/: an archive of ./package, and the PROVED that stands in it too; and the package
-for browsers and Node beside them.
+"""The program and the libraries in release/: for each machine an archive of ./package, and the PROVED that stands in it too;
+and the package for browsers and Node beside them.
 
-    tools/release.py --take FOLDER KIT      lays them out in FOLDER, if they were built from the sources that are here and
-                                            the program starts here; KIT is the version of the one on the PATH, or empty
+    tools/release.py --take FOLDER KIT      lays out those for this machine in FOLDER, if they were built from the sources that
+                                            are here and the program starts here; KIT is the version of the one on the PATH,
+                                            or empty
     tools/release.py --compare FOLDER KIT   compares them with those in FOLDER, which KIT built here from these sources
 
-The package for browsers and Node is made of more sources, and by a tool beside the kit: it is taken, and compared, if these
-are those that PROVED states too. Standard error says in one line where the program comes from, or why it is not taken. Of
-a comparison, standard output says how it ends. The status is 1 if the program is not taken; if release/ is damaged; if
-the same kit and tool built others from the same sources; and if an earlier release of others has the version.
+What is for aarch64, and the package for browsers and Node, are made of more sources, and by tools beside the kit: they are
+taken, and compared, if these are those that PROVED states too. Standard error says in one line where the program comes from,
+or why it is not taken. Of a comparison, standard output says how it ends. The status is 1 if the program is not taken; if
+release/ is damaged; if the same kit and tool built others from the same sources; and if an earlier release of others has the
+version.
 """
 import os
-import platform
 import subprocess
 import sys
 
 import paths  # noqa: F401  (it has Python find the others)
 import contents
-import prove
-from packing import archive, build, judge, proved, web
+from packing import (
+    archive,
+    build,
+    elsewhere,
+    judge,
+    library_wheel,
+    parts,
+    proved,
+    scripts,
+    web,
+    wheel,
+)
 from packing.repository import ROOT, Refused, content, git
 
-SYSTEM = ("Linux", "x86_64")
 #: What stands in target/chipfire.stamp if ./chipfire took the program from release/.
 STAMP = "release"
+
+
+def unpacked(machine, version, data):
+    """Returns what was built for a machine, bytes by the words of PROVED, of the archive whose PROVED is this."""
+    path = f"{ROOT}/release/{contents.archive_name(version, machine)}"
+    places = contents.archive_places(machine, version)
+    _, built = judge.unpacked(
+        archive, path, lambda found: {word: found[it].data for word, it in places.items()}
+    )
+    if built.pop("PROVED") != data:
+        raise Refused("it is not the one that PROVED states")
+    return built
 
 
 def released():
     """Returns what is stated of the build in release/, and what was built, bytes by the words of PROVED."""
     data = content("release/PROVED")
     stated = proved.read(data)
-    path = f"{ROOT}/release/{contents.archive_name(stated.version)}"
-    places = contents.archive_places(stated.version)
-    _, built = judge.unpacked(
-        archive, path, lambda found: {word: found[it].data for word, it in places.items()}
-    )
-    if stated.web is not None:
+    built = unpacked(contents.X86_64, stated.version, data)
+    if contents.AARCH64.name in stated.parts:
+        built.update(unpacked(contents.AARCH64, stated.version, data))
+    if web.NAME in stated.parts:
         names = contents.web_places(stated.version)
         built.update((word, content(f"release/{name}")) for word, name in names.items())
-    if built.pop("PROVED") != data or proved.sums_of(built) != stated.sums:
+    if proved.sums_of(built) != stated.sums:
         raise Refused("it is not the one that PROVED states")
     return stated, built
 
 
 def of_these(stated, built):
-    """Returns what was built of the sources that are here: the package for browsers and Node has more of them."""
-    if proved.has_web(stated):
-        return built
-    return {word: built[word] for word in contents.BUILT}
+    """Returns what was built of the sources that are here: the parts have more of them."""
+    others = {
+        word
+        for name, words in proved.PARTS.items()
+        if not proved.has(stated, name)
+        for word in words
+    }
+    return {word: data for word, data in built.items() if word not in others}
 
 
 def starts(path, version):
     """Returns whether a program starts here, and tells this version."""
     try:
-        told = subprocess.run([path, "--version"], stdin=subprocess.DEVNULL, capture_output=True)
+        words, wanted = [path, "--version"], f"chipfire {version}\n"
+        return scripts.answers(words, wanted, stderr=subprocess.DEVNULL)
     except OSError:
         return False
-    return (told.returncode, told.stdout) == (0, f"chipfire {version}\n".encode())
 
 
-def fitting(folder):
-    """Lays out the build in a folder, if it fits sources and machine, and returns what is stated of it, and its bytes."""
-    system = platform.system(), platform.machine()
-    if system != SYSTEM:
-        raise Refused(f"it is for {' '.join(SYSTEM)}, and this is {' '.join(system)}")
+def loads(path, version):
+    """Returns whether a library is loaded here, by a process of its own, and tells this version."""
+    tells = "import ctypes, sys; print(ctypes.CDLL(sys.argv[1]).chipfire_version())"
+    first, second, third = map(int, version.split("."))
+    number = first * 10**6 + second * 1000 + third
+    words = [sys.executable, "-c", tells, path]
+    return scripts.answers(words, f"{number}\n", stderr=subprocess.DEVNULL)
+
+
+def laid_out(folder):
+    """Lays out the build in a folder, if it fits sources and machine, and returns it. It may not start here."""
+    machine = contents.own()
+    if machine is None:
+        raise Refused(elsewhere.said())
     stated, built = released()
     if stated.sources != proved.sources():
         raise Refused("it was built from other sources than these")
     built = of_these(stated, built)
-    build.lay_out(folder, built)
+    if machine not in build.machines(built):
+        raise Refused(f"it has nothing for {machine.name} that was made of these sources")
+    build.lay_out(folder, built, machine)
     web.lay_out(folder, built)
-    if not starts(f"{folder}/{contents.PROGRAM}", stated.version):
-        raise Refused("it does not start here")
-    return stated, built
+    return build.Build(built, stated, {}, machine)
+
+
+def wheel_of(folder):
+    """Lays out the build in a folder, if it fits, and returns it, and the form of the wheel that is for this machine: that
+    with the library alone where the C library is too old for the program."""
+    fits = laid_out(folder)
+    if starts(f"{folder}/{contents.PROGRAM}", fits.stated.version):
+        return fits, wheel
+    if loads(f"{folder}/{contents.SHARED}", fits.stated.version):
+        return fits, library_wheel
+    raise Refused("it does not start here")
 
 
 def take(folder, kit):
     """Lays out the build in a folder, and returns what to say of it."""
-    stated, _ = fitting(folder)
+    # (pip runs the rest of this file on systems that have no locks for files)
+    import prove
+
+    stated = laid_out(folder).stated
+    if not starts(f"{folder}/{contents.PROGRAM}", stated.version):
+        raise Refused("it does not start here")
     other = f"; the kit on the PATH is another, {kit}" if kit not in ("", stated.kit) else ""
     minutes = round(prove.minutes("chipfire"))
     return (
@@ -99,21 +148,6 @@ def check_version(stated):
             )
 
 
-def compare_web(stated, built, folder, kit):
-    """Returns how the package for browsers and Node in release/ compares with that in a folder of the repository."""
-    its = "The package for browsers and Node in release/"
-    if not proved.has_web(stated):
-        return f"{its} was made of other sources than these, or is not there."
-    tools = web.tools()
-    if (stated.kit, stated.web.tools) != (kit, tools):
-        made = f"{stated.kit} and {stated.web.tools}"
-        return f"{its} was made by {made}, and is not compared: here are {kit} and {tools or 'no wasm-opt'}."
-    others = " and ".join(web.differing(built, folder))
-    if others:
-        raise Refused(f"the same kit and {tools} made another {others} here from the same sources")
-    return f"{its} is the one that was made here, byte for byte."
-
-
 def compare(folder, kit):
     """Returns how the build in release/ compares with that in a folder of the repository."""
     if not os.path.isdir(f"{ROOT}/release"):
@@ -123,7 +157,8 @@ def compare(folder, kit):
         return f"release/ was built from other sources than these, at commit {stated.commit[:12]}."
     check_version(stated)
     of_program = compare_program(stated, built, folder, kit)
-    return f"{of_program}\n{compare_web(stated, built, folder, kit)}"
+    of_parts = (parts.compared(it, stated, built, folder, kit) for it in parts.MODULES)
+    return "\n".join([of_program, *of_parts])
 
 
 def compare_program(stated, built, folder, kit):

@@ -1,7 +1,7 @@
 #!/usr/bin/env python3
 """Makes the package for browsers and Node: what is proved as chipfire.wasm, the files of js/, the texts of the faults.
 
-    tools/webassembly.py FOLDER     makes FOLDER anew, once `rt lib` in crates/chip_exports has proved all
+    tools/webassembly.py FOLDER     makes FOLDER anew; it is quick once `rt lib` in crates/chip_exports has proved all
 
 The same sources and tools make the same bytes. It takes the kit on the PATH, and `wasm-opt` of binaryen.
 
@@ -16,21 +16,18 @@ import os
 import re
 import shlex
 import shutil
-import subprocess
 import sys
 import tempfile
 
 import paths
 from contents import MODULE, version
-from library import kit
-from packing.crates import below, libraries
+from making import compile_crate, kit, need, run
+from packing import faults
 from packing.repository import content
 
-CRATE = f"{paths.ROOT}/crates/chip_exports"
 SCRIPTS = ("chipfire.js", "chipfire.d.ts", "graph.js", "README.md")
-TABLE = "crates/chip_command/src/table.rt"
-#: The faults of the library's calls.
-NUMBERS = (*range(1, 15), 26, 46, 47, 53, 90)
+#: The faults of the library's calls that no call of the package has.
+OTHERS = (47,)
 NATIVE, TARGET = "x86_64-unknown-linux-gnu", "wasm64-unknown-unknown"
 #: The processor and the flags by which the kit compiles for WebAssembly.
 PROCESSOR = "lime1"
@@ -52,43 +49,6 @@ cp -- module.bc {room} && exec {clang} "$@"
 """
 
 
-def need(ok, why):
-    if not ok:
-        sys.exit(f"tools/webassembly.py: {why}")
-
-
-def run(*words, **how):
-    """Runs a command, which may be a tool of the kit's one program under its own name."""
-    ran = subprocess.run(words, stdout=subprocess.PIPE, stderr=subprocess.STDOUT, **how)
-    need(ran.returncode == 0, f"{words[0]} failed:\n{ran.stdout.decode(errors='replace')}")
-
-
-def built_below():
-    """Returns the folders of the libraries that `rt lib` built below the crate, by their names."""
-    folders = {
-        it: f"{paths.ROOT}/crates/{it}/out/rlib" for it in below("chip_exports", libraries())
-    }
-    missing = [it for it, folder in folders.items() if not os.path.exists(f"{folder}/{it}.rlib")]
-    need(not missing, f"{', '.join(missing)} is not proved yet: first `rt lib` in {CRATE}")
-    return folders
-
-
-def compile_native(toolchain, to):
-    """Has the kit compile the crate for x86-64 by a toolchain, over the proofs that are kept."""
-    home, folders = kit(), built_below()
-    words = ["--crate-name", "chip_exports", "src/lib.rt"]
-    words += ["--extern", f"std={home}/rlibs/std.rlib", "-L", f"dependency={home}/rlibs"]
-    for name, folder in folders.items():
-        if name in libraries()["chip_exports"]:
-            words += ["--extern", f"{name}={folder}/{name}.rlib"]
-        words += ["-L", f"dependency={folder}"]
-    words += ["--antt-project", f"{home}/rattle/logic/antt-project.json"]
-    words += ["--logic-built", f"{home}/logic_built", "--links", "chip_exports="]
-    words += ["--crate-type", "staticlib", "--target", NATIVE, "--toolchain", toolchain]
-    words += ["--jobs", "1", "--incremental", "out/incremental", "-o", to]
-    run(f"{home}/bin/rattle", "build", *words, cwd=CRATE)
-
-
 def lowered(room, clang):
     """Returns the module of LLVM that the kit lowers the proved functions to for x86-64, as text."""
     tools = f"{room}/tools"
@@ -99,7 +59,7 @@ def lowered(room, clang):
     with open(f"{tools}/bin/clang", "w", encoding="utf-8") as file:
         file.write(KEEPING.format(room=shlex.quote(room), clang=shlex.quote(clang)))
     os.chmod(f"{tools}/bin/clang", 0o755)
-    compile_native(tools, f"{room}/native.a")
+    compile_crate("chip_exports", NATIVE, tools, f"{room}/native.a")
     as_text = ["-S", "-emit-llvm", "-Xclang", "-disable-llvm-passes", "-O3"]
     run(clang, "-x", "ir", f"{room}/module.bc", *as_text, "-o", f"{room}/native.ll")
     return content(f"{room}/native.ll").decode()
@@ -140,26 +100,23 @@ def module():
         return content(f"{room}/{MODULE}")
 
 
-def faults():
-    """Returns the faults of the library by their numbers: the name of each, and what is wrong, with {} for a place."""
-    table = content(TABLE).decode()
-    letters = dict(re.findall(r'const (\w+): Place = Place \{\s*letters: " ?([^"]*)"', table))
-    text = r'"((?:[^"\\]|\\[\s\S])*)"'
+def faults_for_js():
+    """Returns the faults of the package's calls by their numbers: the name of each, and what is wrong, with {} for a place."""
     found = {}
-    for row in re.finditer(rf"row!\((\d+) (\w+) (\w+):\s*{text},\s*{text}", table):
-        number, name, place, meaning, advice = row.groups()
+    rows = {number: row for number, row in faults.rows().items() if number not in OTHERS}
+    for number, (name, letters, _, meaning, advice) in rows.items():
         # (a call takes as many as a command with --large)
         most = re.search(r"With `--large` each command takes\s+up to (\d+)", advice)
         wrong = re.sub(r"more than \d+", f"more than {most[1]}", meaning) if most else meaning
-        wrong = re.sub(rf"\b{letters[place]}\b", "{}", wrong) if letters[place] else wrong
-        found[int(number)] = [name, wrong]
-    return {number: found[number] for number in NUMBERS}
+        letter = letters.strip()
+        found[number] = [name, re.sub(rf"\b{letter}\b", "{}", wrong) if letter else wrong]
+    return found
 
 
 def scripts():
     """Returns the other files of the package, by their names."""
     stated = {**json.loads(content("js/package.json")), "version": version()}
-    rows = "".join(f"  {number}: {json.dumps(it)},\n" for number, it in faults().items())
+    rows = "".join(f"  {number}: {json.dumps(it)},\n" for number, it in faults_for_js().items())
     head = "/* Of each fault its name, and what is wrong, with {} for its place. Made by tools/webassembly.py. */\n"
     return {
         **{name: content(f"js/{name}") for name in SCRIPTS},

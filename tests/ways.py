@@ -24,6 +24,7 @@ BY_LIBRARY = (
     "test_counts",
     "test_detector",
     "test_divisors",
+    "test_documented",
     "test_drops",
     "test_ensembles",
     "test_forms",
@@ -35,12 +36,19 @@ BY_LIBRARY = (
     "test_own_books",
     "test_package",
     "test_polynomials",
+    "test_published",
     "test_sandpile_words",
     "test_sandpiles",
     "test_spread",
     "test_wrong_inputs",
 )
-NOT_BY_PROCESS = ("test_broken", "test_detector", "test_own_books")
+NOT_BY_PROCESS = (
+    "test_broken",
+    "test_detector",
+    "test_documented",
+    "test_own_books",
+    "test_published",
+)
 BY_WITHOUT = (
     "test_configurations",
     "test_counts",

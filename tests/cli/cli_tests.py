@@ -5,8 +5,6 @@ examples/play.py, from chipfire.model and from player.c, which share nothing wit
 all their consistent cuts: each module says how.
 """
 
-import os
-
 import answers
 import boards
 import busy
@@ -18,6 +16,7 @@ import cut_logs
 import detectors
 import diffusing
 import drops
+import emulated
 import estimates
 import feeds
 import group
@@ -45,9 +44,9 @@ MODULES = (
 
 def tests(program, is_long):
     """Returns all tests, by the modules that have them."""
-    names = sorted(it for it in os.listdir(command_lines.CASES) if it.endswith(".cases"))
-    sets = {f"cases/{it}": command_lines.tests(program, it) for it in names}
+    sets = {f"cases/{it}": command_lines.tests(program, it) for it in command_lines.names()}
     sets["examples"] = answers.tests()
     sets |= {it.__name__: it.tests(program) for it in MODULES}
     sets["large"] = large.tests(program, is_long)
+    sets["emulated"] = emulated.tests(program, is_long)
     return listed.named(sets)

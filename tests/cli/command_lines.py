@@ -198,6 +198,11 @@ def faults_of(program, case, files):
     return [f"{case.place}: chipfire {arguments}", *faults] if faults else []
 
 
+def names():
+    """Returns the names of the files of cases."""
+    return sorted(it for it in os.listdir(CASES) if it.endswith(".cases"))
+
+
 def tests(program, name):
     """Yields the tests of a file of cases."""
     for case in read_cases(f"{CASES}/{name}"):

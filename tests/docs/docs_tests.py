@@ -1,5 +1,7 @@
-"""The list of the tests of the pages: they do what they show, what they cite is there, and their tables are true."""
+"""The list of the tests of the pages: they do what they show, what they cite is there, their links lead somewhere, and their
+tables are true."""
 
+import links
 import listed
 import names
 import sessions
@@ -9,4 +11,5 @@ import tables
 def tests(program, _is_long):
     """Returns all tests."""
     sets = {"pages": sessions.tests(), "tables": tables.tests(program), "names": names.tests()}
+    sets["links"] = links.tests()
     return listed.named(sets)

@@ -21,11 +21,11 @@ SOURCES = (".rt", ".antt", ".py", ".js", ".ts", ".edit", ".cases", ".txt", ".jso
 #: What stands for any name in a path, as in `crates/NAME/src`.
 ANY = re.compile(r"(?<![A-Za-z])(?:NAME|MODULE|FUNCTION|VERSION|FILE)(?![A-Za-z])")
 #: A place of docs/PROVED.md: names of definitions, their file, and how many lines they rest on.
-PLACE = re.compile(r"((?:`\w+`, )*`\w+`) in `(crates/[^`]+\.antt)`, ([\d,]+) lines")
+PLACE = re.compile(r"((?:`\w+`, )*`\w+`) in \[?`(crates/[^`]+\.antt)`(?:\]\(\S+\))?, ([\d,]+) lines")
 #: What is made.
 MADE = ("target", "dist", "out", "release")
 #: Where it is said what threads cost.
-THREADS = ("docs/BENCHMARKS.md", "docs/CREW.md", "crates/chip_arguments/src/commands.rt")
+THREADS = ("docs/BENCHMARKS.md", "docs/NET.md", "crates/chip_arguments/src/commands.rt")
 #: What a page of examples/ says that goes into packages, where docs/ does not.
 NOT_PACKED = "are there, and not in packages"
 
@@ -196,8 +196,8 @@ def lines_of_proofs(crate):
 
 
 def uncosted():
-    """Returns what docs/GATE.md should say of the lines and the cost of the crate that it names for that."""
-    page = " ".join(text_of("docs/GATE.md").split())
+    """Returns what CONTRIBUTING.md should say of the lines and the cost of the crate that it names for that."""
+    page = " ".join(text_of("CONTRIBUTING.md").split())
     found = re.search(r"`(\w+)` has ([\d,]+) lines of proofs [^.]* only ([^.]*?) costs? less", page)
     if found is None:
         return ["no crate"]
@@ -252,7 +252,7 @@ COMPARED = {
     "docs/BENCHMARKS.md has no row for figures of README.md": unmeasured,
     "it is not said what threads cost, by docs/BENCHMARKS.md": unsaid,
     "README.md does not name the kit of release/PROVED, and no other": misproved,
-    "docs/GATE.md does not say what a crate without code costs": uncosted,
+    "CONTRIBUTING.md does not say what a crate without code costs": uncosted,
     "the table of CONTRIBUTING.md does not name functions without tests": untested_functions,
     "examples/detector/README.md counts other refusals than deficit.txt has": misplaced_refusals,
     "examples/README.md does not name folders": unnamed_examples,

@@ -94,7 +94,7 @@ def tools_of(command):
     """What a command wants beside a shell and Python, each with whether it is here."""
     for tool in COMPILER.findall(command.text):
         yield tool, shutil.which(tool) is not None
-    if "-m venv" in command.text:
+    if "venv" in command.text:
         yield "ensurepip", subprocess.run(["python3", "-c", "import ensurepip"], capture_output=True).returncode == 0
 
 

@@ -192,6 +192,12 @@ static uint64_t identity(struct call *c)
                              c->chips, c->chips_len, &c->place);
 }
 
+static uint64_t draw(struct call *c)
+{
+    return chipfire_random_recurrent(c->vertices, c->sink, c->tails, c->edges, c->heads, c->heads_len, c->mults, c->edges,
+                                     UINT64_C(5), 0, c->games, c->chips, c->chips_len, &c->place);
+}
+
 /* Chips a, b beside the sink are in the class of a + 2b modulo 3. Its recurrent configurations are 1, 1 and 1, 0 and 0, 1,
  * and its superstable ones 0, 0 and 1, 0 and 0, 1, in the order of the classes. */
 static void try_groups(void)
@@ -211,18 +217,22 @@ static void try_groups(void)
     EXPECT(superstable(&c) == 0 && c.place == 0 && are(c.chips, 6, NUMBERS(1, 0, 0, 0, 0, 0)));
     c = start;
     EXPECT(inverse(&c) == 0 && c.place == 0 && are(c.chips, 6, NUMBERS(0, 1, 0, 1, 1, 0)));
+    c = start;
+    EXPECT(draw(&c) == 0 && c.place == 0 && are_recurrent(&c) == 0 && are(c.stopped, 2, NUMBERS(1, 1)));
     try_graphs(find_burning, one);
     try_graphs(are_recurrent, start);
     try_graphs(recurrent, start);
     try_graphs(superstable, start);
     try_graphs(inverse, start);
     try_graphs(identity, one);
+    try_graphs(draw, start);
     FAULT(find_burning, c.fired_len = 6, 12, 0);
     FAULT(are_recurrent, c.games = 1, 12, 0);
     FAULT(recurrent, c.chips_len = 5, 12, 0);
     FAULT(superstable, c.games = 3, 12, 0);
     FAULT(inverse, (c.games = 1, c.sink = 9), 12, 0);
     FAULT(identity, c.chips_len = 6, 12, 0);
+    FAULT(draw, c.games = 1, 12, 0);
     FAULT(recurrent, (c.chips[3] = UINT64_C(1) << 40), 10, 1);
     FAULT(superstable, (c.chips[1] = UINT64_MAX), 10, 0);
     FAULT(inverse, (c.chips[4] = UINT64_C(1) << 40), 10, 1);
@@ -277,6 +287,7 @@ static void try_no_pile(void)
     struct chipfire_pile pile = {0};
     uint64_t size = GUARD, extent = GUARD, lost = GUARD, chips[N] = {GUARD, GUARD, GUARD};
     EXPECT(chipfire_pile_put(&pile, 9, chips, N) == 14);
+    EXPECT(chipfire_pile_play(&pile, 1, &size) == 14);
     EXPECT(chipfire_pile_drop(&pile, 0, 1, &size, &extent, &lost) == 14);
     EXPECT(chipfire_pile_chips(&pile, chips, N) == 14 && chipfire_pile_fired(&pile, chips, N) == 14);
     struct call c = begin();
@@ -307,6 +318,25 @@ static void try_piles(void)
     EXPECT_PILE(&kept, NUMBERS(4, 0, 0), NUMBERS(0, 0, 0));
     EXPECT(chipfire_pile_drop(&kept, 2, 0, &size, &extent, &lost) == 0 && size == 0);
     EXPECT_PILE(&kept, NUMBERS(1, 0, 3), NUMBERS(2, 1, 0));
+}
+
+/* A play of four chips by no visit, which does nothing, by one visit after another, and as a whole; the limit stops one. */
+static void try_plays_of_piles(void)
+{
+    struct call c = begin();
+    uint64_t left = GUARD;
+    EXPECT(chipfire_pile_put(&kept, c.limit, NUMBERS(4, 0, 0), N) == 0);
+    EXPECT(chipfire_pile_play(&kept, 0, &left) == 0 && left == 1);
+    EXPECT_PILE(&kept, NUMBERS(4, 0, 0), NUMBERS(0, 0, 0));
+    for (int call = 0; left != 0 && call < 5; call++) EXPECT(chipfire_pile_play(&kept, 1, &left) == 0);
+    EXPECT(left == 0);
+    EXPECT_PILE(&kept, NUMBERS(1, 0, 3), NUMBERS(2, 1, 0));
+    EXPECT(chipfire_pile_play(&kept, 1, &left) == 0 && left == 0);
+    EXPECT(chipfire_pile_put(&kept, 1, NUMBERS(4, 0, 0), N) == 0);
+    left = GUARD;
+    EXPECT(chipfire_pile_play(&kept, UINT64_MAX, &left) == 13 && left == GUARD);
+    EXPECT_PILE(&kept, NUMBERS(2, 1, 1), NUMBERS(1, 0, 0));
+    EXPECT(chipfire_pile_play(&kept, 1, &left) == 13 && left == GUARD);
 }
 
 /* The same drops by one call, then none, and then one that the limit stops after two. */
@@ -548,6 +578,7 @@ int main(void)
     try_drops();
     try_no_pile();
     try_piles();
+    try_plays_of_piles();
     try_drops_on_piles();
     try_faults_of_piles();
     try_stopped_piles();

@@ -78,6 +78,8 @@ static void play_drops()
     chipfire::Pile first(graph, {4, 0, 0}), pile = std::move(first);
     EXPECT(fault_of([&] { first.chips(); }) == at(CHIPFIRE_FAULT_NO_PILE, 0));
     EXPECT((pile.chips() == Row{4, 0, 0} && pile.size() == 76 * 3 + 48 * 4));
+    EXPECT(pile.play(0) && !pile.play());
+    EXPECT((pile.chips() == Row{1, 0, 3}));
     const auto fell = pile.drop(2);
     EXPECT(fell.size == 0 && fell.extent == 0 && fell.lost == 0);
     EXPECT((pile.chips() == Row{1, 0, 4} && pile.fired() == Row{2, 1, 0}));
@@ -103,6 +105,9 @@ static void play_group()
     EXPECT((chipfire::superstable(graph, {1, 1, 7}) == Row{0, 0, 0}));
     EXPECT((chipfire::inverse(graph, {1, 0, 0}) == Row{0, 1, 0}));
     EXPECT((chipfire::burning(graph).script == Row{1, 1, 0}));
+    EXPECT((chipfire::are_recurrent(graph, chipfire::random_recurrent(graph, 5, 3)) == Row{1, 1, 1}));
+    const Row drawn = chipfire::random_recurrent(graph, 5, 3);
+    EXPECT((chipfire::random_recurrent(graph, 5, 1, 2) == Row(drawn.begin() + 6, drawn.end())));
     EXPECT(fault_of([&] { chipfire::recurrent(graph, {1, 1}); }) == at(CHIPFIRE_FAULT_LENGTHS, 0));
     const chipfire::Graph endless(std::numeric_limits<std::uint64_t>::max(), 0);
     EXPECT(fault_of([&] { chipfire::identity(endless); }) == at(CHIPFIRE_FAULT_VERTICES, 0));

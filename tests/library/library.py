@@ -74,11 +74,12 @@ class Graph:
 def called(function, graph, limit, inputs, outputs):
     """Returns the status of a call, its place, and what stands in the slices that it may write.
 
-    On a fault these are as they were, which is looked at here. `limit` is None where the call has none."""
+    On a fault these are as they were, which is looked at here. `limit` is None where the call has none, and a tuple where it
+    has several numbers there."""
     inputs, outputs, place = [Slice(it) for it in inputs], [Slice(it) for it in outputs], Slice([7])
     words = [word for it in (*inputs, *outputs) for word in it.words()]
-    limits = [] if limit is None else [limit]
-    status = function(*graph.words(), *limits, *words, place.words()[0])
+    numbers = limit if isinstance(limit, tuple) else (limit,) * (limit is not None)
+    status = function(*graph.words(), *numbers, *words, place.words()[0])
     now = [it.now() for it in outputs]
     assert status == 0 or now == [it.numbers for it in outputs], "a fault that has written"
     assert [it.now() for it in (*inputs, *graph.columns)] == [it.numbers for it in (*inputs, *graph.columns)]

@@ -61,25 +61,24 @@ static void write_rows(uint64_t count, uint64_t part, const char *kind, uint64_t
 }
 
 /* Keeps the books, between pauses: rows of what others then see come before, and rows of what was seen behind. */
-static uint64_t sent(struct chipfire_tally *outs, size_t length, uint64_t edge);
-static uint64_t acknowledged(struct chipfire_tally *ins, size_t length, struct chipfire_tally *outs, size_t outs_length,
-                             uint64_t *parent, uint64_t edge, uint64_t passive, uint64_t count);
-static uint64_t settled(struct chipfire_tally *outs, size_t length, uint64_t edge, uint64_t word, uint64_t *more);
-static uint64_t judged(const struct chipfire_tally *outs, size_t length, uint64_t ended, uint64_t *over);
+static uint64_t sent(struct chipfire_books *books, uint64_t edge);
+static uint64_t acknowledged(struct chipfire_books *books, uint64_t edge, uint64_t passive, uint64_t *count, uint64_t *word);
+static uint64_t settled(struct chipfire_books *books, uint64_t edge, uint64_t word, uint64_t *more);
+static uint64_t judged(const struct chipfire_books *books, uint64_t ended, uint64_t *over);
 
-#define chipfire_sent sent
-#define chipfire_got(...) (pause_at_times(), (chipfire_got)(__VA_ARGS__))
-#define chipfire_acked acknowledged
-#define chipfire_settled settled
-#define chipfire_is_over judged
+#define chipfire_books_sent sent
+#define chipfire_books_got(...) (pause_at_times(), (chipfire_books_got)(__VA_ARGS__))
+#define chipfire_books_acknowledge acknowledged
+#define chipfire_books_settled settled
+#define chipfire_books_is_over judged
 #define main example
 #include "steal.c"
 #undef main
-#undef chipfire_sent
-#undef chipfire_got
-#undef chipfire_acked
-#undef chipfire_settled
-#undef chipfire_is_over
+#undef chipfire_books_sent
+#undef chipfire_books_got
+#undef chipfire_books_acknowledge
+#undef chipfire_books_settled
+#undef chipfire_books_is_over
 
 /* How many tasks each part has, which wait or are worked on. */
 static unsigned tasks_of[PARTS + 1];
@@ -114,7 +113,7 @@ static void got_late(struct part *me)
     if (late == NO_EDGE) return;
     linger(3000);
     pthread_mutex_lock(&me->lock);
-    must(chipfire_got(me->ins, PARTS + 1, &me->parent, (uint64_t)late));
+    must(chipfire_books_got(&me->books, (uint64_t)late));
     pthread_mutex_unlock(&me->lock);
     late = NO_EDGE;
 }
@@ -131,30 +130,30 @@ static void finished(struct part *me)
     pause_at_times();
 }
 
-static uint64_t sent(struct chipfire_tally *outs, size_t length, uint64_t edge)
+static uint64_t sent(struct chipfire_books *books, uint64_t edge)
 {
     pause_at_times();
     pthread_mutex_lock(&truth);
     write_rows(1, edge / PARTS, "send", edge);
     closed(edge / PARTS);
     pthread_mutex_unlock(&truth);
-    return chipfire_sent(outs, length, edge);
+    return chipfire_books_sent(books, edge);
 }
 
-static uint64_t acknowledged(struct chipfire_tally *ins, size_t length, struct chipfire_tally *outs, size_t outs_length,
-                             uint64_t *parent, uint64_t edge, uint64_t passive, uint64_t count)
+static uint64_t acknowledged(struct chipfire_books *books, uint64_t edge, uint64_t passive, uint64_t *count, uint64_t *word)
 {
     pause_at_times();
+    uint64_t refusal = chipfire_books_acknowledge(books, edge, passive, count, word);
     pthread_mutex_lock(&truth);
-    write_rows(count, edge % PARTS, "tell", edge);
+    if (refusal == 0) write_rows(*count, edge % PARTS, "tell", edge);
     pthread_mutex_unlock(&truth);
-    return chipfire_acked(ins, length, outs, outs_length, parent, edge, passive, count);
+    return refusal;
 }
 
-static uint64_t settled(struct chipfire_tally *outs, size_t length, uint64_t edge, uint64_t word, uint64_t *more)
+static uint64_t settled(struct chipfire_books *books, uint64_t edge, uint64_t word, uint64_t *more)
 {
     pause_at_times();
-    uint64_t refusal = chipfire_settled(outs, length, edge, word, more);
+    uint64_t refusal = chipfire_books_settled(books, edge, word, more);
     pthread_mutex_lock(&truth);
     if (refusal == 0) write_rows(*more, edge / PARTS, "hear", edge);
     pthread_mutex_unlock(&truth);
@@ -162,10 +161,10 @@ static uint64_t settled(struct chipfire_tally *outs, size_t length, uint64_t edg
 }
 
 /* Asks the root, and judges its answer. A run that is missed ends here. */
-static uint64_t judged(const struct chipfire_tally *outs, size_t length, uint64_t ended, uint64_t *over)
+static uint64_t judged(const struct chipfire_books *books, uint64_t ended, uint64_t *over)
 {
     pthread_mutex_lock(&truth);
-    uint64_t refusal = chipfire_is_over(outs, length, ended, over);
+    uint64_t refusal = chipfire_books_is_over(books, ended, over);
     write_rows(refusal == 0 && *over != 0, ROOT, "over", 0);
     if (*over != 0 && tasks > 0) early++;
     if (*over == 0 && tasks == 0 && time(NULL) > last_task + MISSED_AFTER) {

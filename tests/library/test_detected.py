@@ -38,7 +38,7 @@ STEAL_COUNTED = [
     ("search(me, task);\n        pthread", "search(me, task);\n        if (has_task) finished(me);\n        pthread"),
 ]
 STEAL_WRONG = {
-    "got after the work": [("must(chipfire_got(me->ins, PARTS + 1, &me->parent, edge));", "late = (int64_t)edge;")],
+    "got after the work": [("must(chipfire_books_got(&me->books, edge));", "late = (int64_t)edge;")],
     "acknowledged before the work": [("edge));\n    me->busy++;", "edge));\n    acknowledge(me);\n    me->busy++;")],
     "passive too early": [("me->count == 0 && me->busy == 0", "me->count == 0")],
 }
@@ -215,6 +215,17 @@ class Steal(Soak):
         need("gcc")
         self.runs(*COMPILE, STEAL, STATIC, "-o", f"{self.room}/steal")
         self.assertEqual(self.runs(f"{self.room}/steal"), "92 ways\n")
+
+    def test_a_message_that_is_acknowledged_twice_is_refused(self):
+        """The root sends one message, so the books of the root refuse a second acknowledgement, if none does before."""
+        need("gcc")
+        twice = [("atomic_store(&acked[edge], word);", "atomic_store(&acked[edge], 2 * word);")]
+        with open(f"{self.room}/twice.c", "w", encoding="utf-8") as file:
+            file.write(edited(STEAL, twice))
+        self.runs(*COMPILE, f"{self.room}/twice.c", STATIC, "-o", f"{self.room}/twice")
+        ran = run(f"{self.room}/twice")
+        self.assertEqual((ran.returncode, ran.stdout), (1, ""))
+        self.assertIn("refusal 46: ", ran.stderr)
 
     def outcome(self, name, runs):
         """Runs steal.c so many times, or a wrong use."""

@@ -116,7 +116,7 @@ class Explained(Room):
         header, formats = map(text_of, (HEADER, f"{ROOT}/docs/FORMATS.md"))
         numbers = re.findall(r"^ \*     (4\d)  ", header, re.MULTILINE)
         self.assertEqual(numbers, ["46", "47"])
-        page = re.search(r"^\| 46, 47 \|.*\(`(.*)`\) \|$", formats, re.MULTILINE)[1]
+        page = re.search(r"^\| 46, 47 \|.*`(tasks/.*)`", formats, re.MULTILINE)[1]
         for number in numbers:
             self.assertRegex(self.runs(library.PROGRAM, "explain", number), rf"^fault {number} ")
             self.assertIn(f" with {number} if ", text_of(f"{ROOT}/docs/{page}"))

@@ -51,6 +51,11 @@ class Pile:
         chips = Slice(chips)
         return LIBRARY.chipfire_pile_put(self.at, limit, *chips.words())
 
+    def play(self, visits):
+        left = Slice([GUARD])
+        status = LIBRARY.chipfire_pile_play(self.at, visits, left.words()[0])
+        return self.answer(status, left.now()[0], GUARD)
+
     def drop(self, vertex, amount):
         told = [Slice([GUARD]) for _ in range(3)]
         status = LIBRARY.chipfire_pile_drop(self.at, vertex, amount, *(it.words()[0] for it in told))
@@ -124,6 +129,27 @@ class Piles(unittest.TestCase):
         self.assertEqual(pile.drops(drops), wanted)
         self.assertEqual(pile.now(), [chips, fired])
 
+    def expect_portions(self, pile, visits, ends, stopped):
+        """Plays a pile that was just begun by so many visits a call: counts rise in each until all is as at the end."""
+        before = pile.now()
+        self.assertEqual(pile.play(0), (0, 1))
+        self.assertEqual(pile.now(), before)
+        portions = 0
+        while True:
+            told, now = pile.play(visits), pile.now()
+            portions += 1
+            self.assertTrue(all(map(int.__le__, before[1], now[1])))
+            if told != (0, 1):
+                break
+            self.assertGreater(sum(now[1]), sum(before[1]))
+            before = now
+        self.assertEqual(now, ends)
+        for _ in range(2):
+            self.assertEqual(told, (13, None) if stopped else (0, 0))
+            told = pile.play(visits)
+        self.assertEqual(pile.now(), ends)
+        return portions
+
     def expect_nothing_new(self, pile, fault, call, *words):
         """Looks that a call has a fault and leaves the pile as it was."""
         before = pile.now()
@@ -143,6 +169,16 @@ class Small(Piles):
                     self.expect_drops(pile, list(chips), drops, limit)
                     self.assertEqual(pile.put(chips, limit), 0)
                     self.expect_one_call(pile, list(chips), drops, limit)
+
+    def test_all_plays_on_the_triangle_in_portions(self):
+        pile = self.pile(TRIANGLE)
+        pile.new([0, 0, 0])
+        for limit in (0, 1, 3, LARGEST):
+            for chips in itertools.product(range(5), range(5), range(2)):
+                ends, fired, stopped, _ = stepped(TRIANGLE, list(chips), limit)
+                for visits in (1, 2**64 - 1):
+                    self.assertEqual(pile.put(chips, limit), 0)
+                    self.expect_portions(pile, visits, [ends, fired], stopped)
 
     def test_the_sink_alone(self):
         pile = self.pile(Graph(1, 0, []))
@@ -176,6 +212,7 @@ class Small(Piles):
         pile = self.pile(TRIANGLE)
         for _ in range(2):
             self.assertEqual((pile.put([0, 0, 0]), pile.drop(0, 1)), (14, (14, None)))
+            self.assertEqual(pile.play(1), (14, None))
             self.assertEqual((pile.drops([(9, 1)]), pile.size()), ((14, 0, [(GUARD,) * 3]), 0))
             self.assertEqual(pile.now(), [None, None])
             self.assertEqual(pile.free(), (0, None))
@@ -195,6 +232,40 @@ class Random(Piles):
                 self.expect_drops(pile, chips, drops, limit)
                 self.assertEqual(pile.put(chips, limit), 0)
                 self.expect_one_call(pile, chips, drops, limit)
+
+    def test_in_portions_beside_one_call(self):
+        """Games that take long: on a grid, on a path and on a one-way ring, by few visits and by many."""
+        ring = Graph(41, 40, [edge for at in range(40) for edge in ((at, (at + 1) % 40, 9), (at, 40, 1))])
+        path = Graph(61, 60, [edge for at in range(60) for edge in ((at, at + 1, 1), (at + 1, at, 1)) if edge[0] < 60])
+        for graph, heap in (grid(30), 5000), (path, 3000), (ring, 2000):
+            chips = [heap] + [1] * (graph.vertices - 1)
+            ((ends, fired, _),) = stabilize_all(graph, [chips])[2]
+            pile = self.pile(graph)
+            pile.new(chips)
+            self.expect_portions(pile, 1, [ends, fired], False)
+            for visits in (1000, 10**6):
+                self.assertEqual(pile.put(chips), 0)
+                self.expect_portions(pile, visits, [ends, fired], False)
+            limit = max(fired) // 2
+            ((ends, fired, _),) = stabilize_all(graph, [chips], limit=limit)[2]
+            for visits in (1, 10**6):
+                self.assertEqual(pile.put(chips, limit), 0)
+                self.expect_portions(pile, visits, [ends, fired], True)
+
+    def test_a_drop_and_other_chips_between_two_portions(self):
+        graph = grid(20)
+        chips = [6] * graph.vertices
+        pile, whole = self.pile(graph), self.pile(graph)
+        for it in (pile, whole):
+            it.new(chips)
+        self.assertEqual(pile.play(1), (0, 1))
+        self.assertEqual(pile.drop(7, 9), whole.drop(7, 9))
+        self.assertEqual((pile.now(), pile.play(1)), (whole.now(), (0, 0)))
+        pile.put(chips)
+        self.assertEqual(pile.play(1), (0, 1))
+        self.assertEqual((pile.put(chips), pile.now()), (0, [chips, [0] * graph.vertices]))
+        whole.put(chips)
+        self.assertEqual(pile.drop(7, 9), whole.drop(7, 9))
 
     def test_beside_one_call_on_a_grid(self):
         draw, graph = random.Random("piles: grid"), grid(20)

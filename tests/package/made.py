@@ -172,13 +172,30 @@ def build(top, program=PROGRAM):
     write(f"{top}/target/chipfire.stamp", f"{KIT}\n".encode())
 
 
+#: What stands for a cross compiler: it tells its version, and where files lie, beside itself.
+COMPILER = """#!/bin/sh
+case $1 in --version) echo '{}' ;; *) echo "${{0%/*}}/lib/${{1#*=}}" ;; esac
+"""
+#: What stands for an emulator: the program is one for this machine.
+EMULATOR = "#!/bin/sh\nshift 2\nexec \"$@\"\n"
+
+
 @functools.cache
-def made_up_tools(version="wasm-opt version 1 (made up)", tells=None):
-    """Returns a PATH with a wasm-opt of this version, and a Node that tells another, or that of the program."""
-    folder = f"{rooms()}/tools {version} {tells}"
-    os.mkdir(folder)
-    for name, says in (("wasm-opt", version), ("node", tells or globals()["version"]())):
-        write(f"{folder}/{name}", f"#!/bin/sh\necho '{says}'\n".encode())
+def made_up_tools(version="wasm-opt version 1 (made up)", tells=None, compiler="gcc 1 (made up)"):
+    """Returns a PATH with a wasm-opt of this version, a Node that tells another, or that of the program, and what stands for a
+    cross compiler and an emulator of aarch64."""
+    folder = f"{rooms()}/tools {version} {tells} {compiler}"
+    os.makedirs(f"{folder}/lib")
+    write(f"{folder}/lib/libc.so.6", b"GNU C Library (made up) stable release")
+    write(f"{folder}/lib/Scrt1.o", b"")
+    tools = {
+        "wasm-opt": f"#!/bin/sh\necho '{version}'\n",
+        "node": f"#!/bin/sh\necho '{tells or globals()['version']()}'\n",
+        "aarch64-linux-gnu-gcc": COMPILER.format(compiler),
+        "qemu-aarch64": EMULATOR,
+    }
+    for name, text in tools.items():
+        write(f"{folder}/{name}", text.encode())
         os.chmod(f"{folder}/{name}", 0o755)
     return f"{folder}:{PATH}"
 
@@ -192,10 +209,24 @@ def make_up_module(top, data=b"\0asm made up"):
     write(script, text.replace(old, f"{{MODULE: {data!r}, ").encode())
 
 
-def make_web(top, folder):
-    """Makes the package for browsers and Node, and its page, by the scripts of a checkout, in the folder js of another."""
-    for name in ("webassembly", "board"):
-        run(sys.executable, f"{top}/tools/{name}.py", f"{folder}/js", check=True)
+def make_up_aarch64(top):
+    """Has the script of a checkout that makes what is for aarch64 make what is for this machine, and a byte more, since the
+    real one takes the kit."""
+    names = [os.path.basename(PROGRAM), *LIBRARIES]
+    files = {name: f"{os.path.dirname(PROGRAM)}/{name}" for name in names}
+    script = f"""import os, shutil, sys
+os.makedirs(sys.argv[1])
+for name, path in {files!r}.items():
+    shutil.copy(path, sys.argv[1])
+    with open(f"{{sys.argv[1]}}/{{name}}", "ab") as file:
+        file.write(bytes(1))
+"""
+    write(f"{top}/tools/aarch64.py", script.encode())
+
+
+def make_parts(top, folder):
+    """Makes what is for aarch64, and for browsers and Node, by the scripts of a checkout, in folders of another."""
+    run(sys.executable, f"{top}/tools/parts.py", folder, check=True, PATH=made_up_tools())
 
 
 @functools.cache
@@ -265,10 +296,16 @@ def copied():
     return top
 
 
+#: How the name of each package for this machine ends: the archive, the Debian package, and the wheels with and without the
+#: program.
+PACKAGES = ("-x86_64-linux.tar.xz", "_amd64.deb", "_2_34_x86_64.whl", "_2_14_x86_64.whl")
+
+
 def path_of(end, top=None):
-    """Returns the path of the package whose name ends so."""
+    """Returns the path of the package whose name ends so, of this machine, and of the wheels that with the program."""
     dist = f"{top or home()}/dist"
-    return next(f"{dist}/{it}" for it in os.listdir(dist) if it.endswith(end))
+    found = [whole for whole in PACKAGES if whole.endswith(end)] or [end]
+    return next(f"{dist}/{it}" for it in os.listdir(dist) if it.endswith(found[0]))
 
 
 @kept

@@ -1,10 +1,10 @@
-"""The manual page and the completions have each command and option that --help has, and work."""
+"""The manual pages and the completions have each command and option that --help has, and work."""
 import functools
+import os
 import re
 
 import made
 
-MANUAL = "share/man/man1/chipfire.1"
 BASH = "share/bash-completion/completions/chipfire"
 ZSH = "share/zsh/vendor-completions/_chipfire"
 FISH = "share/fish/vendor_completions.d/chipfire.fish"
@@ -47,41 +47,59 @@ class Helps(made.Test):
 class Manual(made.Test):
     @staticmethod
     @functools.cache
-    def page():
-        """Returns the page as `man` shows it."""
+    def page(name="chipfire", section=1):
+        """Returns a page as `man` shows it."""
         made.need("man")
-        words = ["man", "--nh", "--nj", "--warnings=w", "-l", f"{made.unpacked()}/{MANUAL}"]
+        words = ["man", "--nh", "--nj", "--warnings=w", "-l", f"{made.unpacked()}/share/man/man{section}/{name}.{section}"]
         shown = made.run(*words, MANWIDTH="400")
         if (shown.returncode, shown.stderr) != (0, ""):
             raise AssertionError(shown.stderr)
         return shown.stdout
 
-    def parts(self):
-        """Returns what the page says of each command, by its name."""
-        behind = self.page().partition("\nCOMMANDS\n")[2]
-        split = re.split(r"^   chipfire ([a-z]+).*$", behind, flags=re.MULTILINE)
-        return dict(zip(split[1::2], split[2::2]))
+    def pages(self):
+        """Returns the page of the program, by the name "", and that of each command by its name."""
+        return {"": self.page(), **{name: self.page(f"chipfire-{name}") for name in commands()}}
 
-    def test_it_has_a_part_for_each_command(self):
-        self.assertEqual(list(self.parts()), commands())
+    def test_there_is_a_page_for_each_command_and_the_first_lists_them(self):
+        there = {it.removesuffix(".1") for it in os.listdir(f"{made.unpacked()}/share/man/man1")}
+        self.assertEqual(there, {"chipfire", *(f"chipfire-{name}" for name in commands())})
+        listed = self.page().partition("\nCOMMANDS\n")[2].partition("\nOPTIONS\n")[0]
+        self.assertEqual(re.findall(r"^ {7}chipfire-([a-z]+)\(1\)", listed, re.MULTILINE), commands())
 
-    def test_each_part_has_each_option(self):
-        parts = {"": self.page().partition("\nOPTIONS\n")[2].partition("\nCOMMANDS\n")[0], **self.parts()}
-        for name, part in parts.items():
+    def test_the_first_begins_with_what_the_program_does(self):
+        self.assertRegex(self.page(), r"\nDESCRIPTION\n +chipfire stabilizes abelian sandpiles")
+
+    def test_each_has_each_option(self):
+        for name, page in self.pages().items():
+            part = re.search(r"\nOPTIONS\n(.*?)(?=\n[A-Z]|\Z)", page, re.DOTALL)[1]
             heads = re.findall(r"^ {7}(-.*?)(?:  .*)?$", part, re.MULTILINE)
             self.assertEqual(sorted(re.findall(r"(?<!\S)--?[A-Za-z-]+", " ".join(heads))), words(name), name)
 
-    def test_it_says_all_that_the_help_says(self):
-        page = spaced(self.page())
-        for text in helps().values():
-            for line in re.findall(r"^ +(?!help )\S.*?  +(\S.*)$", text, re.MULTILINE):
-                self.assertIn(spaced(line), page)
-            for block in text.split("\n\n"):
+    def test_each_says_all_that_its_help_says(self):
+        for name, page in self.pages().items():
+            for line in re.findall(r"^ +(?!help )\S.*?  +(\S.*)$", helps()[name], re.MULTILINE):
+                self.assertIn(spaced(line), spaced(page))
+            for block in helps()[name].split("\n\n"):
                 if not block.startswith(("Usage: ", "Options:", "Arguments:", "Commands:")):
-                    self.assertIn(spaced(block)[1:], page)
+                    self.assertIn(spaced(block)[1:], spaced(page))
 
-    def test_it_names_the_version(self):
-        self.assertRegex(self.page().splitlines()[-1], rf"^chipfire {re.escape(made.version())} ")
+    def test_each_names_the_version(self):
+        for page in (*self.pages().values(), self.page(section=3), self.page(section=5)):
+            self.assertRegex(page.splitlines()[-1], rf"^chipfire {re.escape(made.version())} ")
+
+    def test_that_of_the_library_has_each_declaration(self):
+        declared = re.findall(r"\b(chipfire_\w+)\(", made.read(f"{made.ROOT}/include/chipfire.h").decode())
+        page = self.page(section=3)
+        self.assertGreater(len(declared), 20)
+        self.assertEqual([it for it in declared if it not in page], [])
+
+    def test_that_of_files_has_each_part_and_fault(self):
+        text = made.read(f"{made.ROOT}/docs/FORMATS.md").decode()
+        page = self.page(section=5)
+        for heading in re.findall("^## (.*)$", text, re.MULTILINE):
+            self.assertIn(f"\n{heading.upper()}\n", page)
+        for number, name in re.findall(r"^\| (\d+) \| `(\w+)", text, re.MULTILINE):
+            self.assertRegex(page, rf"\n {{7}}{number} {name}\b")
 
 
 class Bash(made.Test):

@@ -56,7 +56,8 @@ class Made(made.Test):
         top, stated = released(), lines_of(released())
         for word, path in files_of(top).items():
             self.assertEqual(stated[word], f"sha256:{hashlib.sha256(made.read(path)).hexdigest()}")
-        summed = "find include/chipfire.h tools/board.py tools/heap.c tools/webassembly.py js -type f"
+        made_of = "include/chipfire.h packing/faults.py tools/board.py tools/heap.c tools/making.py tools/webassembly.py js"
+        summed = f"find {made_of} -type f"
         words = f"{summed} | LC_ALL=C sort | xargs -d '\\n' sha256sum | sha256sum"
         shown = made.run("bash", "-c", words, cwd=top, check=True).stdout.split()[0]
         self.assertEqual(stated["web-sources"], f"sha256:{shown}")
@@ -89,6 +90,8 @@ class Made(made.Test):
 
 
 class NotMade(made.Test):
+    """Without all tools, of other sources or what does not start there is no release."""
+
     def refuses(self, top, why, **more):
         made.build(top)
         before = {name: made.read(f"{top}/release/{name}") for name in os.listdir(f"{top}/release")}
@@ -98,20 +101,41 @@ class NotMade(made.Test):
         self.assertEqual({name: made.read(f"{top}/release/{name}") for name in os.listdir(f"{top}/release")}, before)
 
     def test_without_a_tool(self):
-        tools = made.room()
-        self.refuses(clone(), "wasm-opt is not on the PATH: Debian's package binaryen has it", PATH=tools)
-        shutil.copy(f"{made.made_up_tools().partition(':')[0]}/wasm-opt", tools)
-        self.refuses(clone(), "node is not on the PATH: Debian's package nodejs has it", PATH=tools)
+        """Of aarch64 too; its C library is a tool."""
+        made_up, tools = made.made_up_tools().partition(":")[0], made.room()
+        lacking = {
+            "aarch64-linux-gnu-gcc": "gcc-aarch64-linux-gnu",
+            "qemu-aarch64": "qemu-user",
+            "wasm-opt": "binaryen",
+            "node": "nodejs",
+        }
+        for tool, package in lacking.items():
+            self.refuses(clone(), f"{tool} is not on the PATH: Debian's package {package} has it", PATH=tools)
+            if tool == "wasm-opt":
+                os.rename(f"{tools}/lib", f"{tools}/other")
+                why = "aarch64-linux-gnu-gcc has no C library: Debian's package libc6-dev-arm64-cross has it"
+                self.refuses(clone(), why, PATH=tools)
+                os.rename(f"{tools}/other", f"{tools}/lib")
+            shutil.copy(f"{made_up}/{tool}", tools)
+            shutil.copytree(f"{made_up}/lib", f"{tools}/lib", dirs_exist_ok=True)
 
     def test_where_it_does_not_start_in_Node(self):
         path = made.made_up_tools(tells="another version")
         self.refuses(clone(), "the package for browsers and Node does not start in Node", PATH=path)
 
     def test_where_the_script_fails(self):
+        for script, its in (("webassembly", "the package for browsers and Node"), ("aarch64", "what is for aarch64")):
+            top = clone()
+            made.write(f"{top}/tools/{script}.py", b"raise SystemExit('there is no kit')\n")
+            made.commit(top)
+            self.refuses(top, f"{its} could not be made")
+
+    def test_where_the_program_for_aarch64_does_not_start(self):
         top = clone()
-        made.write(f"{top}/tools/webassembly.py", b"raise SystemExit('there is no kit')\n")
+        script = made.read(f"{top}/tools/aarch64.py").decode().replace("bytes(1)", "bytes(1) * file.truncate(99)")
+        made.write(f"{top}/tools/aarch64.py", script.encode())
         made.commit(top)
-        self.refuses(top, "the package for browsers and Node could not be made")
+        self.refuses(top, "the program for aarch64 does not start by qemu-aarch64")
 
     def test_of_a_page_that_is_not_committed(self):
         top = clone()
@@ -186,7 +210,8 @@ class Taken(made.Test):
 
 
 class Compared(Comparing):
-    ANY = ".*"
+    #: What is said of program and libraries, and of what is for aarch64.
+    ANY = (".*", ".*")
 
     def test_a_byte_changed(self):
         """That fails always: whatever kit and sources are here."""
@@ -217,13 +242,13 @@ class Compared(Comparing):
         folder = self.another("js/chipfire.wasm")
         for path, here in ((made.made_up_tools("wasm-opt version 2"), "wasm-opt version 2"), (without_tools(), "no wasm-opt")):
             answer = self.compare(released(), folder, PATH=path)
-            self.goes_on(answer, self.ANY, rf"{TITLE}was made by .*, and is not compared: here are {made.KIT} and {here}\.")
+            self.goes_on(answer, *self.ANY, rf"{TITLE}was made by .*, and is not compared: here are {made.KIT} and {here}\.")
 
     def test_other_sources(self):
         top = clone()
         change_page(top)
         answer = self.compare(top, self.another("js/chipfire.wasm"))
-        self.goes_on(answer, self.ANY, f"{TITLE}was made of other sources than these, or is not there.")
+        self.goes_on(answer, *self.ANY, f"{TITLE}was made of other sources than these, or is not there.")
 
     def test_what_is_missing(self):
         folder = f"{made.room()}/target"
@@ -241,7 +266,7 @@ class Compared(Comparing):
             shutil.copy(path, f"{top}/release")
         self.assertNotIn("web-sources", lines_of(top))
         forget(top)
-        self.goes_on(self.compare(top), self.ANY, f"{TITLE}was made of other sources than these, or is not there.")
+        self.goes_on(self.compare(top), *self.ANY, f"{TITLE}was made of other sources than these, or is not there.")
 
     def test_another_module_in_the_package_for_npm(self):
         """All sums are as stated, and yet there are two modules."""
@@ -260,14 +285,20 @@ class Compared(Comparing):
         made.write(tgz_of(top), data)
         proved = made.read(f"{top}/release/PROVED").replace(old, new)
         made.write(f"{top}/release/PROVED", proved)
-        with tarfile.open(archive_of(top)) as tar:
-            inside = [(it, tar.extractfile(it).read() if it.isreg() else None) for it in tar]
-        with tarfile.open(archive_of(top), "w:xz", preset=0) as tar:
-            for entry, its in inside:
-                its = proved if entry.name.endswith("/PROVED") else its
-                entry.size = len(its or b"")
-                tar.addfile(entry, io.BytesIO(its or b""))
+        for machine in ("x86_64", "aarch64"):
+            put_proved(archive_of(top, machine), proved)
         forget(top)
+
+
+def put_proved(archive, proved):
+    """Puts another PROVED into an archive."""
+    with tarfile.open(archive) as tar:
+        inside = [(it, tar.extractfile(it).read() if it.isreg() else None) for it in tar]
+    with tarfile.open(archive, "w:xz", preset=0) as tar:
+        for entry, its in inside:
+            its = proved if entry.name.endswith("/PROVED") else its
+            entry.size = len(its or b"")
+            tar.addfile(entry, io.BytesIO(its or b""))
 
 
 def without_tools():

@@ -1,5 +1,6 @@
 """Each package is installed where there is nothing else, and answers."""
 import ast
+import glob
 import json
 import os
 import re
@@ -254,6 +255,35 @@ class Wheel(Answers):
         asked = made.run(sys.executable, *ask, PYTHONPATH=room, PATH=path)
         self.assertEqual(asked.stdout, f"{path}/chipfire {made.version()}\n")
         self.assertIn("ProgramNotFound", made.run(sys.executable, *ask, PYTHONPATH=room, PATH=room).stderr)
+
+
+class TwoWheels(made.Test):
+    """Of the two wheels pip takes the one that the system's C library is new enough for."""
+
+    #: What has pip take the C library for an older one than the program's (PEP 600).
+    OLD = b"def manylinux_compatible(major, minor, machine):\n    return (major, minor) < (2, 34)\n"
+    ASK = "import chipfire; print(chipfire.__version__, chipfire.find_library(), chipfire.plain(chipfire.path(1), [3]).fired)"
+
+    def installed(self, is_old):
+        """Returns an environment in which pip installed what it chose."""
+        room = made.virtual_environment()
+        if is_old:
+            (packages,) = glob.glob(f"{glob.escape(room)}/lib/python3*/site-packages")
+            made.write(f"{packages}/_manylinux.py", self.OLD)
+        made.pip(room, "install", "--no-index", "--find-links", f"{made.home()}/dist", "chipfire", check=True)
+        return room
+
+    def test_with_a_new_one_there_is_the_program(self):
+        room = self.installed(is_old=False)
+        self.assertEqual(made.run(f"{room}/bin/chipfire", "--version").stdout, f"chipfire {made.version()}\n")
+
+    def test_with_an_old_one_there_is_the_library_alone(self):
+        room = self.installed(is_old=True)
+        self.assertFalse(os.path.exists(f"{room}/bin/chipfire"))
+        asked = made.run(f"{room}/bin/python", "-c", self.ASK, cwd=made.room())
+        place = os.path.realpath(room)
+        self.assertRegex(asked.stdout, rf"\A{made.version()} {place}/.*/chipfire/program/libchipfire.so \(1, 0\)\n\Z")
+        self.assertEqual(asked.stderr, "")
 
 
 class Editable(made.Test):

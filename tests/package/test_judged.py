@@ -8,7 +8,7 @@ import zipfile
 
 import made
 
-PACKAGES = (".tar.xz", ".deb", ".whl")
+PACKAGES = made.PACKAGES
 PROVED = "share/doc/chipfire/PROVED"
 
 

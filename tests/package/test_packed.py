@@ -11,6 +11,7 @@ import time
 import zipfile
 
 import made
+import test_documents
 
 #: What wheels.py packs where Python's own gzip writes another system.
 PACKED = """
@@ -60,8 +61,8 @@ def proved_crates():
 class Made(made.Test):
     def test_names(self):
         version = made.version()
-        wheel = f"chipfire-{version}-py3-none-manylinux_2_34_x86_64.whl"
-        names = {f"chipfire-{version}-x86_64-linux.tar.xz", f"chipfire_{version}_amd64.deb", wheel, "PROVED"}
+        wheels = {f"chipfire-{version}-py3-none-manylinux_2_{it}_x86_64.whl" for it in (34, 14)}
+        names = {f"chipfire-{version}-x86_64-linux.tar.xz", f"chipfire_{version}_amd64.deb", *wheels, "PROVED"}
         self.assertEqual(set(os.listdir(f"{made.home()}/dist")), names)
 
     def test_the_same_bytes_each_time(self):
@@ -144,7 +145,8 @@ class Compressed(made.Test):
         room = made.room()
         made.run("dpkg-deb", "-x", made.path_of(".deb"), room, check=True)
         packed = [f"{folder}/{name}" for folder, _, names in os.walk(room) for name in names if name.endswith(".gz")]
-        self.assertEqual(sorted(map(os.path.basename, packed)), ["changelog.gz", "chipfire.1.gz"])
+        pages = ["chipfire.1", *(f"chipfire-{it}.1" for it in test_documents.commands()), "chipfire.3", "chipfire.5"]
+        self.assertEqual(sorted(map(os.path.basename, packed)), sorted(f"{it}.gz" for it in ["changelog", *pages]))
         for path in packed:
             self.assertEqual(made.read(path)[:10], self.HEAD, path)
 
@@ -246,10 +248,12 @@ class Needs(made.Test):
         self.assertLessEqual(of_library, newest)
         self.assertLessEqual(newest, OLDEST)
         text = "{}.{}".format(*newest)
-        self.assertIn(f"glibc {text} or newer", page())
         depends = made.run("dpkg-deb", "-f", made.path_of(".deb"), "Depends").stdout
         self.assertEqual(depends, f"libc6 (>= {text})\n")
         self.assertIn("manylinux_{}_{}_x86_64".format(*newest), made.path_of(".whl"))
+        self.assertIn("manylinux_{}_{}_x86_64".format(*of_library), made.path_of("_2_14_x86_64.whl"))
+        for its, word in ((newest, "program"), (of_library, "library")):
+            self.assertIn("| {} for x86-64 | {}.{} |".format(word, *its), page())
 
     def test_debian_finds_the_same_dependency(self):
         made.need("dpkg-shlibdeps")

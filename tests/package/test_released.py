@@ -7,6 +7,8 @@ import zipfile
 
 import made
 
+#: What is made beside program and libraries, as it is called.
+PARTS = ("What is for aarch64", "The package for browsers and Node")
 #: What is asked of the Python package.
 ASK = "import chipfire; print(chipfire.find_program(), chipfire.plain(chipfire.path(1), [3]).fired)"
 
@@ -16,6 +18,7 @@ def released():
     """Returns a checkout that carries a release of its sources, and has nothing built; no test changes it."""
     top = made.checkout()
     made.make_up_module(top)
+    made.make_up_aarch64(top)
     made.commit(top)
     made.build(top)
     answer = made.package(top, "--release", PATH=made.made_up_tools())
@@ -31,7 +34,7 @@ def built():
     """Returns a folder with what is in it, as the gate builds that."""
     top = made.room()
     made.build(top)
-    made.make_web(released(), f"{top}/target")
+    made.make_parts(released(), f"{top}/target")
     return f"{top}/target"
 
 
@@ -40,8 +43,8 @@ def clone():
     return made.clone_of(released())
 
 
-def archive_of(top):
-    return f"{top}/release/chipfire-{made.version()}-x86_64-linux.tar.xz"
+def archive_of(top, machine="x86_64"):
+    return f"{top}/release/chipfire-{made.version()}-{machine}-linux.tar.xz"
 
 
 def seconds():
@@ -64,12 +67,14 @@ def change_sources(top):
 
 
 class Carried(made.Test):
-    def test_it_is_the_archive_and_PROVED_and_what_is_for_browsers(self):
+    def test_it_is_an_archive_for_each_machine_and_PROVED_and_what_is_for_browsers(self):
         top = released()
-        names = {"PROVED", os.path.basename(archive_of(top)), "chipfire.html", "chipfire.wasm"}
+        archives = [archive_of(top, it) for it in ("x86_64", "aarch64")]
+        names = {"PROVED", *map(os.path.basename, archives), "chipfire.html", "chipfire.wasm"}
         self.assertEqual({*os.listdir(f"{top}/release")}, {*names, f"chipfire-{made.version()}.tgz"})
-        checked = made.package(top, "--check", archive_of(top))
-        self.assertIn(made.read(f"{top}/release/PROVED").decode(), checked.stdout)
+        for archive in archives:
+            checked = made.package(top, "--check", archive)
+            self.assertIn(made.read(f"{top}/release/PROVED").decode(), checked.stdout)
 
     def test_it_names_the_commit_before_it(self):
         before = made.run("git", "rev-parse", "HEAD~1", cwd=released(), check=True).stdout
@@ -98,27 +103,94 @@ class Carried(made.Test):
         self.assertIn("package: release: the sources are not those of a commit", answer.stderr)
 
 
-class Elsewhere(made.Test):
-    """On another system the starter and pip say the same of it."""
+#: What a Python begins with that takes its system for another.
+SYSTEM = "import platform\nplatform.system, platform.machine = (lambda: {!r}), (lambda: {!r})\n"
 
-    SAID = "it is for Linux x86_64, and this is Darwin arm64\n"
+
+class Elsewhere(made.Test):
+    """On other systems the starter, pip and the first import say the same, in one sentence."""
+
+    SYSTEMS = (("Darwin", "arm64"), ("Windows", "AMD64"), ("Linux", "riscv64"))
+    #: What those systems lack that this one has.
+    LACKING = "import sys\nfor name in ('fcntl', 'grp', 'pwd', 'resource', 'termios'):\n    sys.modules[name] = None\n"
+
+    def said(self, *system):
+        return (
+            f"it is for Linux on x86_64 or aarch64, and this is {' '.join(system)}: here work the page release/chipfire.html "
+            "in a browser, the package release/chipfire-*.tgz in Node (js/README.md), and in Python what needs no program"
+        )
+
+    def python(self, *system):
+        """Returns where Python finds what has it take its system for another."""
+        place = made.room()
+        made.write(f"{place}/sitecustomize.py", (SYSTEM.format(*system) + self.LACKING).encode())
+        return place
 
     def test_the_starter(self):
-        tools = made.room()
-        made.write(f"{tools}/uname", b"#!/bin/sh\necho Darwin arm64\n")
-        os.chmod(f"{tools}/uname", 0o755)
-        answer = made.run(f"{made.ROOT}/chipfire", "--take", PATH=f"{tools}:{made.PATH}")
-        self.assertEqual((answer.returncode, answer.stdout, answer.stderr), (1, "", f"chipfire: {self.SAID}"))
+        for system in self.SYSTEMS:
+            tools = made.room()
+            made.write(f"{tools}/uname", f"#!/bin/sh\necho {' '.join(system)}\n".encode())
+            os.chmod(f"{tools}/uname", 0o755)
+            answer = made.run(f"{made.ROOT}/chipfire", "--take", PATH=f"{tools}:{made.PATH}")
+            self.assertEqual((answer.returncode, answer.stdout), (1, ""))
+            self.assertEqual(answer.stderr, f"chipfire: {self.said(*system)}\n")
 
     def test_pip(self):
-        """It asks tools/release.py, as is done here."""
+        """It asks build_wheel.py, as is done here: the wheel has no program, and says why."""
+        for system in self.SYSTEMS:
+            room = made.room()
+            build = f"import build_wheel; print(build_wheel.build_wheel({room!r}))"
+            where = f"{self.python(*system)}:{made.ROOT}/python"
+            answer = made.run(sys.executable, "-c", build, PYTHONPATH=where, check=True)
+            self.assertEqual(answer.stdout, f"chipfire-{made.version()}-py3-none-any.whl\n")
+            because = "chipfire: the package has no program, since the one in release/ is not taken: "
+            self.assertEqual(answer.stderr, f"{because}{self.said(*system)}\n")
+
+    def test_the_first_import(self):
+        """What needs no program works, and what needs one says the same; a clone is not looked at."""
+        ask = "import chipfire; print(chipfire.order(chipfire.grid(2, 2))); chipfire.check(chipfire.grid(2, 2))"
+        for system in self.SYSTEMS:
+            where = f"{self.python(*system)}:{made.ROOT}/python"
+            answer = made.run(sys.executable, "-c", ask, PYTHONPATH=where)
+            self.assertEqual(answer.stdout, "192\n", answer.stderr)
+            first, *_, last = answer.stderr.splitlines()
+            self.assertIn(f"RuntimeWarning: chipfire has no program: {self.said(*system)}, which is graphs, ", first)
+            self.assertTrue(last.endswith(f"ProgramNotFound: [Errno 2] the program is not found: {self.said(*system)}: 'chipfire'"))
+
+
+class OnAarch64(made.Test):
+    """On that machine a clone has its own program and library. (Here they are those of this one, and a byte more.)"""
+
+    def takes(self, top):
+        """Takes the program of a clone into a folder there, as ./chipfire does."""
         place, room = made.room(), made.room()
-        patch = "import platform\nplatform.system, platform.machine = (lambda: 'Darwin'), (lambda: 'arm64')\n"
-        made.write(f"{place}/sitecustomize.py", patch.encode())
-        taken = [f"{made.ROOT}/tools/release.py", "--take", room, ""]
-        answer = made.run(sys.executable, *taken, PYTHONPATH=place)
-        said = f"chipfire: the program in release/ is not taken: {self.SAID}"
-        self.assertEqual((answer.returncode, answer.stdout, answer.stderr), (1, "", said))
+        made.write(f"{place}/sitecustomize.py", SYSTEM.format("Linux", "aarch64").encode())
+        return made.run(sys.executable, f"{top}/tools/release.py", "--take", room, "", PYTHONPATH=place), room
+
+    def test_the_starter_takes_them(self):
+        answer, room = self.takes(clone())
+        self.assertEqual((answer.returncode, answer.stdout), (0, ""), answer.stderr)
+        self.assertTrue(made.read(f"{room}/chipfire") == made.read(made.PROGRAM) + bytes(1))
+        for name in made.LIBRARIES:
+            self.assertTrue(made.read(f"{room}/{name}") == made.read(made.library(name)) + bytes(1))
+        self.assertTrue(os.path.isdir(f"{room}/js"))
+
+    def test_not_if_they_were_made_of_other_sources(self):
+        top = clone()
+        with open(f"{top}/tools/malloc.c", "a", encoding="utf-8") as file:
+            file.write("/* one line more */\n")
+        answer, _ = self.takes(top)
+        self.assertEqual(answer.returncode, 1)
+        self.assertIn("is not taken: it has nothing for aarch64 that was made of these sources", answer.stderr)
+
+    def test_pip_takes_them(self):
+        top, place, room = clone(), made.room(), made.room()
+        made.write(f"{place}/sitecustomize.py", SYSTEM.format("Linux", "aarch64").encode())
+        build = f"import build_wheel; print(build_wheel.build_wheel({room!r}))"
+        name = made.run(sys.executable, "-c", build, PYTHONPATH=f"{place}:{top}/python", check=True).stdout.strip()
+        self.assertEqual(name, f"chipfire-{made.version()}-py3-none-manylinux_2_34_aarch64.whl")
+        with zipfile.ZipFile(f"{room}/{name}") as wheel:
+            self.assertTrue(wheel.read("chipfire/program/chipfire") == made.read(made.PROGRAM) + bytes(1))
 
 
 class Python(made.Test):
@@ -161,10 +233,37 @@ class Packed(made.Test):
         self.assertEqual(made_of_it.returncode, 0, made_of_it.stderr)
         self.assertRegex(made_of_it.stderr, r"\Achipfire: the program comes from release/: .*\n\Z")
         self.assertEqual(made.read(f"{top}/dist/PROVED"), made.read(f"{top}/release/PROVED"))
-        self.assertEqual(made.read(made.path_of(".tar.xz", top)), made.read(archive_of(top)))
+        for machine in ("x86_64", "aarch64"):
+            path = made.path_of(f"-{machine}-linux.tar.xz", top)
+            self.assertEqual(made.read(path), made.read(archive_of(top, machine)))
         with zipfile.ZipFile(made.path_of(".whl", top)) as wheel:
             self.assertTrue(wheel.read("chipfire/program/chipfire") == made.read(made.PROGRAM))
         self.assertIn("the build in release/, which was not proved here", made.package(top, "--check", archive_of(top)).stdout)
+
+    def test_there_are_packages_for_each_machine(self):
+        top, version = clone(), made.version()
+        self.assertEqual(made.package(top).returncode, 0)
+        wheels = [f"chipfire-{version}-py3-none-manylinux_2_{it}" for it in (34, 14)]
+        names = {"PROVED"}
+        for machine, debian in (("x86_64", "amd64"), ("aarch64", "arm64")):
+            names |= {f"chipfire-{version}-{machine}-linux.tar.xz", f"chipfire_{version}_{debian}.deb"}
+            names |= {f"{it}_{machine}.whl" for it in wheels}
+        self.assertEqual({*os.listdir(f"{top}/dist")}, names)
+        for name in names - {"PROVED"}:
+            checked = made.package(top, "--check", f"{top}/dist/{name}")
+            self.assertEqual(checked.stderr, "", name)
+        shown = made.run("dpkg-deb", "-f", f"{top}/dist/chipfire_{version}_arm64.deb", "Architecture").stdout
+        self.assertEqual(shown, "arm64\n")
+        listed = made.run("dpkg-deb", "-c", f"{top}/dist/chipfire_{version}_arm64.deb").stdout
+        self.assertIn("./usr/lib/aarch64-linux-gnu/libchipfire.so.0\n", listed)
+
+    def test_one_for_aarch64_is_refused_if_a_byte_is_another(self):
+        top = clone()
+        self.assertEqual(made.package(top).returncode, 0)
+        for end in ("-aarch64-linux.tar.xz", "_arm64.deb", "_34_aarch64.whl", "_14_aarch64.whl"):
+            path = made.path_of(end, top)
+            change(path)
+            self.assertEqual(made.package(top, "--check", path).returncode, 1, path)
 
     def test_package_proves_if_that_is_asked_or_the_sources_are_others(self):
         for words in (["--prove"], ["--release"], []):
@@ -237,6 +336,56 @@ class Installed(made.Test):
         self.assertIn("ProgramNotFound", asked.stderr)
 
 
+class OldCLibrary(made.Test):
+    """Where the program does not start, since the C library is too old for it, pip installs the library alone."""
+
+    PLAY = "import chipfire; print(chipfire.plain(chipfire.path(1), [3]).fired, chipfire.find_library() is not None)"
+    REFUSED = """
+import array, chipfire
+chips, fired, stopped = (array.array("Q", it) for it in ([2**40, 5], [0, 0], [0]))
+try:
+    chipfire.library.stabilize_all(chipfire.path(1), chips, fired, stopped)
+except chipfire.Fault as fault:
+    print(fault)
+"""
+    NEEDS = "import chipfire; chipfire.run(chipfire.path(1), [3])"
+
+    @staticmethod
+    @made.kept
+    def installed():
+        """Returns an environment with what pip installs of a clone whose program does not start."""
+        top = made.checkout()
+        made.make_up_module(top)
+        made.make_up_aarch64(top)
+        made.commit(top)
+        made.build(top)
+        script, text = f"{top}/tools/release.py", made.read(f"{top}/tools/release.py").decode()
+        made.package(top, "--release", PATH=made.made_up_tools(), check=True)
+        made.write(script, text.replace("def starts(path, version):", "def starts(path, version):\n    return False").encode())
+        shutil.rmtree(f"{top}/target")
+        room = made.virtual_environment()
+        made.pip(room, "install", "-v", "--no-index", f"{top}/python", check=True)
+        return room
+
+    def asks(self, words):
+        return made.run(f"{self.installed()}/bin/python", "-c", words, cwd=made.rooms())
+
+    def test_it_plays_by_the_library(self):
+        asked = self.asks(self.PLAY)
+        self.assertEqual((asked.stdout, asked.stderr), ("(1, 0) True\n", ""))
+        self.assertFalse(os.path.exists(f"{self.installed()}/bin/chipfire"))
+
+    def test_faults_are_explained_as_the_program_does(self):
+        asked = self.asks(self.REFUSED)
+        explained = made.run(made.PROGRAM, "explain", "10").stdout
+        self.assertTrue(asked.stdout.startswith("fault 10 Total"), asked.stdout + asked.stderr)
+        self.assertIn(explained.splitlines()[0], asked.stdout)
+
+    def test_what_needs_the_program_says_why_there_is_none(self):
+        why = "the package carries none, since this is the package for a C library that is too old for the program"
+        self.assertIn(f"ProgramNotFound: [Errno 2] the program is not found: {why}", self.asks(self.NEEDS).stderr)
+
+
 class Comparing(made.Test):
     def compare(self, top, folder=None, kit=made.KIT, **more):
         """Compares what a kit built in a folder with what a checkout carries, as the gate does."""
@@ -263,8 +412,19 @@ class Comparing(made.Test):
 class Compared(Comparing):
     def test_the_same(self):
         of_program = "Program and libraries in release/ are those that were built here, .*"
-        of_web = "The package for browsers and Node in release/ is the one that was made here, byte for byte."
-        self.goes_on(self.compare(released()), of_program, of_web)
+        of_parts = (f"{it} in release/ is the one that was made here, byte for byte." for it in PARTS)
+        self.goes_on(self.compare(released()), of_program, *of_parts)
+
+    def test_another_program_or_library_for_aarch64(self):
+        for name, word in (("chipfire", "program"), *((it, it) for it in made.LIBRARIES)):
+            answer = self.compare(released(), self.another(f"aarch64/{name}"))
+            self.fails(answer, f"the same kit and gcc 1 .made up., made up made another aarch64-{word} here from the same sources")
+
+    def test_another_compiler_for_aarch64(self):
+        path = made.made_up_tools(compiler="gcc 2")
+        answer = self.compare(released(), self.another("aarch64/chipfire"), PATH=path)
+        of_it = f"{PARTS[0]} in release/ was made by .*, and is not compared: here are {made.KIT} and gcc 2, made up."
+        self.goes_on(answer, ".*", of_it, ".*")
 
     def test_another_program_or_library_of_the_same_kit(self):
         for name, word in (("chipfire", "program"), *((it, it) for it in made.LIBRARIES)):
@@ -274,8 +434,8 @@ class Compared(Comparing):
         for folder, made_here in ((None, "the same"), (self.another("chipfire"), "another program")):
             answer = self.compare(released(), folder, "another kit")
             of_program = f"{made.KIT} built what is in release/, and another kit built {made_here} here."
-            of_web = "The package for browsers and Node in release/ was made by .*, and is not compared: .*"
-            self.goes_on(answer, of_program, of_web)
+            of_parts = (f"{it} in release/ was made by .*, and is not compared: .*" for it in PARTS)
+            self.goes_on(answer, of_program, *of_parts)
 
     def test_a_library_is_missing(self):
         for name in made.LIBRARIES:
@@ -290,11 +450,11 @@ class Compared(Comparing):
         self.goes_on(answer, "release/ was built from other sources than these, at commit [0-9a-f]{12}.")
 
     def test_a_byte_changed(self):
-        for sources in ("the same", "others"):
+        for sources, machine in (("the same", "x86_64"), ("others", "x86_64"), ("others", "aarch64")):
             top = clone()
             if sources == "others":
                 os.remove(f"{top}/crates/chip_graph/src/lib.rt")
-            change(archive_of(top))
+            change(archive_of(top, machine))
             self.fails(self.compare(top), "it cannot be unpacked: .*")
 
     def test_another_statement(self):

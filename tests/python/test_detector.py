@@ -117,7 +117,7 @@ class Rules(unittest.TestCase):
             (KeyError, "no process 'x'", lambda: detector["a"].send("x")),
             (KeyError, "no process 'root'", lambda: detector["a"].send("root")),
             (ValueError, "there is a process 'a'", lambda: detector.join("a")),
-            (ValueError, "there is a process 'root'", lambda: chipfire.Detector(["root"])),
+            (ValueError, "there is a process 'root', the detector's own", lambda: chipfire.Detector(["root"])),
             (ValueError, "no log", detector.check),
             (ValueError, "no back end 'x'", lambda: chipfire.Detector([], "x")),
             (ValueError, "name all at the start", lambda: chipfire.Detector([], "multiprocessing").join("a")),

@@ -17,6 +17,7 @@ from unittest import mock
 
 import chipfire
 from chipfire import utils as values
+from chipfire.ensembles import wilson
 from test_counts import slow_report
 from test_drops import rows_of, slow_rows
 from test_package import CHIPS_FILE, TRIANGLE
@@ -51,14 +52,30 @@ class Recurrent(unittest.TestCase):
         self.assertEqual((chipfire.are_recurrent(grid, many), len({*many})), ([True] * 40, 40))
         self.assertEqual(chipfire.random_recurrent(chipfire.Graph(1, 0, []), 1), {})
 
-    @unittest.skipUnless(has("numpy"), "NumPy is not here")
-    def test_those_that_numpy_draws_together_are_those_that_are_drawn_one_by_one(self):
+    @unittest.skipUnless(IS_HERE, "the library is not here")
+    def test_python_draws_what_the_library_draws(self):
         heavy = chipfire.Graph.undirected([(1, 0, 200), (1, 2, 3), (2, 0), (2, 3), (3, 0, 77)], 0)
         lonely = chipfire.Graph(1, 0, [])
-        for graph in (chipfire.grid(20, 20), chipfire.cycle(60), MULTIGRAPH, LOSSY, heavy, lonely):
-            together = chipfire.random_recurrent(graph, 1, 1100)
-            with mock.patch("chipfire.ensembles.wilson.import_optional", return_value=None):
-                self.assertEqual(chipfire.random_recurrent(graph, 1, 1100), together)
+        for graph in (chipfire.grid(12, 9), chipfire.cycle(40), chipfire.complete(9), MULTIGRAPH, LOSSY, heavy, lonely):
+            for seed in (1, "a word", 2**70):
+                found = chipfire.random_recurrent(graph, seed, 12)
+                with mock.patch("chipfire.backend.library.loaded", return_value=None):
+                    self.assertEqual(chipfire.random_recurrent(graph, seed, 12), found)
+
+    def test_progress_and_parts(self):
+        grid, told = chipfire.grid(5, 4), []
+        whole = chipfire.random_recurrent(grid, 9, 10)
+        with mock.patch("chipfire.ensembles.wilson._PART", 3 * grid.vertices):
+            parts = chipfire.random_recurrent(grid, 9, 10, progress=lambda done, all_: told.append((done, all_)))
+        self.assertEqual((parts, told[0], told[-1], told), (whole, (3, 10), (10, 10), sorted(told)))
+
+    def test_a_configuration_of_a_number_is_the_same_beside_others(self):
+        grid = chipfire.grid(5, 4)
+        rows = wilson.recurrent_rows(grid, 9, 8)
+        width = grid.vertices
+        for first, count in ((0, 3), (3, 5), (7, 1)):
+            there = rows[first * width : (first + count) * width]
+            self.assertEqual(wilson.recurrent_rows(grid, 9, count, first), there)
 
     def test_what_there_is_no_memory_for_is_refused_before_it_begins(self):
         # (a configuration of 6 squares and the sink takes 7 numbers of 8 bytes, and its start as many; a drop three)
@@ -169,7 +186,7 @@ class Chains(unittest.TestCase):
         grid = chipfire.grid(5, 3)
         found = chipfire.chains(grid, 3, 2000, 1)
         with contextlib.ExitStack() as hidden:
-            for module in ("chains", "player", "wilson"):
+            for module in ("chains", "player"):
                 hidden.enter_context(mock.patch(f"chipfire.ensembles.{module}.import_optional", return_value=None))
             other = chipfire.chains(grid, 3, 2000, 1)
         for name in ("size", "extent", "lost", "chips"):

@@ -198,7 +198,7 @@ class Ways(WithFolder):
                 call()
             self.assertGreater(started.call_count, 0)
         for owner, name, result, call in [
-            (library, "most", 0, lambda: chipfire.stabilize_many(grid, [{5: 9}] * 2)),
+            (library, "most", 0, lambda: chipfire.plain(grid, {5: 9}, guess={5: 1})),
             (kept.KeptPile, "drops", (kept.STOPPED, 0), lambda: chipfire.drops(grid, 0, [5] * 9)),
         ]:
             with mock.patch.object(owner, name, return_value=result):
@@ -206,12 +206,12 @@ class Ways(WithFolder):
                     call()
             self.assertGreater(started.call_count, 0)
 
-    def test_a_play_that_is_longer_than_was_thought_is_the_program_s(self):
+    def test_a_play_that_is_longer_than_was_thought_is_played_in_portions(self):
         chain = chipfire.Graph(3, 2, [(0, 1, 10), (1, 0), (0, 2)])
         short, long = (slow_report(chain, [chips, 0, 0]) for chips in (30, 300))
         for call, wanted, starts in [
             (lambda: chipfire.plain(chain, [30, 0]), short, False),
-            (lambda: chipfire.plain(chain, [300, 0]), long, True),
+            (lambda: chipfire.plain(chain, [300, 0]), long, False),
             (lambda: chipfire.verify(chain, [30, 0], short), True, False),
             (lambda: chipfire.verify(chain, [300, 0], long), True, True),
             (lambda: chipfire.verify(chain, [300, 0], short), False, False),
@@ -219,6 +219,26 @@ class Ways(WithFolder):
             with mock.patch.object(library, "MOST_WORK", 6 * 320), self.counted() as started:
                 self.assertEqual(call(), wanted)
             self.assertEqual(started.call_count > 0, starts or not IS_HERE)
+
+    @unittest.skipUnless(IS_HERE, "the library is not called")
+    def test_long_plays_are_made_in_portions_and_interrupted_between_two(self):
+        grid, told = chipfire.grid(60, 60), []
+
+        def clock():
+            told.append(1)
+            if len(told) > 4:
+                raise KeyboardInterrupt
+            return 0.0
+
+        start = {(30, 30): 10**6}
+        with mock.patch.object(kept, "_FIRST_VISITS", 1), mock.patch.object(kept, "_MOST_VISITS", 1):
+            with mock.patch.object(library, "most", return_value=0):
+                with mock.patch.object(kept.time, "monotonic", clock), self.assertRaises(KeyboardInterrupt):
+                    chipfire.plain(grid, start)
+                with self.counted() as started:
+                    found = chipfire.plain(grid, {(3, 3): 50})
+        self.assertEqual(started.call_count, 0)
+        self.assertEqual(found, chipfire.plain(grid, {(3, 3): 50}))
 
     def test_one_of_many_plays_that_is_longer_than_was_thought(self):
         # (each game is a call of its own with the first work, and both are one call with the second)
@@ -229,7 +249,7 @@ class Ways(WithFolder):
             with mock.patch.object(library, "MOST_WORK", 6 * most), self.counted() as started:
                 found = chipfire.stabilize_many(chain, games[::order])
             self.assertEqual([*map(tuple, found)], wanted[::order], (most, order))
-            self.assertGreater(started.call_count, 0)
+            self.assertEqual(started.call_count > 0, not IS_HERE)
 
     def test_reports_are_verified_whatever_is_short(self):
         for graph in (SMALL[0], TRIANGLE, SMALL[-1]):

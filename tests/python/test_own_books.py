@@ -194,6 +194,24 @@ class Refused(unittest.TestCase):
             with self.assertRaisesRegex(ValueError, words):
                 make()
 
+    def test_a_number_is_looked_at_before_it_is_noted(self):
+        """ctypes takes the remainder of a number that is too large, and nothing of what only stands for one."""
+
+        class Like:
+            def __index__(self):
+                return 1
+
+        books = Books([0, 1], [2])
+        for duty, words in ((books.got, [2**64]), (books.sent, [2**64 + 2]), (books.settled, [2, 2**64]), (books.got, [-1])):
+            with self.assertRaisesRegex(ValueError, "is (above|below)"):
+                duty(*words)
+        for duty, words in ((books.got, ["0"]), (books.sent, [2.5]), (books.settled, [2, None])):
+            with self.assertRaisesRegex(TypeError, "is no whole number"):
+                duty(*words)
+        self.assertEqual((books.parent, books.deficit, books.acknowledge(True)), (None, 0, []))
+        books.got(Like())
+        self.assertEqual((books.parent, books.acknowledge(True)), (1, [(1, 1)]))
+
     def test_without_a_library_it_says_what_to_do(self):
         with mock.patch.object(library, "_beside", return_value=(None, "there is none beside /x")):
             with self.assertRaises(chipfire.ProgramNotFound) as told:

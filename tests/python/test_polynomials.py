@@ -97,6 +97,14 @@ class Tutte(unittest.TestCase):
             with self.assertRaisesRegex(ValueError, "smaller graphs come out, and 2,000 at most are looked at"):
                 chipfire.tutte_polynomial(chipfire.grid(6, 6), most=2000)
 
+    def test_progress_rises_to_its_end(self):
+        # (of a tree one graph comes out, each time that a vertex is taken out)
+        for word in (chipfire.tutte_polynomial, chipfire.level_polynomial):
+            told = []
+            tree = undirected(4, [(0, 1), (1, 2), (2, 3)])
+            word(tree, progress=lambda done, all_: told.append((done, all_)))
+            self.assertEqual((told[0], told[-1], told), ((1, 3), (3, 3), sorted(told)))
+
     @unittest.skipUnless(has("sympy"), "SymPy is not here")
     def test_sympy_takes_them(self):
         import sympy

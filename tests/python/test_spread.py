@@ -106,7 +106,7 @@ class Parts(unittest.TestCase):
             for ends in [(0, 3, 7), (0, 1, 2, 7)]:
                 parts = [chipfire.chains(GRID, stop - start, 40, 5, first=start, **options)
                          for start, stop in zip(ends, ends[1:])]
-                self.assertEqual(numbers(sum(parts[1:], parts[0])), whole, options)
+                self.assertEqual(numbers(sum(parts)), whole, options)
         one, other = (chipfire.chains(GRID, 2, 40, seed) for seed in (1, 2))
         self.assertEqual(((one + other).seed, (one + other).seeds), (None, (*one.seeds, *other.seeds)))
 
@@ -117,6 +117,12 @@ class Parts(unittest.TestCase):
                 one + other
         with self.assertRaises(TypeError):
             one + 1
+        with self.assertRaisesRegex(ValueError, "both results have the chain of seed"):
+            one + chipfire.chains(GRID, 1, 4, 1, first=1)
+
+    def test_what_is_no_executor(self):
+        with self.assertRaisesRegex(TypeError, "an executor is one of concurrent.futures.* and this is a str"):
+            plays(executor="process")
 
     def test_executors_play_what_threads_do(self):
         for options in ASKED:
@@ -327,6 +333,21 @@ class Histograms(unittest.TestCase):
             for name, value in whole.items():
                 one, other = (it.tolist() if hasattr(it, "tolist") else it for it in (its[name], value))
                 self.assertEqual([*map(list, one)] if name == "chips" else one, [*map(list, other)] if name == "chips" else other)
+
+    @unittest.skipUnless(has("numpy"), "NumPy is not here")
+    def test_a_file_has_all_of_them(self):
+        whole = plays(collect="histogram")
+        with tempfile.TemporaryDirectory() as folder:
+            whole.save(f"{folder}/all.npz")
+            found = chipfire.Histograms.load(f"{folder}/all.npz")
+            self.assertRaisesRegex(ValueError, "has Histograms of chipfire, and no Chains", chipfire.Chains.load, f"{folder}/all.npz")
+            parts = sum(chipfire.chains(GRID, 1, 40, 5, first=it, collect="histogram") for it in range(7))
+            parts.save(f"{folder}/all.npz")
+            again = chipfire.Histograms.load(f"{folder}/all.npz")
+        for its in map(vars, (found, again)):
+            for name, value in vars(whole).items():
+                one, other = (it.tolist() if hasattr(it, "tolist") else it for it in (its[name], value))
+                self.assertEqual(one, other, name)
 
     def test_what_is_refused(self):
         for words, options in [("no 'rows'", {"collect": "rows"}), ("goes with none", {"collect": "histogram", "fired": True}),

@@ -132,6 +132,9 @@ class WrongInputs(unittest.TestCase):
             graph = Graph(*arguments)
             self.check(lambda: chipfire.check(graph), chipfire.Fault, said)
             self.check(lambda: chipfire.order(graph), ValueError, said)
+            # (the library is asked first, if it is there)
+            self.assertEqual((graph.wrong, graph.why_refused), (said, said))
+        self.assertEqual((GRID.wrong, GRID.why_refused), ("", ""))
 
     def test_chips(self):
         for chips, refusal, said in CHIPS:

@@ -2,9 +2,13 @@
 import assert from "node:assert/strict";
 import { readFileSync } from "node:fs";
 import { test } from "node:test";
-import { Graph, load, outcome } from "./package.mjs";
+import { Chipfire, Graph, URL_OF_MODULE, outcome } from "./package.mjs";
 
-const chipfire = await load();
+const { exports } = (await WebAssembly.instantiate(readFileSync(URL_OF_MODULE))).instance;
+const chipfire = new Chipfire(exports);
+/** Where memory begins that is taken. */
+const FIRST = exports.chipfire_room(8n);
+exports.chipfire_free(FIRST);
 
 const graphOf = ([vertices, sink, columns]) => new Graph(vertices, sink, ...columns);
 
@@ -58,22 +62,21 @@ const CALLS = {
     const order = ([tail, head], [otherTail, otherHead]) => Number(tail - otherTail || head - otherHead);
     return [BigInt(vertices), BigInt(sink), found.sort(order)];
   },
-  books(call, ins, outs, parent, edge, number, flag) {
-    const books = chipfire.books([], []);
-    Object.assign(books, { ins: BigUint64Array.from(ins), outs: BigUint64Array.from(outs) });
-    books.parent = parent === 2n ** 64n - 1n ? null : parent;
+  books(ins, outs, steps) {
+    let books;
+    const found = [outcome(() => ((books = chipfire.books(ins, outs)), []))];
     const calls = {
-      sent: () => [books.sent(edge)],
-      got: () => [books.got(edge)],
-      mayAck: () => [books.mayAck(edge, flag)],
-      acked: () => [books.acked(edge, flag, number)],
-      settled: () => [books.settled(edge, number)],
-      deficit: () => [books.deficit()],
-      isOver: () => [BigInt(books.isOver(flag))],
-      check: () => [books.check()],
+      sent: (edge) => (books.sent(edge), []),
+      got: (edge) => (books.got(edge), []),
+      acknowledge: (passive) => books.acknowledge(passive).sort(([one], [other]) => Number(one - other)),
+      settled: (edge, count) => [books.settled(edge, count)],
+      isOver: (ended) => [BigInt(books.isOver(ended))],
     };
-    const [status, , ...told] = outcome(calls[call]);
-    return [status, told.filter((it) => it !== undefined), books.ins, books.outs, books.parent ?? 2n ** 64n - 1n];
+    for (const [name, ...step] of books ? steps : []) {
+      found.push(outcome(() => calls[name](...step)), [books.parent ?? 2n ** 64n - 1n, books.deficit]);
+    }
+    books?.free();
+    return found;
   },
 };
 
@@ -97,14 +100,12 @@ test("each call is as the native library's", () => {
 
 test("calls give back their memory", () => {
   const lines = readFileSync(process.env.CHIPFIRE_CASES, "ascii").trim().split("\n");
-  const sizes = [];
-  for (let round = 0; round < 3; round++) {
-    for (const line of lines.slice(0, 200)) {
-      const [name, given] = JSON.parse(line);
-      CALLS[name](...numbersOf(given));
-    }
-    sizes.push(chipfire.memory);
+  for (const line of lines.slice(0, 200)) {
+    const [name, given] = JSON.parse(line);
+    CALLS[name](...numbersOf(given));
   }
-  assert.ok(sizes[0] > 0);
-  assert.deepEqual(sizes, Array(3).fill(sizes[0]));
+  const size = chipfire.memory;
+  const all = exports.chipfire_room(BigInt(size) - FIRST);
+  exports.chipfire_free(all);
+  assert.deepEqual([all, chipfire.memory], [FIRST, size]);
 });

@@ -28,12 +28,6 @@ function freed() {
   return pile;
 }
 
-function engaged() {
-  const books = chipfire.books([3], [5]);
-  books.got(3);
-  return books;
-}
-
 // Each fault, its place, words of its text, and a call that has it.
 const CASES = [
   [1, 0, "no vertices, or more than 2097152", play(Graph.fromEdges(0, 0, []), [])],
@@ -51,8 +45,7 @@ const CASES = [
   [13, 1, "the limit stopped the play of drop 1", drop([1, 1, 0], [0, 0], [1, 4], { limit: 1 })],
   [14, 0, "there is no pile", () => freed().drop(0)],
   [26, 1, "row 1 names a vertex", drop([0, 0, 0], [0, 3], [1, 1])],
-  [46, 0, "no such edge", () => engaged().sent(4)],
-  [47, 0, "may be acknowledged yet", () => engaged().acked(3, false, 1)],
+  [46, 0, "no such edge", () => chipfire.books([3], [5]).sent(4)],
   [53, 1, "1 is the least vertex that differs", () => chipfire.verify(TRIANGLE, [2, 0, 0], [1, 1, 0], [0, 1, 1])],
 ];
 
@@ -94,6 +87,15 @@ test("a graph that is too large has no identity and no script", () => {
   }
 });
 
+test("books that are freed have no calls", () => {
+  const books = chipfire.books([3], [5]);
+  books.free();
+  books.free();
+  for (const call of [() => books.sent(5), () => books.isOver(true), () => books.parent]) {
+    assert.throws(call, /books were freed/);
+  }
+});
+
 test("a claim that is right is no fault", () => {
   assert.equal(chipfire.verify(TRIANGLE, [2, 0, 0], [1, 0, 0], [0, 1, 1]), undefined);
 });
@@ -105,7 +107,9 @@ test("what is no whole number from 0 to 2^64 - 1 is refused before the call", ()
   for (const chips of [[-1, 0, 0], [0n, 0n, 2n ** 64n], BigInt64Array.of(0n, -1n, 0n)]) {
     assert.throws(play(TRIANGLE, chips), RangeError);
   }
-  assert.throws(() => TRIANGLE.chips({ 3: 1 }), RangeError);
+  for (const vertex of [3, -1, 0.5, "length", ""]) {
+    assert.throws(() => TRIANGLE.chips({ [vertex]: 1 }), RangeError);
+  }
   assert.throws(() => Graph.grid(2.5), TypeError);
 });
 

@@ -23,10 +23,12 @@ async function play(): Promise<void> {
   if (areAll) configurations.pop();
   const books: Books = chipfire.books([1], new Set<Whole>([2, 3n]));
   books.sent(2);
-  const isOver: boolean = books.isOver(true) && books.parent === null && books.mayAck(1, true) > size;
+  const told: bigint = books.acknowledge(true).reduce((sum, [edge, count]) => sum + edge * count, books.deficit);
+  const isOver: boolean = books.isOver(true) && books.parent === null && told > size;
   // @ts-expect-error  (a text is no number)
   pile.drop("24");
   if (isOver) throw new Error(`${chipfire.version}: ${books.settled(2, 1)}`);
+  books.free();
 }
 
 play().catch((fault: unknown) => {

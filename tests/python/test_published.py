@@ -1,0 +1,56 @@
+"""Published figures that come back: exact means, and exponents that are known exactly."""
+import unittest
+
+import chipfire
+from test_sandpiles import has
+
+
+def directed(height, width):
+    """The directed sandpile of Dhar and Ramaswamy (1989): a vertex sends a chip to the one below it, and one to that beside
+    this one. The columns are joined, and the last row sends both to the sink."""
+    import numpy
+
+    vertex = numpy.arange(height * width)
+    row, column = vertex // width, vertex % width
+    below, beside = vertex + width, (row + 1) * width + (column + 1) % width
+    inner, sink = row < height - 1, height * width
+    ones = numpy.ones(int(inner.sum()), "i8")
+    twice = [numpy.stack([vertex[inner], head[inner], ones], 1) for head in (below, beside)]
+    last = numpy.stack([vertex[~inner], 0 * vertex[~inner] + sink, 0 * vertex[~inner] + 2], 1)
+    return chipfire.Graph(height * width + 1, sink, numpy.concatenate([*twice, last]))
+
+
+def stable_rows(n, vertices, seed):
+    """Rows of 0 or 1 chips on each vertex but the sink, the last one: all are recurrent, each as probable as the others."""
+    import numpy
+
+    rows = numpy.random.default_rng(seed).integers(0, 2, (n, vertices))
+    rows[:, -1] = 0
+    return rows
+
+
+@unittest.skipUnless(has("numpy") and chipfire.library.find_library(), "NumPy or the library is not here")
+class Published(unittest.TestCase):
+    def near(self, found, wanted, error):
+        self.assertLess(abs(found - wanted), 3 * error, (found, error))
+
+    def test_the_mean_size_on_squares(self):
+        # (Dhar, 1990: the sum of the inverse Laplacian, divided by the number of squares)
+        found = chipfire.chains(chipfire.grid(64, 64), 16, 1500, seed=1)
+        moments = chipfire.moments(found, orders=[1])
+        self.near(moments.means[0], 153.04, moments.errors[0])
+
+    def test_the_directed_sandpile(self):
+        # (each chip comes to the sink by as many steps as there are rows, and a firing makes two steps)
+        height, width = 256, 64
+        graph = directed(height, width)
+        chips = stable_rows(8, graph.vertices, 1)
+        found = chipfire.chains(graph, 8, 6000, seed=1, chips=chips, on=range(width))
+        moments = chipfire.moments(found, orders=[1])
+        self.near(moments.means[0], height / 2, moments.errors[0])
+        law = chipfire.power_law(found.size.ravel(), 16, 512)
+        self.near(law.exponent, 4 / 3, law.error)
+
+
+if __name__ == "__main__":
+    unittest.main()

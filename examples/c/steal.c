@@ -24,13 +24,13 @@ struct task {
 struct part {
     pthread_mutex_t lock;                              /* held by who reads or writes what follows */
     struct chipfire_tally ins[PARTS + 1], outs[PARTS]; /* edges from all parts, and to all but the root */
-    uint64_t parent;
+    struct chipfire_books books;                       /* over both */
     struct task tasks[ROOM];                           /* a ring */
     unsigned oldest, count, busy;                      /* where it begins, how many tasks, threads that work on one */
 };
 
 static struct part parts[PARTS + 1];
-static _Atomic uint64_t acked[(PARTS + 1) * PARTS];    /* on each edge so far: its head adds, and its tail reads */
+static _Atomic uint64_t acked[(PARTS + 1) * PARTS];    /* on each edge so far: its head writes, its tail reads */
 static atomic_bool is_over;
 static _Atomic uint64_t ways;
 
@@ -52,10 +52,9 @@ static void acknowledge(struct part *me)
 {
     bool passive = me->count == 0 && me->busy == 0;
     for (int tail = 0; tail <= PARTS; tail++) {
-        uint64_t edge = me->ins[tail].edge, count;
-        must(chipfire_may_ack(me->ins, PARTS + 1, me->outs, PARTS, me->parent, edge, passive, &count));
-        must(chipfire_acked(me->ins, PARTS + 1, me->outs, PARTS, &me->parent, edge, passive, count));
-        atomic_fetch_add(&acked[edge], count);
+        uint64_t edge = me->ins[tail].edge, count, word;
+        must(chipfire_books_acknowledge(&me->books, edge, passive, &count, &word));
+        atomic_store(&acked[edge], word);
     }
 }
 
@@ -64,7 +63,7 @@ static void settle(struct part *me)
 {
     for (int head = 0; head < PARTS; head++) {
         uint64_t edge = me->outs[head].edge, more;
-        must(chipfire_settled(me->outs, PARTS, edge, atomic_load(&acked[edge]), &more));
+        must(chipfire_books_settled(&me->books, edge, atomic_load(&acked[edge]), &more));
     }
 }
 
@@ -98,14 +97,14 @@ static bool steal(struct part *me, struct part *victim, struct task *task)
     pthread_mutex_lock(&victim->lock);
     bool has_task = victim->count > 0;
     if (has_task) {
-        must(chipfire_sent(victim->outs, PARTS, edge));
+        must(chipfire_books_sent(&victim->books, edge));
         *task = victim->tasks[victim->oldest++ % ROOM];
         victim->count--;
     }
     pthread_mutex_unlock(&victim->lock);
     if (!has_task) return false;
     pthread_mutex_lock(&me->lock);
-    must(chipfire_got(me->ins, PARTS + 1, &me->parent, edge));
+    must(chipfire_books_got(&me->books, edge));
     me->busy++;
     pthread_mutex_unlock(&me->lock);
     return true;
@@ -148,7 +147,7 @@ static bool ask(struct part *root)
     uint64_t over;
     pthread_mutex_lock(&root->lock);
     settle(root);
-    must(chipfire_is_over(root->outs, PARTS, root->count == 0, &over));
+    must(chipfire_books_is_over(&root->books, root->count == 0, &over));
     pthread_mutex_unlock(&root->lock);
     return over;
 }
@@ -158,12 +157,12 @@ static void begin(void)
 {
     for (int part = 0; part <= PARTS; part++) {
         struct part *me = &parts[part];
-        int tails = part == ROOT ? 0 : PARTS + 1;
+        size_t tails = part == ROOT ? 0 : PARTS + 1;
         pthread_mutex_init(&me->lock, NULL);
-        me->parent = CHIPFIRE_NEUTRAL;
-        for (int tail = 0; tail < tails; tail++) me->ins[tail].edge = edge_of(tail, part);
+        for (size_t tail = 0; tail < tails; tail++) me->ins[tail].edge = edge_of((int)tail, part);
         for (int head = 0; head < PARTS; head++) me->outs[head].edge = edge_of(part, head);
-        must(chipfire_books_check(me->ins, (size_t)tails, me->outs, PARTS, me->parent));
+        me->books = (struct chipfire_books){me->ins, tails, me->outs, PARTS, CHIPFIRE_NEUTRAL, 0, 0};
+        must(chipfire_books_open(&me->books));
     }
 }
 

@@ -143,6 +143,12 @@ class Goodness(unittest.TestCase):
         one, other = (chipfire.power_law(drawn(1.5, 1, 90, 200, 4), "best", 90, trials=9, seed=seed) for seed in (1, 1))
         self.assertEqual(one, other)
 
+    def test_a_best_range_is_a_decade_at_least(self):
+        # (two sizes side by side fit some law exactly)
+        draw = random.Random(9)
+        sizes = [1 + int(draw.expovariate(0.02)) for _ in range(3000)] + [511, 512]
+        self.assertLessEqual(chipfire.power_law(sizes, "best", 512).least, 51)
+
     def test_samples_have_what_was_seen_below(self):
         import numpy
 
@@ -155,7 +161,7 @@ class Goodness(unittest.TestCase):
     def test_candidates_have_two_sizes_that_differ(self):
         self.assertEqual(goodness.candidates([5, 5, 9, 2]), [2, 5])
         many = goodness.candidates(range(1, 10**6))
-        self.assertEqual((many[0], many[-1], len(many) <= 64), (1, 10**6 - 2, True))
+        self.assertEqual((many[0], many[-1], len(many) <= 64), (1, 99_999, True))
         self.assertRaisesRegex(ValueError, "two sizes that differ", chipfire.power_law, [4, 4, 0], "best")
 
 

@@ -9,13 +9,18 @@ from typing import Any
 _CANDIDATES = 64
 _ABOVE = 2
 
+#: How many times the size from which a law begins the largest one is. A shorter range fits almost any law.
+_DECADE = 10
+
 #: From which size on sums of powers are those of Euler and Maclaurin.
 _LARGE = 100
 
 
 def candidates(sizes: Sequence[int]) -> list[int]:
-    """Sizes from which a law may begin: all but the greatest ones, or some that are spread evenly among them."""
-    found = sorted({*sizes})[: 1 - _ABOVE]
+    """Sizes from which a law may begin: all up to a tenth of the largest, or some that are spread evenly among them.
+    If none is so small, they are all but the greatest ones."""
+    ordered = sorted({*sizes})
+    found = [it for it in ordered if it * _DECADE <= ordered[-1]] or ordered[: 1 - _ABOVE]
     if len(found) <= _CANDIDATES:
         return found
     last = len(found) - 1

@@ -91,7 +91,8 @@ def power_law(
         differ.
     least : int or "best", optional
         The least size of the range, 1 or more. The "best" one is that whose law has the least distance of Kolmogorov
-        and Smirnov to the sizes, among up to 64 of those that were seen. This takes NumPy.
+        and Smirnov to the sizes, among up to 64 of those that were seen. The range of each is a decade at least, if
+        there is one. This takes NumPy.
     most : int, optional
         The largest size of the range. By default the largest that was seen. The range has up to 10,000,000 sizes.
     trials : int, optional

@@ -1,4 +1,9 @@
-"""How the kit compiles a crate that is proved for another target, over the proofs that are kept."""
+#!/usr/bin/env python3
+"""How the kit compiles a crate that is proved, for this machine or for another target, over the proofs that are kept.
+
+    tools/making.py CRATE FILE      compiles a static library for x86-64 into a file, over the crates below as they were built:
+                                    `rt lib` makes the same of crates that it has proved itself
+"""
 import os
 import shutil
 import subprocess
@@ -6,6 +11,9 @@ import sys
 
 import paths
 from packing.crates import below, libraries
+
+#: The target of the machine that the kit runs on.
+X86_64 = "x86_64-unknown-linux-gnu"
 
 
 def need(ok, why):
@@ -62,3 +70,8 @@ def compile_crate(crate, target, toolchain, to, *more):
     """Has the kit compile a crate for a target by a toolchain: a program to an object file, else a static library."""
     words = [*words_for(crate, target), *more, "--toolchain", toolchain, "-o", to]
     run(f"{kit()}/bin/rattle", "build", *words, cwd=crate_folder(crate))
+
+
+if __name__ == "__main__":
+    need(len(sys.argv) == 3, "it takes two words, a crate and a file")
+    compile_crate(sys.argv[1], X86_64, f"{kit()}/toolchain", os.path.abspath(sys.argv[2]))

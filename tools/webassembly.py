@@ -21,14 +21,14 @@ import tempfile
 
 import paths
 from contents import MODULE, version
-from making import compile_crate, kit, need, run
+from making import X86_64, compile_crate, kit, need, run
 from packing import faults
 from packing.repository import content
 
 SCRIPTS = ("chipfire.js", "chipfire.d.ts", "graph.js", "README.md")
 #: The faults of the library's calls that no call of the package has.
 OTHERS = (47,)
-NATIVE, TARGET = "x86_64-unknown-linux-gnu", "wasm64-unknown-unknown"
+TARGET = "wasm64-unknown-unknown"
 #: The processor and the flags by which the kit compiles for WebAssembly.
 PROCESSOR = "lime1"
 FLAGS = ["-O3", "-Werror", "-c", "-mcpu=lime1", "-mllvm", "-expand-div-rem-bits=64"]
@@ -59,7 +59,7 @@ def lowered(room, clang):
     with open(f"{tools}/bin/clang", "w", encoding="utf-8") as file:
         file.write(KEEPING.format(room=shlex.quote(room), clang=shlex.quote(clang)))
     os.chmod(f"{tools}/bin/clang", 0o755)
-    compile_crate("chip_exports", NATIVE, tools, f"{room}/native.a")
+    compile_crate("chip_exports", X86_64, tools, f"{room}/native.a")
     as_text = ["-S", "-emit-llvm", "-Xclang", "-disable-llvm-passes", "-O3"]
     run(clang, "-x", "ir", f"{room}/module.bc", *as_text, "-o", f"{room}/native.ll")
     return content(f"{room}/native.ll").decode()

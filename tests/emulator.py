@@ -14,23 +14,28 @@ from packing import aarch64
 LEAST, TOO_OLD = "Nehalem", "Penryn"
 
 
+def need_tools():
+    """Skips a test where what makes and starts programs for aarch64 is missing."""
+    if lacks := aarch64.missing(is_tried=True):
+        raise unittest.SkipTest(lacks)
+
+
+@functools.cache
 def built_for_aarch64(folder):
     """Returns where what was built for aarch64 lies beside a program in a folder, if it is there and can be started."""
     its = f"{folder}/{aarch64.FOLDER}"
     if not os.path.isdir(its):
         raise unittest.SkipTest("nothing was built for aarch64 beside the program: ./test does that")
-    if lacks := aarch64.missing(is_tried=True):
-        raise unittest.SkipTest(lacks)
+    need_tools()
     return its
 
 
 @functools.cache
-def command(folder):
-    """Returns the path of a command that starts the program for aarch64."""
-    path = f"{listed.folder('chipfire-emulated-')}/chipfire"
-    words = shlex.join(aarch64.starting(f"{built_for_aarch64(folder)}/chipfire"))
+def command(program):
+    """Returns the path of a command that starts a program for aarch64."""
+    path = f"{listed.folder('chipfire-emulated-')}/{os.path.basename(program)}"
     with open(path, "w", encoding="utf-8") as file:
-        file.write(f'#!/bin/sh\nexec {words} "$@"\n')
+        file.write(f'#!/bin/sh\nexec {shlex.join(aarch64.starting(program))} "$@"\n')
     os.chmod(path, 0o755)
     return path
 

@@ -25,14 +25,20 @@ class OnFour(crews.Crew):
         self.has_trace = True
 
 
+def emulated(program):
+    """Returns a command that starts the one for aarch64 that was built beside a program."""
+    folder = emulator.built_for_aarch64(os.path.dirname(program))
+    return emulator.command(f"{folder}/{os.path.basename(program)}")
+
+
 def of_case(program, case, files):
     """What is wrong with a run of a case."""
-    return command_lines.faults_of(emulator.command(os.path.dirname(program)), case, files)
+    return command_lines.faults_of(emulated(program), case, files)
 
 
 def of_game(draw, program):
     """What is wrong with a random game on threads."""
-    return crews.faults_of(OnFour(emulator.command(os.path.dirname(program)), draw))
+    return crews.faults_of(OnFour(emulated(program), draw))
 
 
 def tests(program, is_long):

@@ -1,5 +1,5 @@
-"""The libraries on other processors, by an emulator: those for aarch64 beside those for this machine, and what an old
-processor of this kind says.
+"""The libraries on other processors, by an emulator: those for aarch64 beside those for this machine, the C code in them
+beside the kit's, and what an old processor of this kind says.
 
 The emulator orders memory as this processor does: what a weakly ordered one may do is not tried.
 """
@@ -7,13 +7,13 @@ import random
 import re
 
 import emulator
+import making
 from library import BUILT, INCLUDE, LARGEST, LIBRARY, PROGRAM, ROOT, SHARED, STATIC, Room, called, need, run
 from packing import aarch64
-from test_detected import COMPILE, STEAL, STEAL_COUNTED, edited
+from test_detected import COMPILE, LOGS, RUNS, STEAL, STEAL_COUNTED, edited
 from test_games import drawn, spoilt, stepped
 
-#: How many random games there are, and how many runs of the detector.
-GAMES, RUNS = 500, 25
+GAMES = 500
 #: A program that tells the version of the library.
 TELLS = """
 #include <chipfire.h>
@@ -80,7 +80,7 @@ class Aarch64(Room):
             file.write(edited(STEAL, STEAL_COUNTED))
         words = self.with_shared(f"-I{self.room}", f"{ROOT}/tests/library/soak.c")
         self.assertEqual(self.runs(*words, str(RUNS), "1", self.room), f"{RUNS} 0 0 0\n")
-        for number in range(0, RUNS, 5):
+        for number in range(min(RUNS, LOGS)):
             self.assertEqual(run(PROGRAM, "judge", f"{self.room}/{number}.csv").returncode, 0)
 
     def test_what_they_need(self):
@@ -96,6 +96,28 @@ class Aarch64(Room):
         notes = self.runs("readelf", "-W", "--notes", f"{self.built}/chipfire")
         oldest = re.search(r"OS: Linux, ABI: (\d+\.\d+)", notes)[1]
         self.assertIn(f"Linux 3.2 or newer, on aarch64 {oldest};", page)
+
+
+class OwnC(Room):
+    """tools/malloc.c and tools/os.c do for aarch64, and here, what the kit's C code does for which they stand in."""
+
+    CALLS, OWN = f"{ROOT}/tests/library/own.c", [f"{ROOT}/tools/{name}.c" for name in ("malloc", "os")]
+    WORDS = ["one", "", "of eight", "nine long"]
+
+    def compiled(self, compiler, *linked):
+        """Returns the path of a program that calls what it is linked with."""
+        path = f"{self.room}/calls"
+        self.runs(compiler, "-std=c11", "-O2", self.CALLS, *linked, "-o", path)
+        return path
+
+    def test_each_answers_as_the_kit_does(self):
+        need("rt", "gcc")
+        emulator.need_tools()
+        kept = [f"{making.kit()}/c/{name}" for name in ("liblibc_c.a", "libos_c.a")]
+        wanted = self.runs(self.compiled("gcc", *kept), *self.WORDS)
+        self.assertEqual(self.runs(self.compiled("gcc", *self.OWN), *self.WORDS), wanted)
+        started = aarch64.starting(self.compiled(aarch64.TOOL, *self.OWN))
+        self.assertEqual(self.runs(*started, *self.WORDS), wanted)
 
 
 class OldProcessor(Room):

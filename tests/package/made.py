@@ -183,17 +183,17 @@ EMULATOR = "#!/bin/sh\nshift 2\nexec \"$@\"\n"
 @functools.cache
 def made_up_tools(version="wasm-opt version 1 (made up)", tells=None, compiler="gcc 1 (made up)"):
     """Returns a PATH with a wasm-opt of this version, a Node that tells another, or that of the program, and what stands for a
-    cross compiler and an emulator of aarch64."""
+    cross compiler and an emulator of aarch64, if one is named."""
     folder = f"{rooms()}/tools {version} {tells} {compiler}"
     os.makedirs(f"{folder}/lib")
-    write(f"{folder}/lib/libc.so.6", b"GNU C Library (made up) stable release")
-    write(f"{folder}/lib/Scrt1.o", b"")
     tools = {
         "wasm-opt": f"#!/bin/sh\necho '{version}'\n",
         "node": f"#!/bin/sh\necho '{tells or globals()['version']()}'\n",
-        "aarch64-linux-gnu-gcc": COMPILER.format(compiler),
-        "qemu-aarch64": EMULATOR,
     }
+    if compiler is not None:
+        tools |= {"aarch64-linux-gnu-gcc": COMPILER.format(compiler), "qemu-aarch64": EMULATOR}
+        write(f"{folder}/lib/libc.so.6", b"GNU C Library (made up) stable release")
+        write(f"{folder}/lib/Scrt1.o", b"")
     for name, text in tools.items():
         write(f"{folder}/{name}", text.encode())
         os.chmod(f"{folder}/{name}", 0o755)
@@ -209,19 +209,31 @@ def make_up_module(top, data=b"\0asm made up"):
     write(script, text.replace(old, f"{{MODULE: {data!r}, ").encode())
 
 
-def make_up_aarch64(top):
-    """Has the script of a checkout that makes what is for aarch64 make what is for this machine, and a byte more, since the
-    real one takes the kit."""
+def make_up_aarch64(top, built=None):
+    """Has the script of a checkout that makes what is for aarch64 take what was built for it in a folder, or else what is for
+    this machine and a byte more, since the real one takes the kit."""
     names = [os.path.basename(PROGRAM), *LIBRARIES]
-    files = {name: f"{os.path.dirname(PROGRAM)}/{name}" for name in names}
+    files = {name: f"{built or os.path.dirname(PROGRAM)}/{name}" for name in names}
+    more = bytes(built is None)
     script = f"""import os, shutil, sys
 os.makedirs(sys.argv[1])
 for name, path in {files!r}.items():
     shutil.copy(path, sys.argv[1])
     with open(f"{{sys.argv[1]}}/{{name}}", "ab") as file:
-        file.write(bytes(1))
+        file.write({more!r})
 """
     write(f"{top}/tools/aarch64.py", script.encode())
+
+
+def release(top, path=None, built=None):
+    """Makes a release in a checkout by the tools on a PATH, with scripts that stand for those that take the kit, and leaves
+    nothing built there."""
+    make_up_module(top)
+    make_up_aarch64(top, built)
+    commit(top)
+    build(top)
+    package(top, "--release", PATH=path or made_up_tools(), check=True)
+    shutil.rmtree(f"{top}/target")
 
 
 def make_parts(top, folder):
@@ -308,14 +320,19 @@ def path_of(end, top=None):
     return next(f"{dist}/{it}" for it in os.listdir(dist) if it.endswith(found[0]))
 
 
-@kept
-def unpacked():
-    """Returns the folder that was in the archive."""
+def unpack(archive):
+    """Returns the folder that was in an archive."""
     need("tar", "xz")
     inside = room()
-    run("tar", "-xf", path_of(".tar.xz"), "-C", inside, check=True)
+    run("tar", "-xf", archive, "-C", inside, check=True)
     (name,) = os.listdir(inside)
     return f"{inside}/{name}"
+
+
+@kept
+def unpacked():
+    """Returns the folder that was in the archive for this machine."""
+    return unpack(path_of(".tar.xz"))
 
 
 @functools.cache

@@ -65,7 +65,8 @@ class Made(made.Test):
         self.assertIn("lowered by the kit for x86-64, compiled by its LLVM for WebAssembly", stated["web-made"])
 
     def test_it_is_small(self):
-        self.assertLess(sum(os.path.getsize(f"{released()}/release/{it}") for it in os.listdir(f"{released()}/release")), MOST)
+        for release in (f"{released()}/release", f"{made.ROOT}/release"):
+            self.assertLess(sum(os.path.getsize(f"{release}/{it}") for it in os.listdir(release)), MOST)
 
     def test_the_package_for_npm_has_the_files_that_npm_packs(self):
         made.need("npm")

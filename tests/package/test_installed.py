@@ -62,9 +62,24 @@ class Answers(made.Test):
         refused = made.run(program, "check", chips)
         self.assertEqual((refused.returncode, refused.stdout, refused.stderr), (1, "", "chipfire: fault 20 NotJson\n"))
 
+    def is_explained(self, package):
+        """Tries that lintian finds no error and no warning in a Debian package, and only what the page explains."""
+        made.need("lintian")
+        said = made.run("lintian", "--display-info", "--show-overrides", "--allow-root", package)
+        lines = [line.split(": ", 2) for line in said.stdout.splitlines() if line[:2] in ("E:", "W:", "I:", "O:")]
+        told = {(kind, rest.split()[0]) for kind, _, rest in lines}
+        page = made.read(f"{made.ROOT}/docs/PACKAGES.md").decode()
+        explained = {tag for _, tag in told if f"| `{tag}` |" in page}
+        self.assertEqual((said.stderr, {tag for _, tag in told}), ("", explained))
+        self.assertFalse([tag for kind, tag in told if kind in "EW"])
+        self.assertIn(("O", "unstripped-binary-or-object"), told)
+
 
 class Linked(Answers):
     """What programs in C and C++ find by pkg-config, and by CMake."""
+
+    #: The compiler of C.
+    COMPILER = "gcc"
 
     CMAKE = """
 cmake_minimum_required(VERSION 3.16)
@@ -80,20 +95,27 @@ add_executable(static-grid {examples}/grid.c)
 target_link_libraries(static-grid chipfire::static)
 """
 
+    @staticmethod
+    def starting(program):
+        """Returns the words that start what was compiled."""
+        return [program]
+
     def is_linked(self, libraries, version, include, **where):
         """Builds the example with a library that is shared and with one that is not, and starts both."""
-        made.need("gcc", "pkg-config")
+        made.need(self.COMPILER, "pkg-config", "readelf")
         example, room = f"{made.ROOT}/examples/c/grid.c", made.room()
         where |= {"PKG_CONFIG_LIBDIR": f"{libraries}/pkgconfig", "LD_LIBRARY_PATH": libraries}
         self.assertEqual(made.run("pkg-config", "--modversion", "chipfire", **where).stdout, f"{version}\n")
         flags, words = (made.run("pkg-config", it, "chipfire", check=True, **where).stdout.split() for it in ("--cflags", "--libs"))
         self.assertEqual([os.path.realpath(it.removeprefix("-I")) for it in flags], [os.path.realpath(include)])
-        made.run("gcc", *flags, example, *words, "-o", f"{room}/shared", check=True)
-        made.run("gcc", *flags, example, f"{libraries}/libchipfire.a", "-o", f"{room}/static", check=True)
-        shown, other = (made.run(f"{room}/{it}", check=True, **where).stdout for it in ("shared", "static"))
+        made.run(self.COMPILER, *flags, example, *words, "-o", f"{room}/shared", check=True)
+        made.run(self.COMPILER, *flags, example, f"{libraries}/libchipfire.a", "-o", f"{room}/static", check=True)
+        shown, other = (made.run(*self.starting(f"{room}/{it}"), check=True, **where).stdout for it in ("shared", "static"))
         self.assertTrue(shown.startswith("0320230\n"), shown)
         self.assertEqual(shown, other)
-        self.assertIn("libchipfire.so.0 => ", made.run("ldd", f"{room}/shared", **where).stdout)
+        for name, is_asked in (("shared", True), ("static", False)):
+            asked = made.run("readelf", "--dynamic", f"{room}/{name}", check=True).stdout
+            self.assertEqual("[libchipfire.so.0]" in asked, is_asked, name)
 
     def is_found(self, prefix, version):
         """Builds examples in C and C++ by CMake, and starts them."""
@@ -189,15 +211,7 @@ class DebianPackage(Linked):
         self.assertIn("chipfire - a chip-firing machine that is proved right", shown.stdout)
 
     def test_lintian_says_what_the_page_explains(self):
-        made.need("lintian")
-        said = made.run("lintian", "--display-info", "--show-overrides", "--allow-root", made.path_of(".deb"))
-        lines = [line.split(": ", 2) for line in said.stdout.splitlines() if line[:2] in ("E:", "W:", "I:", "O:")]
-        told = {(kind, rest.split()[0]) for kind, _, rest in lines}
-        page = made.read(f"{made.ROOT}/docs/PACKAGES.md").decode()
-        explained = {tag for _, tag in told if f"| `{tag}` |" in page}
-        self.assertEqual((said.stderr, {tag for _, tag in told}), ("", explained))
-        self.assertFalse([tag for kind, tag in told if kind in "EW"])
-        self.assertIn(("O", "unstripped-binary-or-object"), told)
+        self.is_explained(made.path_of(".deb"))
 
 
 class Wheel(Answers):

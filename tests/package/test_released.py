@@ -17,14 +17,7 @@ ASK = "import chipfire; print(chipfire.find_program(), chipfire.plain(chipfire.p
 def released():
     """Returns a checkout that carries a release of its sources, and has nothing built; no test changes it."""
     top = made.checkout()
-    made.make_up_module(top)
-    made.make_up_aarch64(top)
-    made.commit(top)
-    made.build(top)
-    answer = made.package(top, "--release", PATH=made.made_up_tools())
-    if answer.returncode != 0:
-        raise AssertionError(answer.stderr)
-    shutil.rmtree(f"{top}/target")
+    made.release(top)
     made.commit(top)
     return top
 
@@ -355,14 +348,9 @@ except chipfire.Fault as fault:
     def installed():
         """Returns an environment with what pip installs of a clone whose program does not start."""
         top = made.checkout()
-        made.make_up_module(top)
-        made.make_up_aarch64(top)
-        made.commit(top)
-        made.build(top)
+        made.release(top)
         script, text = f"{top}/tools/release.py", made.read(f"{top}/tools/release.py").decode()
-        made.package(top, "--release", PATH=made.made_up_tools(), check=True)
         made.write(script, text.replace("def starts(path, version):", "def starts(path, version):\n    return False").encode())
-        shutil.rmtree(f"{top}/target")
         room = made.virtual_environment()
         made.pip(room, "install", "-v", "--no-index", f"{top}/python", check=True)
         return room

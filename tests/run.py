@@ -73,6 +73,7 @@ LONGEST = (
     "hostile memory",
     "docs pages",
     "library test_web",
+    "python test_notebooks",
     "python test_divisors",
     "library test_cpp",
     "library test_games",

@@ -33,6 +33,7 @@ BY_LIBRARY = (
     "test_kept",
     "test_library",
     "test_loops",
+    "test_notebooks",
     "test_own_books",
     "test_package",
     "test_polynomials",
@@ -46,6 +47,7 @@ NOT_BY_PROCESS = (
     "test_broken",
     "test_detector",
     "test_documented",
+    "test_notebooks",
     "test_own_books",
     "test_published",
 )

@@ -1,7 +1,5 @@
 """The scripts of examples/python, and the session that its README shows."""
-import ast
 import doctest
-import json
 import os
 import random
 import re
@@ -93,22 +91,6 @@ class Scripts(unittest.TestCase):
             self.assertEqual([*replies, said[-1]], [*wanted[:-2], "the root is closed"])
             self.assertEqual(wanted[-2], "root closed")
             self.assertEqual(replies.count("not-now 15"), length)
-
-    def test_the_notebook_shows_what_its_cells_come_to(self):
-        with open(f"{SCRIPTS}/tour.ipynb", encoding="utf-8") as file:
-            cells = [cell for cell in json.load(file)["cells"] if cell["cell_type"] == "code"]
-        names, shown = {}, 0
-        for cell in cells:
-            body = ast.parse("".join(cell["source"])).body
-            last = ast.Expression(body.pop().value) if isinstance(body[-1], ast.Expr) else None
-            exec(compile(ast.Module(body, []), "tour.ipynb", "exec"), names)
-            value = eval(compile(last, "tour.ipynb", "eval"), names) if last else None
-            for output in cell["outputs"]:
-                self.assertEqual(repr(value), "".join(output["data"]["text/plain"]))
-            if hasattr(value, "_repr_html_") and not cell["outputs"]:
-                self.assertRegex(value._repr_html_(), "<svg|<iframe")
-                shown += 1
-        self.assertEqual((shown, sum(bool(cell["outputs"]) for cell in cells)), (5, 7))
 
     def test_the_session_of_the_readme(self):
         with open(f"{SCRIPTS}/README.md", encoding="utf-8") as file:

@@ -149,6 +149,9 @@ class Played(unittest.TestCase):
     def test_the_tour(self):
         self.compare("tour.ipynb")
 
+    def test_the_avalanches(self):
+        self.compare("avalanches.ipynb")
+
 
 class Stored(unittest.TestCase):
     def test_all_are_played(self):

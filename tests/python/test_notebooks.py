@@ -152,6 +152,9 @@ class Played(unittest.TestCase):
     def test_the_avalanches(self):
         self.compare("avalanches.ipynb")
 
+    def test_the_critical_group(self):
+        self.compare("critical-group.ipynb")
+
 
 class Stored(unittest.TestCase):
     def test_all_are_played(self):

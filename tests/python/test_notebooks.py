@@ -155,6 +155,9 @@ class Played(unittest.TestCase):
     def test_the_critical_group(self):
         self.compare("critical-group.ipynb")
 
+    def test_the_first_detector(self):
+        self.compare("first-detector.ipynb")
+
 
 class Stored(unittest.TestCase):
     def test_all_are_played(self):

@@ -1,5 +1,5 @@
 #!/usr/bin/env python3
-"""Times the calls of the library on books of many edges, by ctypes: those on slices beside those with sums.
+"""Times the calls of the library on books of many edges, by ctypes: those on arrays beside those with sums.
 
     bench/library/books [--program FILE]
 
@@ -18,7 +18,7 @@ EDGES = [10_000, 1_000_000]
 
 
 def micros(times, call):
-    """The microseconds of a call, which is made so many times."""
+    """The microseconds of a call, which is made `times` times."""
     begun = time.perf_counter()
     for _ in range(times):
         call()
@@ -26,21 +26,22 @@ def micros(times, call):
 
 
 class OnBooks:
-    """Calls on the books of a part that gets a message on its last edge and acknowledges it: on slices, and with sums."""
+    """Calls on the books of a process that gets a message on its last edge and acknowledges it: on arrays, and with
+    sums."""
 
     def __init__(self, library, edges):
         self.calls, self.last = library.books(), edges - 1
         sides = [
             array("Q", [word for edge in range(edges) for word in (edge, 0, 0)]) for _ in range(2)
         ]
-        self.sides, self.slices = sides, [(side.buffer_info()[0], edges) for side in sides]
+        self.sides, self.arrays = sides, [(side.buffer_info()[0], edges) for side in sides]
         self.parent, self.told = ctypes.c_uint64(2**64 - 1), ctypes.c_uint64()
-        words = [word for its in self.slices for word in its]
+        words = [word for its in self.arrays for word in its]
         self.books = library.BooksStruct(*words, self.parent.value)
         self.calls.chipfire_books_open(self.books)
 
     def message(self):
-        ins, outs = self.slices
+        ins, outs = self.arrays
         self.calls.chipfire_got(*ins, self.parent, self.last)
         self.calls.chipfire_may_ack(*ins, *outs, self.parent, self.last, 1, self.told)
         self.calls.chipfire_acked(*ins, *outs, self.parent, self.last, 1, self.told)
@@ -50,19 +51,19 @@ class OnBooks:
         self.calls.chipfire_books_acknowledge(self.books, self.last, 1, self.told, self.told)
 
     def is_over(self):
-        self.calls.chipfire_is_over(*self.slices[1], 1, self.told)
+        self.calls.chipfire_is_over(*self.arrays[1], 1, self.told)
 
     def is_over_in_sums(self):
         self.calls.chipfire_books_is_over(self.books, 1, self.told)
 
 
 def time_books(library, edges):
-    """Prints how long a message takes on books of so many edges on each side, and to ask whether all is over."""
+    """Prints how long a message takes on books of `edges` edges on each side, and to ask whether all is over."""
     of = OnBooks(library, edges)
     few, many = 2_000_000 // edges, 20_000
-    words = f"{micros(few, of.message):.1f} us on slices, {micros(many, of.message_in_sums):.1f} us with sums"
+    words = f"{micros(few, of.message):.1f} us on arrays, {micros(many, of.message_in_sums):.1f} us with sums"
     print(f"{edges} edges: got and acknowledged in {words}", end="; ", flush=True)
-    words = f"{micros(few, of.is_over):.1f} us on slices, {micros(many, of.is_over_in_sums):.1f} us with sums"
+    words = f"{micros(few, of.is_over):.1f} us on arrays, {micros(many, of.is_over_in_sums):.1f} us with sums"
     print(f"is_over {words}", flush=True)
 
 

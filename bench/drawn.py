@@ -25,7 +25,7 @@ def path(draw):
 
 
 def tree(draw):
-    """A tree by uniform parents, or a binary one, whose root loses chips."""
+    """A tree by uniform parents, or a binary one, whose root dissipates chips."""
     size = draw.randint(50, 4000)
     is_binary = draw.random() < 0.5
     pairs = [((v - 1) // 2 if is_binary else draw.randrange(v), v) for v in range(1, size)]
@@ -59,7 +59,7 @@ def clique_with_tail(draw):
 
 
 def barbell(draw):
-    """Two cliques at the ends of a path, one vertex of which loses chips."""
+    """Two cliques at the ends of a path, one vertex of which dissipates chips."""
     size, length = draw.randint(8, 60), draw.randint(1, 120)
     first, second = range(size), range(size + length, 2 * size + length)
     bar = range(size - 1, size + length + 1)
@@ -72,7 +72,7 @@ def barbell(draw):
 
 
 def expander(draw):
-    """The union of some cycles through all vertices at random, of which one vertex or some lose chips."""
+    """The union of some cycles through all vertices at random, of which one vertex or some dissipate chips."""
     size = draw.randint(50, 4000)
     pairs = []
     for _ in range(draw.randint(2, 4)):
@@ -157,7 +157,7 @@ def full(draw, degrees, inner):
 
 
 def critical(draw, degrees, inner):
-    """The greatest stable configuration, less a chip here and there, and a chip more on one vertex."""
+    """The maximal stable configuration, less a chip here and there, and a chip more on one vertex."""
     chips = [max(degree - 1, 0) for degree in degrees]
     for v in draw.choices(inner, k=len(inner) // 20):
         chips[v] = max(chips[v] - 1, 0)
@@ -169,7 +169,7 @@ LOADS = [heap, few, full, critical]
 
 
 def games(count):
-    """Yields so many games, each with its name: vertices, sink, edges and chips."""
+    """Yields `count` games, each with its name: vertices, sink, edges and chips."""
     pairs = itertools.cycle(itertools.product(FAMILIES, LOADS))
     for number, (family, load) in zip(range(count), pairs):
         draw = random.Random(f"{family.__name__} {load.__name__} {number}")

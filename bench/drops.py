@@ -7,8 +7,8 @@ Each game begins with as many chips on each vertex as it can keep, so it is recu
 drops once a turn, one after the other, and must write the same rows, to the byte. What counts is the least time of a
 whole process. `read` is the same with all drops on the sink: they are read and have their rows, and nothing is played.
 `--python` times `chipfire.drops` instead, from the vertices to the columns. What is printed is Markdown, for
-docs/BENCHMARKS.md; the files are made anew in target/bench. FILE is the program that ./chipfire built, if not said. The
-status is 1 where a player failed or two answers differ.
+docs/BENCHMARKS.md; the files are made anew in target/bench. By default FILE is the program that ./chipfire built. The
+status is 1 where a player failed or two results differ.
 """
 import math
 import random

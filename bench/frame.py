@@ -70,7 +70,7 @@ def compiled(words, source, name, libraries=()):
 
 
 def play(words, out, patience):
-    """Runs a command, its output into a file, and stops it after so many seconds."""
+    """Runs a command, its output into a file, and stops it after `patience` seconds."""
     to_file = (os.POSIX_SPAWN_OPEN, 1, out, os.O_WRONLY | os.O_CREAT | os.O_TRUNC, 0o644)
     begun = time.perf_counter()
     process = os.posix_spawn(words[0], words, os.environ, file_actions=[to_file])

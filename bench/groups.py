@@ -12,9 +12,9 @@ is Markdown, for docs/BENCHMARKS.md, with a row for each of these:
     burning         the least script of these graphs, beside the play that finds it: of a chip less on each vertex than
                     edges lead in
     identity        of squares of these sides, 200 and 1,000 if none is said, beside the two plays that find it: of twice
-                    the greatest stable configuration, and of that less what came of it
+                    the maximal stable configuration, and of that less what came of it
 
-FILE is the program that ./chipfire built, if not said; the library lies beside it. The status is 1 if two answers differ.
+By default FILE is the program that ./chipfire built; the library lies beside it. The status is 1 if two results differ.
 """
 import ctypes
 import os
@@ -45,8 +45,8 @@ class Calls:
 
     def call(self, name, *arrays, limit=()):
         """Makes a call, and returns its seconds."""
-        slices = [slice_of(it) for it in (*self.columns, *arrays)]
-        words = [word for it in slices for word in it]
+        arguments = [array_of(it) for it in (*self.columns, *arrays)]
+        words = [word for it in arguments for word in it]
         graph = [library.WORD(self.vertices), library.WORD(self.sink), *words[:6]]
         limits = [library.WORD(it) for it in limit]
         begun = time.process_time()
@@ -70,7 +70,7 @@ class Calls:
         return chips
 
 
-def slice_of(numbers):
+def array_of(numbers):
     """The words of a call for an array."""
     at, length = numbers.buffer_info()
     return ctypes.c_void_p(at), ctypes.c_size_t(length)

@@ -17,7 +17,7 @@ MULT = 2**20
 
 
 def grid(side, chips):
-    """A square grid; a vertex on the border loses a chip to the sink on each side where it has no neighbour."""
+    """A square grid; a vertex on the border sends a chip to the sink on each side where it has no neighbour."""
     sink, edges = side * side, []
     for line in range(side):
         for column in range(side):
@@ -66,14 +66,14 @@ def torus(_):
 
 
 def grid_corner(_):
-    """A square grid that loses chips at one corner alone, which is the sink."""
+    """A square grid that dissipates chips at one corner alone, which is the sink."""
     side = 64
     _, outside, edges, chips = grid(side, {side * side // 2 + side // 2: 2**14})
     return side * side, 0, [it for it in edges if it[0] != 0 and it[1] != outside], chips
 
 
 def path_of(length, chips):
-    """A path whose edges go both ways, and whose ends lose chips to the sink."""
+    """A path whose edges go both ways, and whose ends send chips to the sink."""
     sink = length
     edges = [(v, u, 1) for v in range(length) for u in (v - 1, v + 1) if 0 <= u < length]
     edges += [(0, sink, 1), (length - 1, sink, 1)]
@@ -97,7 +97,8 @@ STRIP = 1000
 
 
 def strip(_):
-    """A grid of three rows that loses chips at its ends: far too long for the height at which a square grid ends."""
+    """A grid of three rows that dissipates chips at its ends: far too long for the height at which a square grid
+    ends."""
     sink = 3 * STRIP
     edges = [(v, v + step, 1) for v in range(sink) for step in (-3, 3) if 0 <= v + step < sink]
     edges += [(v, v + step, 1) for v in range(sink) for step in (-1, 1) if 0 <= v % 3 + step < 3]
@@ -106,7 +107,7 @@ def strip(_):
 
 
 def caterpillar(_):
-    """A path of which each vertex has a leaf, and whose ends lose chips to the sink."""
+    """A path of which each vertex has a leaf, and whose ends send chips to the sink."""
     sink = 2 * STRIP
     _, end, path, chips = path_of(STRIP, sink)
     leaves = [(v, STRIP + v, 1) for v in range(STRIP)] + [(STRIP + v, v, 1) for v in range(STRIP)]
@@ -153,14 +154,15 @@ def random_graph(draw, vertices=VERTICES):
 
 
 def in_vain(_):
-    """Two vertices that pass 2^20 chips to each other and lose one of them each time: no test of a guess is passed, since
-    one vertex gets more than it sends by an edge from a third one, which never fires."""
+    """Two vertices that pass 2^20 chips to each other and dissipate one of them each time: no test of a guess is
+    passed, since one vertex gets more than it sends by an edge from a third one, which never fires.
+    """
     edges = [(0, 1, MULT), (1, 0, MULT - 1), (1, 3, 1), (2, 0, 2), (2, 3, 1)]
     return 4, 3, edges, {0: 2 * MULT - 2}
 
 
 def grid_four(_):
-    """The same grid, 4 chips everywhere: the density jumps in its middle, so the first guess is too high."""
+    """The same grid, 4 chips everywhere: the density jumps in its middle, so the initial guess is too high."""
     return grid(SIDE, {v: 4 for v in range(SIDE * SIDE)})
 
 

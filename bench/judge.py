@@ -16,7 +16,7 @@ import frame
 
 
 def write_log(path, rows, processes, early):
-    """Writes a log with about so many rows and with so many early claims; each process sends on nine channels."""
+    """Writes a log with about `rows` rows and with `early` early claims; each process sends on nine channels."""
     chance = random.Random(1)
     others = [[chance.randrange(processes) for _ in range(9)] for _ in range(processes)]
     waiting = [[] for _ in range(processes)]
@@ -78,13 +78,13 @@ def main():
     ours, theirs = [words.program, "judge", log, "--large"], [other, log]
     least, most = {}, {}
     for _ in range(words.turns):
-        answers = {}
+        verdicts = {}
         for name, command in ("chipfire", ours), ("C++", theirs):
             lines, status, seconds, memory = timed(command)
-            answers[name] = [line for line in lines if line.startswith("over ")], status
+            verdicts[name] = [line for line in lines if line.startswith("over ")], status
             least[name] = min(seconds, least.get(name, seconds))
             most.setdefault(name, memory)
-        if answers["chipfire"] != answers["C++"]:
+        if verdicts["chipfire"] != verdicts["C++"]:
             frame.stop("the two programs give other verdicts")
     print(
         "| Rows | Early claims | chipfire | C++ | Ratio | Memory |\n| ---: | ---: | ---: | ---: | ---: | ---: |"

@@ -1,15 +1,15 @@
 #!/usr/bin/env python3
 """Times `chipfire plain --large` beside the C++ player of plain.cpp, which plays by even and odd rounds with its limits
-lifted, on grids that lose chips at their borders.
+lifted, on grids that dissipate chips at their borders.
 
     bench/large [--turns N] [--game NAME].. [--program FILE] [--patience SECONDS] [--guesses]
 
 Each game is played by both once a turn, one after the other. What counts is the least time of a whole process, and the
-most memory that one had. The reports must be the same to the byte. A player that is not done in so many seconds (300,
-if not said) is stopped, and plays that game no more. `read` plays nothing: there is one chip. `--guesses` plays games
-(peak-1000, if not said) with guesses instead, beside `check`, `verify` and the play without one: with true counts, and
+most memory that one had. The reports must be the same to the byte. A player that is not done in SECONDS (300 by
+default) is stopped, and plays that game no more. `read` plays nothing: there is one chip. `--guesses` plays games
+(peak-1000 by default) with guesses instead, beside `check`, `verify` and the play without one: with true counts, and
 with counts that are off by one at one vertex in a hundred. What is printed is Markdown, for docs/BENCHMARKS.md; the
-files are made anew in target/bench. FILE is the program that ./chipfire built, if not said. The status is 1 where a
+files are made anew in target/bench. By default FILE is the program that ./chipfire built. The status is 1 where a
 player failed or two reports differ.
 """
 import json

@@ -4,13 +4,13 @@ package, which calls the library or starts the program.
 
     bench/library/run [--turns N] [--game NAME].. [--program FILE]
 
-In each turn the two libraries play the same, one after the other, and must answer the same numbers. What counts is the
-best turn. `single` is a call for each game, `batch` one call for all, `graph` a call for a game without chips, where all
-that takes time is the graph; `drops` is one call for all drops, one chip each, on a grid that is recurrent. In Python
-these are `plain`, `stabilize_many` and `drops`. The last line is of `is_recurrent`, a call for each of 10,000 grids of
-10 by 10 with 1 to 3 chips on a vertex, and of `are_recurrent`, a call for all. What is printed is Markdown, for
-docs/BENCHMARKS.md. FILE is the program that ./chipfire built, if not said; the library lies beside it. The status is 1
-if two answers differ.
+In each turn the two libraries play the same, one after the other, and must return the same numbers. What counts is the
+best turn. `single` is a call for each game, `batch` one call for all, `graph` a call for a game without chips, where
+all that takes time is the graph; `drops` is one call for all drops, one chip each, on a grid that is recurrent. In
+Python these are `plain`, `stabilize_many` and `drops`. The last line is of `is_recurrent`, a call for each of 10,000
+grids of 10 by 10 with 1 to 3 chips on a vertex, and of `are_recurrent`, a call for all. What is printed is Markdown,
+for docs/BENCHMARKS.md. By default FILE is the program that ./chipfire built; the library lies beside it. The status is
+1 if two results differ.
 """
 import ctypes
 import os
@@ -48,11 +48,11 @@ def array(numbers):
     return (WORD * max(1, len(numbers)))(*numbers), len(numbers)
 
 
-def words(*slices):
-    """Returns the words of a call for slices: the address and the length of each."""
+def words(*arrays):
+    """Returns the words of a call for arrays: the address and the length of each."""
     return [
         word
-        for memory, length in slices
+        for memory, length in arrays
         for word in (ctypes.c_void_p(ctypes.addressof(memory)), ctypes.c_size_t(length))
     ]
 
@@ -77,7 +77,7 @@ class Play:
         self.none, self.place = array([]), WORD()
 
     def dropped(self, library):
-        """Returns the seconds of one call for all drops, and the numbers that it answers."""
+        """Returns the seconds of one call for all drops, and the numbers that it returns."""
         chips, columns = array(self.chips[0]), [array([0] * self.count) for _ in range(3)]
         given = words(*self.dropped_at, chips, *columns)
         begun = time.perf_counter()
@@ -88,7 +88,7 @@ class Play:
         ]
 
     def played(self, library):
-        """Returns the seconds of calls for all games, and the numbers that they answer."""
+        """Returns the seconds of calls for all games, and the numbers that they return."""
         if self.kind == "drops":
             return self.dropped(library)
         calls = self.count if self.kind != "batch" else 1
@@ -129,17 +129,17 @@ def recurrent(turns):
         float("inf")
     ] * 2
     for _ in range(turns):
-        answers, begun = [], time.perf_counter()
+        results, begun = [], time.perf_counter()
         for which, ask in enumerate(
             (
                 lambda: [chipfire.is_recurrent(grid, row) for row in rows],
                 lambda: chipfire.are_recurrent(grid, rows),
             )
         ):
-            answers.append(ask())
+            results.append(ask())
             now = time.perf_counter()
             best[which], begun = min(best[which], now - begun), now
-        if answers[0] != answers[1]:
+        if results[0] != results[1]:
             frame.stop("is_recurrent and are_recurrent differ")
     print(f"\nis_recurrent: {shown(count / best[0])}, are_recurrent: {shown(count / best[1])}")
 
@@ -159,12 +159,12 @@ def least_of(play, libraries, turns, name):
     """Returns the least seconds of each library over the turns, once all have returned the same numbers."""
     least = [float("inf")] * len(libraries)
     for _ in range(turns):
-        answers = []
+        results = []
         for which, library in enumerate(libraries):
             seconds, numbers = play.played(library)
             least[which] = min(least[which], seconds)
-            answers.append(numbers)
-        if answers[0] != answers[1] or answers[0][0] != 0:
+            results.append(numbers)
+        if results[0] != results[1] or results[0][0] != 0:
             frame.stop(f"{name}: the two libraries return other numbers")
     return least
 

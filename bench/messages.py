@@ -3,11 +3,11 @@
 
     bench/messages [--turns N] [--messages N] [--program FILE]
 
-Two processes hand a number to and fro. In Python they are threads, by `queue.SimpleQueue`, or processes of the system, by
-`multiprocessing.Queue`, and the detector is `chipfire.Detector`. In C++ (messages.cpp) one thread hands them over by a
-deque with a lock, and each process has its `chipfire::Books`. With and without are timed one after the other; what counts
-is the best turn. What is printed is Markdown, for docs/BENCHMARKS.md, in microseconds a message. FILE is the program that
-./chipfire built, if not said; the library lies beside it.
+Two processes hand a number to and fro. In Python they are threads, by `queue.SimpleQueue`, or processes of the system,
+by `multiprocessing.Queue`, and the detector is `chipfire.Detector`. In C++ (messages.cpp) one thread hands them over by
+a deque with a lock, and each process has its `chipfire::Books`. With and without are timed one after the other; what
+counts is the best turn. What is printed is Markdown, for docs/BENCHMARKS.md, in microseconds a message. By default FILE
+is the program that ./chipfire built; the library lies beside it.
 """
 import multiprocessing
 import os
@@ -25,7 +25,7 @@ NAMES = ("left", "right")
 
 
 def hand_over(inbox, outbox, most):
-    """Hands numbers to the other until they are so great, without a detector."""
+    """Hands numbers to the other until they reach `most`, without a detector."""
     number = 0
     while number < most:
         number = inbox.get()
@@ -33,7 +33,7 @@ def hand_over(inbox, outbox, most):
 
 
 def play(me, other, most):
-    """Hands numbers to the other until they are so great, with a detector."""
+    """Hands numbers to the other until they reach `most`, with a detector."""
     for number in me:
         if number < most:
             me.send(other, number + 1)
@@ -49,7 +49,7 @@ def loops_of(backend, target, words):
 
 
 def plain_seconds(backend, messages):
-    """The seconds of so many messages without a detector."""
+    """The seconds of this number of messages without a detector."""
     make = queue.SimpleQueue if backend == "threading" else multiprocessing.Queue
     left, right = make(), make()
     loops = loops_of(backend, hand_over, [(left, right, messages), (right, left, messages)])
@@ -61,7 +61,7 @@ def plain_seconds(backend, messages):
 
 
 def detected_seconds(backend, messages):
-    """The seconds of so many messages with a detector."""
+    """The seconds of this number of messages with a detector."""
     detector = chipfire.Detector(NAMES, backend)
     words = [(detector[me], other, messages) for me, other in (NAMES, reversed(NAMES))]
     loops = loops_of(backend, play, words)

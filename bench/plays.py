@@ -3,8 +3,8 @@
 
     bench/library/plays [--turns N] [--game NAME].. [--drawn N] [--old LIB] [--program FILE]
 
-A play is one call less the same call without chips, which is what the graph takes and has a row of its own. In each turn
-each library makes both calls, in a process of its own, which is stopped after so many seconds that it has not ended;
+A play is one call less the same call without chips, which is what the graph takes and has a row of its own. In each
+turn each library makes both calls, in a process of its own, which is stopped after a time in which it has not ended;
 short ones it makes several times. What counts is the least time of the processor of each call, and all libraries must
 return the same numbers. LIB is another libchipfire.so, as of an older version, beside which the same is timed. Drops are
 one a call on a pile that is kept, and one a call with its graph.
@@ -13,8 +13,8 @@ With --drawn N small games are timed instead, of each family and load in turn (d
 take at most 2.5 and 3.5 times that of the quicker of the others, and a row for each that takes more than 2.5. A play that
 takes less than 20 microseconds counts as that.
 
-What is printed is Markdown, for docs/BENCHMARKS.md. FILE is the program that ./chipfire built, if not said; the library
-lies beside it. The status is 1 if two answers differ.
+What is printed is Markdown, for docs/BENCHMARKS.md. By default FILE is the program that ./chipfire built; the library
+lies beside it. The status is 1 if two results differ.
 """
 import contextlib
 import ctypes
@@ -38,7 +38,8 @@ NEAR = 2.5, 3.5
 
 
 def ring_one_way(draw):
-    """A ring whose edges go one way, with a chip a vertex at random, which loses one of 1,000 chips at vertex 0."""
+    """A ring whose edges go one way, with a chip a vertex at random, which dissipates one of 1,000 chips at vertex
+    0."""
     length = 4000
     edges = [(0, 1, 999), (0, length, 1)]
     edges += [(v, (v + 1) % length, 1) for v in range(1, length)]
@@ -117,12 +118,12 @@ def stabilized(lib, game, start):
     none, numbers = library.array([]), [
         library.array([0] * it) for it in (game.vertices,) * 2 + (1,)
     ]
-    slices = library.words(none, *numbers)
+    arrays = library.words(none, *numbers)
     least, begun = float("inf"), time.process_time()
     for _ in range(MOST):
         ctypes.memmove(numbers[0][0], start[0], 8 * game.vertices)
         now, limit, place = time.process_time(), library.WORD(library.LIMIT), library.WORD()
-        status = lib.chipfire_stabilize_all(*game.words, limit, *slices, ctypes.byref(place))
+        status = lib.chipfire_stabilize_all(*game.words, limit, *arrays, ctypes.byref(place))
         least = min(least, time.process_time() - now)
         if time.process_time() - begun > AGAIN:
             break

@@ -1,11 +1,11 @@
 #!/usr/bin/env python3
-"""Times `chipfire replay` on recorded runs of up to a million rows, and looks whether the answer fits the run.
+"""Times `chipfire replay` on recorded runs of up to a million rows, and checks that the result fits the run.
 
     bench/replay [--turns N] [--program FILE] [--seed S]
 
 The runs are those of bench/traces.py. What counts is the least time of a whole process. The lines that come must be the
-firings of each vertex in its own order. What is printed is Markdown, for docs/BENCHMARKS.md. FILE is the program that
-./chipfire built, if not said. The status is 1 where the program failed or its answer does not fit.
+firings of each vertex in its own order. What is printed is Markdown, for docs/BENCHMARKS.md. By default FILE is the
+program that ./chipfire built. The status is 1 where the program failed or its result does not fit.
 """
 import subprocess
 import time
@@ -40,14 +40,14 @@ def main():
         least = float("inf")
         for _ in range(words.turns):
             begun = time.perf_counter()
-            answer = subprocess.run(
+            result = subprocess.run(
                 [words.program, "replay", *files], stdout=subprocess.PIPE, check=True, text=True
             ).stdout
             least = min(least, time.perf_counter() - begun)
         with open(files[2], encoding="ascii") as file:
             recorded = firings(file.read().splitlines(), ",", 0, 3)
-        if firings(answer.splitlines(), " ", 1, 2) != recorded:
-            frame.stop(f"{name}: the answer does not fit the run")
+        if firings(result.splitlines(), " ", 1, 2) != recorded:
+            frame.stop(f"{name}: the result does not fit the run")
         print(
             f"| {name} | {int(rows):,} | {least * 1000:.0f} ms | {least / int(rows) * 1e9:.0f} ns |",
             flush=True,

@@ -6,10 +6,10 @@
 
 Each game is played by each player once a turn, the players one after the other, so that all have their share of a busy
 machine; what counts is the least time of a whole process, from its start to its end. Every report must be the same to
-the byte. A player that is not done in so many seconds (10, if not said) is stopped, and plays that game no more.
-`--growth` plays heaps in the middle of grids of several sides and sizes instead, and `--paths` those of 1,500 to 8,000
-chips in the middle of two paths, of which it shows the three that take chipfire longest. What is printed is Markdown, for
-docs/BENCHMARKS.md; the files are made anew in target/bench. FILE is the program that ./chipfire built, if not said. The
+the byte. A player that is not done in SECONDS (10 by default) is stopped, and plays that game no more. `--growth` plays
+heaps in the middle of grids of several sides and sizes instead, and `--paths` those of 1,500 to 8,000 chips in the
+middle of two paths, of which it shows the three that take chipfire longest. What is printed is Markdown, for
+docs/BENCHMARKS.md; the files are made anew in target/bench. By default FILE is the program that ./chipfire built. The
 one of `--rounds` plays by rounds alone: a copy of the program in which FIRST_LOOKS of crates/chip_fire/src/tuning.rt is
 u64::MAX. The status is 1 where a player failed or two reports differ.
 """
@@ -51,7 +51,7 @@ def least_times(commands, turns, patience):
             if played.status not in (0, 2):
                 stop(f"{' '.join(words)} ended with status {played.status}")
             if came != first:
-                stop(f"{' '.join(words)} and {' '.join(commands[0])} answer differently")
+                stop(f"{' '.join(words)} and {' '.join(commands[0])} have different results")
     return least
 
 

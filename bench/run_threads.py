@@ -8,8 +8,8 @@ Each game is played by each program once a turn, one after the other, so that al
 what counts is the least time of a whole process, from its start to its end. Every report must be that of `chipfire
 plain`, to the byte. One worker, and rings of more than one cell, play the large games only dealt out, and so does
 everyone the huge one: with the queue that would take minutes. At the end 64 workers share two processors. With --busy
-so many processes that take a processor each run beside all this. What is printed is Markdown, for docs/BENCHMARKS.md;
-the files are made anew in target/bench. FILE is the program that ./chipfire built, if not said. The status is 1 where a
+B processes that take a processor each run beside all this. What is printed is Markdown, for docs/BENCHMARKS.md;
+the files are made anew in target/bench. By default FILE is the program that ./chipfire built. The status is 1 where a
 program failed or a report differs.
 """
 import contextlib
@@ -41,7 +41,7 @@ BUSY = [sys.executable, "-c", "while True: pass"]
 
 @contextlib.contextmanager
 def beside(count):
-    """So many processes run that take a processor each."""
+    """Runs `count` processes that take a processor each."""
     busy = [subprocess.Popen(BUSY) for _ in range(count)]
     try:
         yield
@@ -82,7 +82,7 @@ def compared(pair):
 
 
 def commands(program, files, ring, workers):
-    """The programs with all that they are told: by a queue, in chipfire and in C++, and dealt out, in both."""
+    """The programs with all their words: by a queue, in chipfire and in C++, and dealt out, in both."""
     ours = [program, "run", "--large", *files, "--ring", str(ring), "--workers", str(workers)]
     by_queue, dealt = ([f"{ROOM}/{name}", *files, str(ring), str(workers)] for name in LIKES)
     return [ours, by_queue, [*ours, "--dealt"], dealt]

@@ -1,11 +1,11 @@
 #!/usr/bin/env python3
-"""Times chipfire's Python package beside SageMath on the same questions, and compares their answers.
+"""Times chipfire's Python package beside SageMath on the same questions, and compares their results.
 
     sage -python bench/sagemath.py [--turns N]
 
-What counts is the least time of N turns (3, if not said), in seconds of processors, the program's among them, so a busy
+What counts is the least time of N turns (3 by default), in seconds of processors, the program's among them, so a busy
 machine changes little. Each turn makes its graph anew, since Sage keeps what it has found. What is printed is Markdown,
-for docs/BENCHMARKS.md. The status is 1 if two answers differ.
+for docs/BENCHMARKS.md. The status is 1 if two results differ.
 """
 import os
 import platform
@@ -43,7 +43,7 @@ def factors_by_sage(side):
     return tuple(it for it in sandpiles.Grid(side, side).invariant_factors() if it > 1)
 
 
-#: What is asked, and of chipfire and Sage what answers.
+#: What is asked, and the calls of chipfire and of Sage that return it.
 QUESTIONS = {
     "the identity of 30 by 30 squares": (
         lambda: identity(30),
@@ -61,10 +61,10 @@ QUESTIONS = {
 
 
 def timed(ask):
-    """Returns an answer, and the seconds of processors that it took."""
+    """Returns a result, and the seconds of processors that it took."""
     before = sum(os.times()[:4])
-    answer = ask()
-    return answer, sum(os.times()[:4]) - before
+    result = ask()
+    return result, sum(os.times()[:4]) - before
 
 
 def main():
@@ -81,7 +81,7 @@ def main():
         (ours, seconds), (theirs, others) = least
         print(f"| {name} | {seconds:.2f} s | {others:.2f} s | {seconds / others:.3f} |", flush=True)
         if ours != theirs:
-            frame.stop(f"{name}: the answers differ")
+            frame.stop(f"{name}: the results differ")
 
 
 if __name__ == "__main__":

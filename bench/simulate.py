@@ -4,9 +4,9 @@
     bench/simulate [--turns N] [--program FILE] [--seed S]
 
 What counts is the least time of a whole process, less that of the same command without events or rounds. What is
-printed is Markdown, for docs/BENCHMARKS.md; the files are made anew in target/bench. FILE is the program that
-./chipfire built, if not said. The status is 1 where the program failed, or a driven grid has another report than
-`chipfire plain` writes for it.
+printed is Markdown, for docs/BENCHMARKS.md; the files are made anew in target/bench. By default FILE is the program
+that ./chipfire built. The status is 1 where the program failed, or a driven grid has another report than `chipfire
+plain` writes for it.
 """
 import random
 import subprocess
@@ -28,7 +28,7 @@ def write(name, vertices, sink, edges, chips, events):
 
 
 def schedule(draw):
-    """Vertices drawn at random do all that they can do, one after another, until there are so many events."""
+    """Vertices drawn at random do all that they can do, one after another, until there are `EVENTS` events."""
     sink, edges = VERTICES - 1, []
     while len(edges) < EDGES:
         tail = len(edges) % sink

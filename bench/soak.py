@@ -5,11 +5,12 @@ and the pool of examples/c/pool.cpp.
     bench/soak [--turns N] [--backend NAME].. [--logs N] [--every N] [--patience SECONDS] [--program FILE] [--seed S]
 
 A message is sent on to two processes until it has made some steps, with pauses drawn at random, and threads of Python
-switch every few microseconds; a task of the pool pushes two more. A run is *early* if messages are open when it is over, and *missed* if it is not over, and nothing
-happened for so many seconds. The first runs of each back end, so many as --logs says, leave logs, and the program judges
-them: a log is *wrong* if its claim is not right. What is printed is a line for each back end, with --every one more each
-N runs. FILE is the program that ./chipfire built, if not said; the libraries lie beside it. The pool is left out, and named,
-where there is no g++. The status is 1 if a run was early or missed, or a log wrong.
+switch every few microseconds; a task of the pool pushes two more. A run is *early* if messages are open when it is
+over, and *missed* if it is not over, and nothing happened for SECONDS. The first runs of each back end, as many as
+--logs says, leave logs, and the program judges them: a log is *wrong* if its claim is not right. What is printed is a
+line for each back end, with --every one more each N runs. By default FILE is the program that ./chipfire built; the
+libraries lie beside it. The pool is left out, and named, where there is no g++. The status is 1 if a run was early or
+missed, or a log wrong.
 """
 import asyncio
 import collections
@@ -28,7 +29,7 @@ import frame
 NAMES = [0, 1, 2, 3]
 STEPS = 5
 IN_ALL = 2 * (2 ** (STEPS + 1) - 1)
-#: What is told of a run, or of many: whether it was early, whether it was missed, and whether its log is wrong.
+#: What is reported of a run, or of many: whether it was early, whether it was missed, and whether its log is wrong.
 WORDS = ("early", "missed", "wrong")
 BACKENDS = ["pool", "threading", "asyncio", "multiprocessing"]
 COMPILE = ["g++", "-std=c++17", "-O2", "-pthread", f"-I{frame.ROOT}/include"]
@@ -114,7 +115,7 @@ async def is_missed_async(detector, count, patience):
 
 
 def run_blocking(chipfire, backend, make, asked, turn, log):
-    """Runs threads or processes, and returns what is told of the run."""
+    """Runs threads or processes, and returns what is reported of the run."""
     detector, count = chipfire.Detector(NAMES, backend, log=log), Count()
     words = [(detector[name], count, seed) for name, seed in loops_of(backend, asked, turn)]
     loops = [make(target=serve, args=it, daemon=True) for it in words]
@@ -154,14 +155,14 @@ def run(chipfire, backend, asked, turn, log):
     return run_blocking(chipfire, backend, make, asked, turn, log)
 
 
-def told(backend, runs, counts):
+def line_of(backend, runs, counts):
     """The line of a back end."""
     shown = ", ".join(f"{counts[word]} {word}" for word in WORDS)
     return f"{backend}: {runs} runs, {shown}"
 
 
 def soak_python(chipfire, backend, asked, room):
-    """Runs the detector of a back end again and again, and yields what is told of each run."""
+    """Runs the detector of a back end again and again, and yields what is reported of each run."""
     for turn in range(asked.turns):
         log = f"{room}/{backend}-{turn}" if turn < asked.logs else None
         ran = run(chipfire, backend, asked, turn, log)
@@ -177,8 +178,8 @@ def is_wrong_pool(chipfire, room, turn):
 
 
 def soak_pool(chipfire, _, asked, room):
-    """Runs the pool again and again, and yields how many runs there were, and what is told of them. It ends with a run that
-    is missed."""
+    """Runs the pool again and again, and yields how many runs there were, and what is reported of them. It ends with a
+    run that is missed."""
     library = os.path.join(os.path.dirname(asked.program), "libchipfire.a")
     pool = frame.compiled(COMPILE, "pool.cpp", "pool", [library])
     missed, turn = 0, 0
@@ -200,10 +201,10 @@ def soak(chipfire, backend, asked, room):
         counts.update(what)
         runs += ran
         if asked.every and runs // asked.every > shown // asked.every:
-            print(told(backend, runs, counts), flush=True)
+            print(line_of(backend, runs, counts), flush=True)
             shown = runs
     if shown < runs:
-        print(told(backend, runs, counts), flush=True)
+        print(line_of(backend, runs, counts), flush=True)
     return counts
 
 

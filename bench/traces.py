@@ -3,7 +3,7 @@
 
     bench/traces.py FOLDER [SEED]
 
-Each is a true run of so many rows at most: vertices take messages and fire one at a time in an order that comes from
+Each is a true run of at most `ROWS` rows: vertices take messages and fire one at a time in an order that comes from
 the seed, and each writes down what it took and fired. The rows of a file stand by ascending vertices, as chipfire
 writes them.
 """
@@ -34,7 +34,7 @@ def ping_pong(_):
 
 
 def chain(_):
-    """A chain numbered from the sink, so that no vertex can begin before the one behind it in the file."""
+    """A chain numbered from the sink, so that no vertex can begin before the one after it in the file."""
     length = 900
     return length, 0, [(v, v - 1, 1) for v in range(1, length)], {length - 1: 560}
 
@@ -43,7 +43,7 @@ RUNS = [random_graph, ping_pong, chain]
 
 
 def play(draw, vertices, sink, edges, chips):
-    """The rows of each vertex in a run that ends with no vertex legal, or after so many rows."""
+    """The rows of each vertex in a run that ends with no vertex legal, or after `ROWS` rows."""
     outs = [[] for _ in range(vertices)]
     degree = [0] * vertices
     for number, (tail, _, mult) in enumerate(edges):

@@ -3,10 +3,10 @@
 
     bench/library/web [--turns N] [--game NAME].. [--program FILE]
 
-In each turn both play the same, one after the other: the library by ctypes, and the package in one process of Node. They
-must answer the same numbers. What counts is the best turn. A call makes its graph of the edges, too. What is printed is
-Markdown, for docs/BENCHMARKS.md. FILE is the program that ./chipfire built, if not said; the library lies beside it, and
-the package in the folder js there. The status is 1 if two answers differ.
+In each turn both play the same, one after the other: the library by ctypes, and the package in one process of Node.
+They must return the same numbers. What counts is the best turn. A call makes its graph of the edges, too. What is
+printed is Markdown, for docs/BENCHMARKS.md. By default FILE is the program that ./chipfire built; the library lies
+beside it, and the package in the folder js there. The status is 1 if two results differ.
 """
 import ctypes
 import hashlib
@@ -35,7 +35,7 @@ class Game:
         return json.dumps({**graph, "chips": self.chips, "at": self.drops, "calls": self.calls})
 
     def numbers(self):
-        """Returns the slices that a call reads, and those that it writes."""
+        """Returns the arrays that a call reads, and those that it writes."""
         chips = library.array(self.chips)
         if self.drops is None:
             return [library.array([])], [
@@ -59,7 +59,7 @@ class Game:
             status = call(*graph, *words, ctypes.byref(place))
             seconds += time.perf_counter() - begun
             if status != 0:
-                frame.stop(f"the library answers fault {status}")
+                frame.stop(f"the library returns fault {status}")
         total = hashlib.sha256()
         for memory, _ in found[: 2 if self.drops is None else 4]:
             total.update(bytes(memory))
@@ -96,8 +96,8 @@ def by_node(node, text):
     """Returns the seconds of the calls of the package, and a sum of the numbers of the last."""
     node.stdin.write(f"{text}\n")
     node.stdin.flush()
-    told = json.loads(node.stdout.readline())
-    return told["seconds"], told["sum"]
+    reply = json.loads(node.stdout.readline())
+    return reply["seconds"], reply["sum"]
 
 
 def row(name, lib, node, turns):
@@ -105,9 +105,9 @@ def row(name, lib, node, turns):
     game = GAMES[name]()
     text, least = game.text(), [float("inf")] * 2
     for _ in range(turns):
-        answers = game.by_library(lib), by_node(node, text)
-        least = [min(before, seconds) for before, (seconds, _) in zip(least, answers)]
-        if answers[0][1] != answers[1][1]:
+        results = game.by_library(lib), by_node(node, text)
+        least = [min(before, seconds) for before, (seconds, _) in zip(least, results)]
+        if results[0][1] != results[1][1]:
             frame.stop(f"{name}: library and package return other numbers")
     cells = [f"{1000 * it / game.calls:,.3f} ms" for it in least]
     return f"| {' | '.join([name, *cells, f'{least[1] / least[0]:.2f}'])} |"

@@ -1,5 +1,5 @@
 #!/usr/bin/env python3
-"""Plays a chip-firing game the slow and plain way, to say what chipfire must answer.
+"""Plays a chip-firing game the slow and plain way, to say what chipfire must report.
 
     examples/play.py GRAPH CHIPS [--limit F] [--seed N]             the report of `chipfire plain`
     examples/play.py GRAPH --resume REPORT [--limit F] [--seed N]   the report of `chipfire resume`
@@ -33,7 +33,7 @@ def degrees(graph):
 
 
 def distances(graph):
-    """The least number of edges from each vertex to the sink: each edge is looked at until none shortens a way."""
+    """The least number of edges from each vertex to the sink: the loop visits each edge until none shortens a way."""
     found = {graph["sink"]: 0}
     changed = True
     while changed:
@@ -80,7 +80,7 @@ def report(graph, chips, fired):
 
 
 def go_on(graph, earlier, limit, draw):
-    """The report of a sitting that begins where an earlier one, told by its report, ended."""
+    """The report of a stage that begins where an earlier one ended, as its report says."""
     before = earlier.get("prior", [0] * len(earlier["fired"]))
     chips = earlier["chips"]
     fired = play(graph, chips, limit, draw)
@@ -97,7 +97,7 @@ def check(graph):
 
 
 def main():
-    words = argparse.ArgumentParser(description="What chipfire must answer, found by playing one firing at a time.")
+    words = argparse.ArgumentParser(description="What chipfire must report, found by playing one firing at a time.")
     words.add_argument("graph")
     words.add_argument("chips", nargs="?")
     words.add_argument("--resume", metavar="REPORT", help="go on from where this report says that a play stopped")

@@ -30,8 +30,8 @@ static void make_grid(struct graph *grid)
     }
 }
 
-/* Tells a fault, and answers the status of the program. */
-static int tell(uint64_t fault, uint64_t place)
+/* Prints a fault, and returns the status of the program. */
+static int say(uint64_t fault, uint64_t place)
 {
     fprintf(stderr, "fault %" PRIu64 " at %" PRIu64 ": `chipfire explain %" PRIu64 "` says more\n", fault, place, fault);
     return 1;
@@ -46,7 +46,7 @@ int main(void)
     make_grid(&grid);
     fault = chipfire_stabilize_all(VERTICES, SINK, grid.tails, grid.edges, grid.heads, grid.edges, grid.mults, grid.edges,
                                    limit, none, 0, chips, VERTICES, fired, VERTICES, stopped, 1, &place);
-    if (fault != 0) return tell(fault, place);
+    if (fault != 0) return say(fault, place);
     for (int square = 0; square < SINK; square++) {
         firings += fired[square];
         printf("%" PRIu64 "%s", chips[square], square % SIDE == SIDE - 1 ? "\n" : "");
@@ -55,7 +55,7 @@ int main(void)
     fault = chipfire_avalanches(VERTICES, SINK, grid.tails, grid.edges, grid.heads, grid.edges, grid.mults, grid.edges,
                                 limit, at, DROPS, amounts, DROPS, chips, VERTICES, sizes, DROPS, extents, DROPS,
                                 losts, DROPS, &place);
-    if (fault != 0) return tell(fault, place);
+    if (fault != 0) return say(fault, place);
     for (int drop = 0; drop < DROPS; drop++)
         printf("%" PRIu64 " on square %" PRIu64 ": %" PRIu64 " firings of %" PRIu64 " squares, %" PRIu64 " lost\n",
                amounts[drop], at[drop], sizes[drop], extents[drop], losts[drop]);

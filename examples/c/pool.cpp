@@ -22,7 +22,7 @@ public:
     /// What a worker does. It gets its number, under which it may push more.
     using Task = std::function<void(std::size_t worker)>;
 
-    /// A pool of so many workers. With logs, each worker, and the root behind them, has one.
+    /// A pool of this number of workers. With logs, each worker, and the root after them, has one.
     explicit Pool(std::size_t workers, const std::vector<std::ostream *> &logs = {})
         : workers_(workers), acked_((workers + 1) * workers)
     {

@@ -35,7 +35,7 @@ class TwoCounters(Core):
         return [(at, at + 1)]
 
     def visit(self, at):
-        """The wave comes to a vertex, and from the last one to the root."""
+        """The wave moves to a vertex, and from the last one to the root."""
         self.sums = (self.sums[0] + self.sent[at], self.sums[1] + self.taken[at])
         self.next = (at + 1) % len(self.vertices)
         if self.next == 0:

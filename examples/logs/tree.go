@@ -1,4 +1,4 @@
-// Work goes down a tree of goroutines, and each tells process 0 when it is passive. Process P logs to pP.rows.
+// Work goes down a tree of goroutines, and each reports to process 0 when it is passive. Process P logs to pP.rows.
 package main
 
 import (

@@ -55,8 +55,8 @@ def counted(below, workers):
 
 def main():
     parser = argparse.ArgumentParser(description=__doc__, formatter_class=argparse.RawDescriptionHelpFormatter)
-    parser.add_argument("--below", type=int, default=1000, help="primes below which number, 1,000 if not said")
-    parser.add_argument("--workers", type=int, default=3, help="how many workers, 3 if not said")
+    parser.add_argument("--below", type=int, default=1000, help="primes below which number (1,000 by default)")
+    parser.add_argument("--workers", type=int, default=3, help="how many workers (3 by default)")
     asked = parser.parse_args()
     print(f"{counted(asked.below, asked.workers)} primes")
 

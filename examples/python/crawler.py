@@ -43,7 +43,7 @@ async def crawled(pages, log):
 
 def main():
     parser = argparse.ArgumentParser(description=__doc__, formatter_class=argparse.RawDescriptionHelpFormatter)
-    parser.add_argument("--pages", type=int, default=100, help="how many pages there are, 100 if not said")
+    parser.add_argument("--pages", type=int, default=100, help="how many pages there are (100 by default)")
     parser.add_argument("--log", help="a new folder for the logs")
     asked = parser.parse_args()
     pages, detector = asyncio.run(crawled(asked.pages, asked.log))

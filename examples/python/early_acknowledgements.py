@@ -3,9 +3,9 @@
 
     early_acknowledgements.py LENGTH FOLDER
 
-The chain goes from vertex 0 to the sink, and one chip runs down it. On its way each vertex asks to acknowledge the
-message that it just took, which engaged it. Only when the chip has reached the sink do the answers go back up, each
-vertex after the one below it, and the root closes. Each event is printed with its reply; the files are left in the
+The chain goes from vertex 0 to the sink, and one chip runs down it. As it passes, each vertex asks to acknowledge the
+message that it just took, which engaged it. Only when the chip has reached the sink do the acknowledgements go back up,
+each vertex after the one below it, and the root closes. Each event is printed with its reply; the files are left in the
 folder, for `chipfire simulate graph.json chips.csv schedule.csv`.
 """
 import os
@@ -15,7 +15,7 @@ import chipfire
 
 
 def schedule_of(chain):
-    """The events of the chip's way down and of the answers' way up."""
+    """The events of the chip's way down and of the acknowledgements' way up."""
     events = chipfire.Schedule()
     edges = [chain.root_edge(0), *range(len(chain.edges))]
     for vertex, edge in enumerate(edges):

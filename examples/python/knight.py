@@ -1,8 +1,8 @@
 #!/usr/bin/env python3
 """In how many moves a knight reaches each square from a corner, by threads that know no order.
 
-Each square is a part. A message tells it a number of moves, and if these are fewer than it knew, it tells the squares
-that are one move further. Threads take messages from one queue. Only `chipfire.Books` say when the last
+Each square is a part. A message has a number of moves. If these are fewer than the square knew, it sends messages to
+the squares that are one move further. Threads take messages from one queue. Only `chipfire.Books` say when the last
 message is worked on: all are acknowledged, by messages too, and the root, which sent the first one, sees it.
 """
 import argparse
@@ -28,7 +28,7 @@ class Part:
 
 
 class Search:
-    """The search on a board with so many squares on a side. Edge 0 leads from the root to the corner."""
+    """The search on a board with `side` squares on a side. Edge 0 leads from the root to the corner."""
 
     def __init__(self, side):
         squares = [(line, column) for line in range(side) for column in range(side)]
@@ -101,8 +101,8 @@ class Search:
 
 def main():
     parser = argparse.ArgumentParser(description=__doc__, formatter_class=argparse.RawDescriptionHelpFormatter)
-    parser.add_argument("--side", type=int, default=8, help="how many squares a side of the board has, 8 if not said")
-    parser.add_argument("--threads", type=int, default=4, help="how many threads work, 4 if not said")
+    parser.add_argument("--side", type=int, default=8, help="how many squares a side of the board has (8 by default)")
+    parser.add_argument("--threads", type=int, default=4, help="how many threads work (4 by default)")
     asked = parser.parse_args()
     moves = Search(asked.side).find(asked.threads)
     for line in range(asked.side):

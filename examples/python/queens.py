@@ -42,8 +42,8 @@ def counted(side, processes):
 
 def main():
     parser = argparse.ArgumentParser(description=__doc__, formatter_class=argparse.RawDescriptionHelpFormatter)
-    parser.add_argument("--side", type=int, default=6, help="how many squares a side of the board has, 6 if not said")
-    parser.add_argument("--processes", type=int, default=3, help="how many processes search, 3 if not said")
+    parser.add_argument("--side", type=int, default=6, help="how many squares a side of the board has (6 by default)")
+    parser.add_argument("--processes", type=int, default=3, help="how many processes search (3 by default)")
     asked = parser.parse_args()
     print(f"{counted(asked.side, asked.processes)} ways")
 

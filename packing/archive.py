@@ -1,4 +1,4 @@
-"""The archive that any Linux unpacks: one folder with all that is handed on."""
+"""The archive that any Linux unpacks: one folder with all files of a release."""
 import io
 import lzma
 import tarfile

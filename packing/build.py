@@ -1,4 +1,4 @@
-"""What was built, and the files that are handed on of it: those that the archive and the Debian package both have."""
+"""What was built, and its files in packages: those that the archive and the Debian package both have."""
 from __future__ import annotations
 
 import os
@@ -72,10 +72,10 @@ def lay_out(folder, built, machine):
 
 def documents(program):
     """Returns the manual pages and the completions of the program with this path, by their places."""
-    told = usage.answer(program, "--version").split()[1]
-    if told != version():
+    stated = usage.version_of(program)
+    if stated != version():
         raise Refused(
-            f"the program says that it has version {told}, and its sources say {version()}"
+            f"the program says that it has version {stated}, and its sources say {version()}"
         )
     whole, commands = usage.read_program(program)
     made = {place: make(whole, commands).encode() for place, make in COMPLETIONS.items()}

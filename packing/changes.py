@@ -8,9 +8,9 @@ from packing.repository import Refused, content
 
 
 def entry():
-    """Returns the day of the version, as YYYY-MM-DD, and the points of its entry, behind those that came after it.
+    """Returns the day of the version, as YYYY-MM-DD, and the points of its entry, after those that came later.
 
-    Its entry has to be the first, or the second behind that of a version that is not yet released.
+    Its entry has to be the first, or the second after that of a version that is not yet released.
     """
     name = re.escape(version())
     coming = r"(?:# chipfire [\d.]+ \(not yet released\)\n(.*?))?"

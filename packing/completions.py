@@ -19,7 +19,7 @@ def with_value(commands, is_file):
 
 
 def bash_case(command):
-    """Returns what bash may complete behind a command: its words, and files where it has a file's name."""
+    """Returns what bash may complete after a command: its words, and files where it has a file's name."""
     files = " files=yes" if command.files() else ""
     return f"    {command.name}) words='{' '.join(words_of(command))}'{files} ;;\n"
 
@@ -84,7 +84,7 @@ def zsh_operands(command):
 
 
 def zsh_case(command):
-    """Returns what zsh may complete behind a command."""
+    """Returns what zsh may complete after a command."""
     words = " \\\n        ".join([*zsh_options(command.options), *zsh_operands(command)])
     return f"{command.name})\n    _arguments {words}\n    ;;\n"
 
@@ -128,12 +128,12 @@ def fish_option(condition, option):
 
 
 def fish_command(first, command):
-    """Returns the lines of a command: itself, and what may stand behind it."""
-    behind = f"'__fish_seen_subcommand_from {command.name}'"
+    """Returns the lines of a command: itself, and what may follow it."""
+    after = f"'__fish_seen_subcommand_from {command.name}'"
     lines = [f"complete -c chipfire -n {first} -a {command.name} -d {fish_text(command.summary)}"]
     if command.files():
-        lines.append(f"complete -c chipfire -n {behind} -F")
-    return [*lines, *(fish_option(behind, it) for it in command.options)]
+        lines.append(f"complete -c chipfire -n {after} -F")
+    return [*lines, *(fish_option(after, it) for it in command.options)]
 
 
 def fish(whole, commands):

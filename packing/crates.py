@@ -1,4 +1,4 @@
-"""Which crates there are, and on which others each of them stands: crates.txt."""
+"""Which crates there are, and on which others each of them depends: crates.txt."""
 from packing.repository import ROOT
 
 
@@ -14,13 +14,13 @@ def name_in(row):
 
 
 def libraries():
-    """Returns the names of the repository's crates, each with those of the crates that it stands on."""
+    """Returns the names of the repository's crates, each with those of the crates that it depends on."""
     named = {name_in(row): row.partition(":")[2].split() for row in rows(f"{ROOT}/crates.txt")}
     return {name: [it for it in others if it in named] for name, others in named.items()}
 
 
 def below(name, direct):
-    """Returns all that a crate stands on, each after what it stands on itself."""
+    """Returns all that a crate depends on, each after what it depends on itself."""
     found = []
     for it in direct[name]:
         found += [low for low in [*below(it, direct), it] if low not in found]

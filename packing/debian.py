@@ -66,7 +66,7 @@ def changelog():
 
 
 def control(packed, size):
-    """Returns what dpkg reads of a build whose files have so many bytes."""
+    """Returns what dpkg reads of a build whose files have `size` bytes."""
     return CONTROL.format(
         version=version(),
         architecture=packed.machine.debian,

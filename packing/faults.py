@@ -33,8 +33,8 @@ def rows():
 
 def texts():
     """Returns what `chipfire explain` says of each fault, as the bytes of a JSON object by their numbers."""
-    told = {
+    texts_by_number = {
         number: f"fault {number} {name}{letters}: {meaning}\n\n{reading}{advice}"
         for number, (name, letters, reading, meaning, advice) in rows().items()
     }
-    return f"{json.dumps(told, indent=1)}\n".encode()
+    return f"{json.dumps(texts_by_number, indent=1)}\n".encode()

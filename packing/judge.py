@@ -90,7 +90,7 @@ def documents_of(program):
 
 
 def unpacked(form, path, part):
-    """Returns the files of a package of this form, and what `part` answers of them."""
+    """Returns the files of a package of this form, and what `part` returns for them."""
     try:
         found = form.read(path)
         return found, part(found)
@@ -157,7 +157,7 @@ def judge_package(form, path, here):
 
 
 def ground(here):
-    """Returns on what a judgement stands."""
+    """Returns what a judgement depends on."""
     if here is None:
         return (
             "Nothing was packed here to compare with: that program and library are what the kit made of these "
@@ -174,7 +174,7 @@ def ground(here):
 
 
 def judge(path):
-    """Returns what is stated of a file, where it is of these sources, and on what that stands."""
+    """Returns what is stated of a file, where it is of these sources, and what that depends on."""
     with open(path, "rb") as file:
         data = file.read()
     here = packed_here()

@@ -57,7 +57,7 @@ class Part:
 
 @dataclass(frozen=True)
 class Proved:
-    """What is stated of what was built. The commit has `, changed` behind it where its sources were others."""
+    """What is stated of what was built. The commit has `, changed` after it where its sources were others."""
 
     version: str
     kit: str
@@ -109,7 +109,7 @@ def sums_of(built):
 
 
 def source_folders():
-    """Returns the folders that all is proved and built from: those of its crates, and of all that these stand on."""
+    """Returns the folders that all is proved and built from: those of its crates, and of all that these depend on."""
     direct = crates.libraries()
     names = {name for crate in CRATES for name in (*crates.below(crate, direct), crate)}
     return [

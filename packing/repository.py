@@ -31,7 +31,7 @@ def sha256(data):
 
 
 def git(*words):
-    """Returns what git answers of the repository, or None where it fails or there is none."""
+    """Returns what git reports of the repository, or None where it fails or there is none."""
     try:
         asked = subprocess.run(["git", "-C", ROOT, *words], capture_output=True, encoding="utf-8")
     except FileNotFoundError:

@@ -15,7 +15,7 @@ def lacking(packages):
 
 
 def first_line(*words):
-    """Returns the first line that a command tells, or None where it is not there or fails."""
+    """Returns the first line that a command prints, or None where it is not there or fails."""
     if shutil.which(words[0]) is None:
         return None
     asked = subprocess.run(words, stdout=subprocess.PIPE, encoding="utf-8")
@@ -30,7 +30,7 @@ def run(names, folder, title):
 
 
 def answers(words, wanted, **how):
-    """Returns whether a command ends well, and tells this."""
+    """Returns whether a command ends well, and prints this."""
     how = {"stdin": subprocess.DEVNULL, "stdout": subprocess.PIPE, "encoding": "utf-8", **how}
-    told = subprocess.run(words, **how)
-    return (told.returncode, told.stdout) == (0, wanted)
+    ran = subprocess.run(words, **how)
+    return (ran.returncode, ran.stdout) == (0, wanted)

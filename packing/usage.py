@@ -39,7 +39,7 @@ class Command:
     options: tuple[Option, ...]
     #: The names of the commands, of the program itself alone, without `help`, which says what --help does.
     commands: tuple[str, ...]
-    #: The paragraphs behind the options.
+    #: The paragraphs after the options.
     notes: tuple[str, ...]
 
     def files(self):
@@ -87,5 +87,5 @@ def read_program(program):
 
 
 def version_of(program):
-    """Returns the version that the program tells."""
+    """Returns the version that the program reports."""
     return answer(program, "--version").split()[1]

@@ -16,8 +16,8 @@ MADE = (
 TOOL = "wasm-opt"
 SCRIPTS = ("webassembly.py", "board.py")
 FOLDER = WEB
-#: What Node is told of a package, whose address stands behind it.
-TELLS = "const { load } = await import(process.argv[1]); console.log((await load()).version);"
+#: The script by which Node prints a package's version; the package's address follows it.
+PRINTS = "const { load } = await import(process.argv[1]); console.log((await load()).version);"
 
 
 def missing(is_tried=False):
@@ -31,8 +31,8 @@ def tools():
 
 
 def try_in(folder):
-    """Refuses the package in a folder of another, if it does not start in Node, or tells another version."""
-    words = ["node", "--input-type=module", "--eval", TELLS, f"file://{folder}/{WEB}/chipfire.js"]
+    """Refuses the package in a folder of another, if it does not start in Node, or reports another version."""
+    words = ["node", "--input-type=module", "--eval", PRINTS, f"file://{folder}/{WEB}/chipfire.js"]
     if not scripts.answers(words, f"{version()}\n"):
         raise Refused("the package for browsers and Node does not start in Node")
 

@@ -17,7 +17,7 @@ ROOT = os.path.dirname(os.path.dirname(os.path.realpath(__file__)))
 COMMENT = re.compile(r"(?:^|\s)--.*$")
 HEAD = re.compile(r"\s*(?:abbrev pub|abbrev|pub record|pub data) ([A-Za-z]\w*)")
 USE = re.compile(r"(?:pub )?use Rattle\.(chip_\w+)\.specs\.([\w.]+?)(?:\.\{([^}]*)\}| as (\w+))$")
-#: A name, and the one behind its point. What stands behind a further point is a field.
+#: A name, and the one after its point. What stands after a further point is a field.
 WORD = re.compile(r"(?<![\w.])([A-Za-z]\w*)(?:\.(\w+))?")
 TYPE = r"^(?:pub(?:\(crate\))? )?(?:struct|enum) {}\b(?:[^;{{}}]*;|.*?^}})"
 
@@ -97,9 +97,9 @@ def uses(crate, module, name):
     if module == "declared":
         return
     its = file_of(crate, module)
-    for word, behind in WORD.findall("\n".join(its.definitions[name])):
+    for word, after in WORD.findall("\n".join(its.definitions[name])):
         if word in its.aliases:
-            yield place_of(*its.aliases[word], behind)
+            yield place_of(*its.aliases[word], after)
         elif word in its.definitions:
             yield crate, module, word
         elif word in its.used:

@@ -27,8 +27,8 @@ WORDS = [
     "--no-undefined",
     *(word for kind in ("now", "relro", "noexecstack") for word in ("-z", kind)),
 ]
-#: What tells a loader that the code is for processors of the level x86-64-v2, so that it refuses others by a sentence: a
-#: note of GNU, whose kind 5 has properties, of which 0xC0008002 is the level that is needed.
+#: What says to a loader that the code is for processors of the level x86-64-v2, so that it refuses others by a
+#: sentence: a note of GNU, whose kind 5 has properties, of which 0xC0008002 is the level that is needed.
 LEVEL = struct.pack("<3I4s4I", 4, 16, 5, b"GNU", 0xC0008002, 4, 1 << 1, 0)
 #: The sections of that note: the one that other linkers put into a program, and one that the kit's own does not leave out.
 FOR_LINKERS, FOR_LOADERS = ".note.gnu.property", ".note.level"

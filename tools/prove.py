@@ -1,18 +1,18 @@
 #!/usr/bin/env python3
-"""Proves crates side by side, each as one process, and first those with the longest chain of others behind them.
+"""Proves crates side by side, each as one process, and first those with the longest chain of crates above them.
 
-    tools/prove.py NAME ..              the crates of these names, and all that they stand on
-    tools/prove.py --above NAME ..      these, all that stand on them, and all below; standard output names the former two
+    tools/prove.py NAME ..              the crates of these names, and all that they depend on
+    tools/prove.py --above NAME ..      these, all above them, and all below; standard output names the former two
     tools/prove.py --beside PID NAME .. the crates, beside a process that also works: two processors are left to it
-    tools/prove.py --lanes              nothing: tells how many crates it would prove at a time
+    tools/prove.py --lanes              nothing: prints how many crates it would prove at a time
 
-In one folder the kit's command `rt` proves one crate at a time, since it locks all that a crate stands on, and shares the
-crate among the processors by copies of itself, which together do twice the work. Here each crate is proved in a room of
-its own below target/rooms/, with a copy of the sources and what is built of the crates below it, so that no crate waits for
-another's lock. What `rt` keeps for later checks goes back to where it keeps it.
+In one folder the kit's command `rt` proves one crate at a time, since it locks all that a crate depends on, and shares
+the crate among the processors by copies of itself, which together do twice the work. Here each crate is proved in a
+room of its own below target/rooms/, with a copy of the sources and what is built of the crates below it, so that no
+crate waits for another's lock. What `rt` keeps for later checks goes back to where it keeps it.
 
-Standard error tells of each crate that is proved, and how much is left by the costs in tools/costs.txt. What `rt` says of
-a crate goes into target/NAME.log. The status is 0 where all are proved.
+Standard error has a line for each crate that is proved, with how much is left by the costs in tools/costs.txt. What
+`rt` says of a crate goes into target/NAME.log. The status is 0 where all are proved.
 """
 
 import contextlib
@@ -69,8 +69,8 @@ def is_alive(process):
 
 
 def lanes(taken=0):
-    """Returns how many crates are proved at a time, where so many processors are taken: one for each that is left, as many as
-    memory holds."""
+    """Returns how many crates are proved at a time, where this number of processors is taken: one for each that is
+    left, as many as memory holds."""
     with open("/proc/meminfo", encoding="ascii") as lines:
         sizes = dict(line.split(":") for line in lines)
     free = int(sizes["MemAvailable"].split()[0]) << 10
@@ -98,8 +98,8 @@ def words_for(name):
 
 
 def prove(name, lower):
-    """Proves a crate in a room, over what was kept of it and of those that it stands on. Returns its status and its
-    seconds."""
+    """Proves a crate in a room, over what was kept of it and of those that it depends on. Returns its status and
+    its seconds."""
     begun, room = time.monotonic(), f"{TARGET}/rooms/{name}"
     # (a run that was killed left its room)
     keep(name, room)
@@ -137,14 +137,14 @@ class Work:
         self.cost = {it: known.get(it, USUAL_COST) for it in names}
         self.total = len(names)
         self.spent = self.planned = 0.0
-        # The cost of the longest chain that begins with a crate. (A crate comes after those that it stands on.)
+        # The cost of the longest chain that begins with a crate. (A crate comes after those that it depends on.)
         self.chain = {}
         for name in reversed(names):
             above = [self.chain[it] for it in self.chain if name in direct[it]]
             self.chain[name] = self.cost[name] + max(above, default=0)
 
     def next(self):
-        """Takes the crate with the longest chain behind it of those that wait for nothing, if there is one."""
+        """Takes the crate with the longest chain above it of those that wait for nothing, if there is one."""
         ready = [it for it in self.left if self.proved.issuperset(self.direct[it])]
         if not ready:
             return None
@@ -166,13 +166,13 @@ class Work:
 
 
 def minutes(name):
-    """Returns how many minutes it takes to prove a crate and all that it stands on, by the costs."""
+    """Returns how many minutes it takes to prove a crate and all that it depends on, by the costs."""
     direct = libraries()
     return Work([*below(name, direct), name], direct).minutes_left([], lanes())
 
 
 def prove_all(names, direct, neighbour):
-    """Proves these crates, each of which comes after those that it stands on. Returns whether all are proved.
+    """Proves these crates, each of which comes after those that it depends on. Returns whether all are proved.
 
     Two processors are left to the neighbour, a process that works too, as long as it does: what slows the first crate of
     the longest chain delays all."""
@@ -187,7 +187,7 @@ def prove_all(names, direct, neighbour):
             for done in wait(running, 1 if neighbour else None, FIRST_COMPLETED).done:
                 name, (status, seconds) = running.pop(done), done.result()
                 if status:
-                    tell_failure(name, seconds)
+                    say_failure(name, seconds)
                     return False
                 work.end(name, seconds)
                 left = work.minutes_left(running.values(), places)
@@ -208,7 +208,7 @@ def ended_by_signals():
             it.terminate()
 
 
-def tell_failure(name, seconds):
+def say_failure(name, seconds):
     """Shows why a crate is not proved."""
     say(f"{name} failed after {seconds:.0f} s; {TARGET}/{name}.log ends with:")
     with open(f"{TARGET}/{name}.log", encoding="utf-8", errors="replace") as lines:

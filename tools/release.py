@@ -76,7 +76,7 @@ def of_these(stated, built):
 
 
 def starts(path, version):
-    """Returns whether a program starts here, and tells this version."""
+    """Returns whether a program starts here, and reports this version."""
     try:
         words, wanted = [path, "--version"], f"chipfire {version}\n"
         return scripts.answers(words, wanted, stderr=subprocess.DEVNULL)
@@ -85,11 +85,11 @@ def starts(path, version):
 
 
 def loads(path, version):
-    """Returns whether a library is loaded here, by a process of its own, and tells this version."""
-    tells = "import ctypes, sys; print(ctypes.CDLL(sys.argv[1]).chipfire_version())"
+    """Returns whether a library is loaded here, by a process of its own, and reports this version."""
+    prints = "import ctypes, sys; print(ctypes.CDLL(sys.argv[1]).chipfire_version())"
     first, second, third = map(int, version.split("."))
     number = first * 10**6 + second * 1000 + third
-    words = [sys.executable, "-c", tells, path]
+    words = [sys.executable, "-c", prints, path]
     return scripts.answers(words, f"{number}\n", stderr=subprocess.DEVNULL)
 
 
@@ -166,8 +166,8 @@ def compare_program(stated, built, folder, kit):
     here = build.built_in(folder)
     others = " and ".join(word for word in here if built[word] != here[word])
     if stated.kit != kit:
-        answer = f"another {others}" if others else "the same"
-        return f"{stated.kit} built what is in release/, and {kit} built {answer} here."
+        result = f"another {others}" if others else "the same"
+        return f"{stated.kit} built what is in release/, and {kit} built {result} here."
     if others:
         raise Refused(f"the same kit built another {others} here from the same sources")
     return "Program and libraries in release/ are those that were built here, byte for byte."

@@ -6,10 +6,10 @@
 The same sources and tools make the same bytes. It takes the kit on the PATH, and `wasm-opt` of binaryen.
 
 The kit builds nothing for WebAssembly that allocates, since its heap calls C's. So what it lowers the proved functions
-to for x86-64, a module of LLVM, is taken on its way to the kit's clang. Pointers are as wide in WebAssembly with 64-bit
-addresses, and so clang compiles it for that, and the kit's linker links it with heap.c. `wasm-opt` then lowers the
-addresses to 32 bits, since not every engine has longer ones; calls keep 64 bits for each pointer and length. Once the
-kit has a heap there, `rt lib` links this module of a row of crates.txt: then heap.c, `lowered` and `linked` go.
+to for x86-64, a module of LLVM, is taken before it reaches the kit's clang. Pointers are as wide in WebAssembly with
+64-bit addresses, and so clang compiles it for that, and the kit's linker links it with heap.c. `wasm-opt` then lowers
+the addresses to 32 bits, since not every engine has longer ones; calls keep 64 bits for each pointer and length. Once
+the kit has a heap there, `rt lib` links this module of a row of crates.txt: then heap.c, `lowered` and `linked` go.
 """
 import json
 import os

@@ -49,7 +49,7 @@ export class Graph {
 }
 
 export interface Lattice {
-  /** "square", if not said; "triangular", with 6 neighbours: also those above to the right and below to the left; or
+  /** "square", by default; "triangular", with 6 neighbours: also those above to the right and below to the left; or
    * "hexagonal", with 3: left, right, and below if row and column together are even, else above. */
   lattice?: "square" | "triangular" | "hexagonal";
   /** Whether the first and the last row are neighbours, and whether the first and the last column are; or one for both. */
@@ -59,7 +59,7 @@ export interface Lattice {
 }
 
 export interface Limited {
-  /** How often each vertex may fire at most: MAX_LIMIT if not said. */
+  /** How often each vertex may fire at most: MAX_LIMIT by default. */
   limit?: Whole;
 }
 
@@ -87,7 +87,7 @@ export interface Avalanche {
   size: bigint;
   /** How many different vertices fired. */
   area: bigint;
-  /** How many chips they brought to the sink. */
+  /** How many chips were dissipated: they came to the sink. */
   lost: bigint;
 }
 
@@ -113,13 +113,13 @@ export interface Burning {
 
 /** A game that is kept, and on which chips are dropped. The most chips and the limit are for all drops together. */
 export interface Pile {
-  /** Plays on by about so many visits, of a vertex or an edge, to the end if not said; whether the play has still to end. */
+  /** Plays on by about this number of visits of a vertex or an edge, by default to the end; whether it goes on. */
   play(visits?: Whole): boolean;
-  /** Plays what is still to be played, then drops chips on a vertex, 1 if not said, and plays to the end. */
+  /** Plays what is still to be played, then drops chips on a vertex, 1 by default, and plays to the end. */
   drop(vertex: Whole, amount?: Whole): Avalanche;
-  /** The same for many drops, one after another: `amounts[i]` chips, 1 if not said, on vertex `at[i]`. All are looked at
-   * before the first falls, so a fault changes nothing, but for 13: there the limit stopped the drop at its place, and
-   * `made` of the fault has the rows of those before. */
+  /** The same for many drops, one after another: `amounts[i]` chips, 1 by default, on vertex `at[i]`. All are checked
+   * before the first is dropped, so a fault changes nothing, but for 13: there the limit stopped the drop at its place,
+   * and `made` of the fault has the rows of those before. */
   drops(at: Wholes, amounts?: Wholes): Columns;
   /** The chips of each vertex; before the first drop those that were put there. */
   chips(): BigUint64Array;
@@ -163,7 +163,7 @@ export class Chipfire {
   readonly version: string;
   /** How many bytes of memory the instance has; it never gives any back. */
   readonly memory: number;
-  /** Plays a game to its end. A guess of the counts changes no answer; the play is shorter if it is near. */
+  /** Plays a game to its end. An initial guess of the counts changes no result; the play is shorter if it is near. */
   stabilize(graph: Graph, chips: Wholes, options?: Limited & { guess?: Wholes }): Stabilized;
   /** Plays many games on one graph, whose chips stand one game's after another's. */
   stabilizeAll(
@@ -180,7 +180,7 @@ export class Chipfire {
   /** Whether configurations, whose chips stand one's after another's, are recurrent. Chips on the sink do not count, here
    * and below. */
   areRecurrent(graph: Graph, chips: Wholes): boolean[];
-  /** For each of so many configurations the one recurrent configuration that is equivalent to it. */
+  /** For each configuration the one recurrent configuration that is equivalent to it. */
   recurrent(graph: Graph, chips: Wholes): BigUint64Array;
   /** For each the one superstable configuration that is equivalent to it. */
   superstable(graph: Graph, chips: Wholes): BigUint64Array;

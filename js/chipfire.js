@@ -33,7 +33,7 @@ export class ChipfireFault extends Error {
 /** A graph as each call takes it. */
 const given = ({ vertices, sink, tails, heads, mults }) => [word(vertices), word(sink), tails, heads, mults];
 
-/** How many configurations of a graph lie behind one another; a part of one counts too, and is refused. */
+/** How many configurations of a graph lie one after another; a part of one counts too, and is refused. */
 const configurations = (graph, chips) => Math.ceil(chips.length / Math.max(Number(graph.vertices), 1));
 
 /** Numbers that a call writes, one for each vertex, of which a graph has up to 2^21. */
@@ -77,8 +77,8 @@ class Instance {
     return new BigUint64Array(this.memory.buffer, Number(at), length);
   }
 
-  /** Calls a function on numbers, on copies of arrays, and on those of `found`, which it writes. Behind these it may write
-   * up to three numbers, which are returned. A fault is thrown: the first of them is its place. */
+  /** Calls a function on numbers, on copies of arrays, and on those of `found`, which it writes. It may write up to
+   * three numbers after these, which are returned. A fault is thrown: the first of them is its place. */
   call(name, its, found = {}) {
     const written = Object.values(found);
     const all = [...its, ...written].map((it) => (typeof it === "bigint" ? it : words(it)));
@@ -173,7 +173,7 @@ export class Chipfire {
   }
 }
 
-/** Takes memory in the module for so many numbers. Returns where they lie, what calls a function on them, at first to
+/** Takes memory in the module for `length` numbers. Returns where they lie, what calls a function on them, at first to
  * begin, and what frees them, after a call of `ending`. */
 function kept(instance, length, gone, ending) {
   let at = instance.take(length);
@@ -236,7 +236,7 @@ function pileOf(instance, graph, chips, { limit = MAX_LIMIT } = {}) {
   };
 }
 
-/** Opens books in the module: a struct with a parent edge and two sums, and behind it three numbers for each edge. */
+/** Opens books in the module: a struct with a parent edge and two sums, and after it three numbers for each edge. */
 function opened(instance, ins, outs) {
   const sides = [ins, outs].map((edges) => Array.from(BigUint64Array.from(edges, word).sort()));
   const tallies = sides.flat().flatMap((edge) => [edge, 0n, 0n]);

@@ -51,7 +51,7 @@ function mixed(one, other, share) {
   return `#${sums.map((part) => part.toString(16).padStart(2, "0")).join("")}`;
 }
 
-/** So many colours, from the first of these to the last. */
+/** `count` colours, from the first of these to the last. */
 function spread(corners, count) {
   return Array.from({ length: count }, (_, step) => {
     const place = (step * (corners.length - 1)) / (count - 1);
@@ -170,7 +170,7 @@ function take(its, what = "") {
 const pause = (time) => new Promise((done) => setTimeout(done, time));
 const nextPicture = () => new Promise((done) => requestAnimationFrame(done));
 
-/** Does something that takes time, one thing at once; what goes wrong is said. */
+/** Does something that takes time, one thing at once, and reports what goes wrong. */
 async function work(name, does) {
   if (isRunning) return;
   setRunning(true);
@@ -184,7 +184,7 @@ async function work(name, does) {
   setRunning(false);
 }
 
-/** What is said while something runs is not read aloud, but its end. */
+/** Screen readers read no message aloud while something runs, but the last. */
 function setRunning(is) {
   isRunning = is;
   at("stop").disabled = !is;

@@ -7,7 +7,7 @@ const SIZES = 1024;
 const DEGREES = { square: 4, triangular: 6, hexagonal: 3 };
 /** How many vertices are compared before all are. */
 const FEW = 200;
-/** How borders are joined, and how many chips each firing loses, since without a border none would leave. */
+/** How borders are joined, and how many chips each firing dissipates, since without a border none would leave. */
 const BORDERS = {
   open: { periodic: [false, false], loss: 0 },
   sides: { periodic: [false, true], loss: 0 },
@@ -67,7 +67,7 @@ function playOn() {
   }
 }
 
-/** Drops a chip on each of these vertices: of each avalanche the size, the area, and what was lost. */
+/** Drops a chip on each of these vertices: of each avalanche the size, the area, and what was dissipated. */
 function dropAll(vertices) {
   const { sizes, areas, losts } = pile.drops(vertices);
   return Array.from(sizes, (size, drop) => [size, areas[drop], losts[drop]].map(Number));
@@ -172,7 +172,7 @@ const ANSWERS = {
     const fired = numbersOf(its.fired);
     return { chips: numbersOf(its.chips), fired, total: sumOf(fired) };
   },
-  /** Lets each vertex fire so often at most; with chips it begins anew. */
+  /** Lets each vertex fire as often as the limit says at most; with chips it begins anew. */
   round({ chips, most }) {
     if (chips) keep(chips, most);
     else pile.put(pile.chips(), { limit: most });

@@ -112,7 +112,7 @@ class Ranks(unittest.TestCase):
         for graph in (K4, chipfire.complete(6), chipfire.grid(3, 3)):
             self.assertEqual(chipfire.canonical_divisor(graph).rank(), chipfire.genus(graph) - 1)
         # (with three edges between two vertices, one chip on each is the canonical divisor, to which a firing leads
-        # from 4 and -2, and not from 2 and 0; no firing leads from 1 and -1 to none)
+        # from 4 and -2, and not from 2 and 0; no firing leads from 1 and -1 to zero)
         two = chipfire.Graph.undirected([("a", "b", 3)], "a")
         given = (1, {"a": 4, "b": -2}, {"a": 2}, {"a": 1, "b": -1})
         self.assertEqual([chipfire.Divisor(two, it).rank() for it in given], [1, 1, 0, -1])
@@ -120,7 +120,7 @@ class Ranks(unittest.TestCase):
     def test_a_search_that_is_too_long_is_refused(self):
         graph = chipfire.grid(4, 4)
         divisor = chipfire.Divisor(graph, {0: chipfire.genus(graph) - 1, 16: 0})
-        with self.assertRaisesRegex(ValueError, "the rank is . or more, and 50 divisors do not tell which"):
+        with self.assertRaisesRegex(ValueError, "the rank is . or more, and 50 divisors do not show which"):
             divisor.rank(most=50)
 
     def test_the_most_divisors_are_those_of_all_degrees(self):
@@ -135,10 +135,10 @@ class Ranks(unittest.TestCase):
                     with self.assertRaisesRegex(ValueError, f"{most - 1} divisors? do"):
                         divisors.searched_rank(divisor, most - 1)
         # By hand: on a triangle no two vertices are equivalent, and of each degree there are three divisors. What is
-        # left of two chips is 1, 3 and 3 divisors, and those of degree 0 are not all equivalent to none.
+        # left of two chips is 1, 3 and 3 divisors, and those of degree 0 are not all equivalent to zero.
         triangle = chipfire.Divisor(chipfire.Graph.undirected([(0, 1), (1, 2), (2, 0)], 0), {0: 2})
         self.assertEqual(divisors.searched_rank(triangle, 7), 1)
-        with self.assertRaisesRegex(ValueError, "the rank is 1 or more, and 6 divisors do not tell which"):
+        with self.assertRaisesRegex(ValueError, "the rank is 1 or more, and 6 divisors do not show which"):
             divisors.searched_rank(triangle, 6)
 
 

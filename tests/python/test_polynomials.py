@@ -94,7 +94,7 @@ class Tutte(unittest.TestCase):
 
     def test_a_graph_that_is_too_large_is_refused_before_terms_are_multiplied(self):
         with mock.patch("chipfire.divisors.polynomials._add", side_effect=AssertionError):
-            with self.assertRaisesRegex(ValueError, "smaller graphs come out, and 2,000 at most are looked at"):
+            with self.assertRaisesRegex(ValueError, "smaller graphs come out, and 2,000 at most are visited"):
                 chipfire.tutte_polynomial(chipfire.grid(6, 6), most=2000)
 
     def test_progress_rises_to_its_end(self):
@@ -118,7 +118,7 @@ class Tutte(unittest.TestCase):
     def test_what_is_refused(self):
         with self.assertRaisesRegex(ValueError, "this is of undirected graphs"):
             chipfire.tutte_polynomial(chipfire.Graph(3, 2, [(0, 1), (1, 2)]))
-        with self.assertRaisesRegex(ValueError, "smaller graphs come out, and 20 at most are looked at"):
+        with self.assertRaisesRegex(ValueError, "smaller graphs come out, and 20 at most are visited"):
             chipfire.tutte_polynomial(chipfire.complete(8), most=20)
         for word in (chipfire.tutte_polynomial, chipfire.level_polynomial):
             with self.assertRaisesRegex(ValueError, "at least 20. smaller graphs come out, and 200 at most"):

@@ -32,7 +32,7 @@ Chips = Union[int, Sequence[Any], Mapping[Any, int], Any]
 
 
 def capped(counts: Sequence[int]) -> Sequence[int]:
-    """Counts of chips or firings, of which what is too much anyway is a number of 64 bits."""
+    """Counts of chips or firings. Each that is above the most, and so refused, becomes the least that is."""
     return (
         counts
         if max(counts, default=0) <= MAX_CHIPS
@@ -41,8 +41,8 @@ def capped(counts: Sequence[int]) -> Sequence[int]:
 
 
 def in_words(counts: Sequence[int]) -> array[int]:
-    """Counts of chips or firings, from 0 on, as an array of 64-bit numbers: as it is, if it is one. What does not fit there
-    is too much anyway."""
+    """Counts of chips or firings, from 0 on, as an array of 64-bit numbers: the same array, if it is one. Numbers that
+    do not fit become `capped` ones."""
     if isinstance(counts, array) and counts.typecode == "Q":
         return counts
     try:
@@ -219,7 +219,7 @@ class Configuration(Drawn, Sums):
         return representative("inverse", self, program)
 
     def order(self) -> int:
-        """How many times it is added to itself until that is equivalent to no chips. Nothing of this is proved."""
+        """How many times it is added to itself until that is equivalent to zero. Nothing of this is proved."""
         return smith.order_of(smith.reduced(self.graph), dict(enumerate(self.values())))
 
     def _values(self, of: str) -> Sequence[int]:
@@ -274,10 +274,10 @@ def _by_program(
     for start in range(0, len(chips), graph.vertices or 1):
         text = chips_text(chips[start : start + graph.vertices])
         files = [("graph", graph.kept), ("chips", Kept([text.encode()]))]
-        told = json.loads(ask(program, "plain", files, graph=graph))
-        left.extend(told["chips"])
-        fired.extend(told["fired"])
-        stopped += len(told["over"])
+        report = json.loads(ask(program, "plain", files, graph=graph))
+        left.extend(report["chips"])
+        fired.extend(report["fired"])
+        stopped += len(report["over"])
     return left, fired, stopped
 
 
@@ -295,8 +295,8 @@ def burning_test(graph: Graph, chips: Sequence[int], program: FileName | None) -
 
 
 def _from_none_on(chips: Sequence[int], sink: int, width: int) -> tuple[array[int], set[int]]:
-    """The chips of configurations, 0 at the sink. Where one begins that has less than 0 somewhere, there is none in its
-    place, since no play comes back to it."""
+    """The chips of configurations, 0 at the sink, and where those begin that have fewer than 0 chips somewhere. In
+    their place there are none, since no play returns to them."""
     none = [0] * (len(chips) // width)
     found = in_column(chips)
     if found is not None:
@@ -331,21 +331,21 @@ def most_stable(graph: Graph) -> Sequence[int]:
 def cached_on_graph(
     question: Callable[[Graph, FileName | None], T]
 ) -> Callable[[Graph, FileName | None], T]:
-    """A question that is asked once of each graph and program; the graph keeps the answer."""
+    """A question that is asked once of each graph and program; the graph keeps the result."""
 
     @functools.wraps(question)
-    def answer(graph: Graph, program: FileName | None) -> T:
+    def result(graph: Graph, program: FileName | None) -> T:
         known = graph.answers
         key = (question.__name__, program)
         found: T = known[key] if key in known else known.setdefault(key, question(graph, program))
         return found
 
-    return answer
+    return result
 
 
 @cached_on_graph
 def burning(graph: Graph, program: FileName | None) -> tuple[Sequence[int], Sequence[int]]:
-    """The least burning script, and the chips that it takes away, by numbers; `chipfire.burning_script` tells how."""
+    """The least burning script, and the chips that it takes away, by numbers; `chipfire.burning_script` says how."""
     none = [0] * graph.vertices
     graph = graph.loop_free
     if found := library.burning(graph, program):
@@ -370,10 +370,10 @@ def identity(graph: Graph, program: FileName | None) -> Sequence[int]:
 
 def representative(form: str, held: Configuration, program: FileName | None) -> Configuration:
     """The `recurrent` or the `superstable` configuration that is equivalent to this one, or the `inverse` of the first;
-    `chipfire.recurrent_representative` and those beside it tell how."""
+    `chipfire.recurrent_representative` and those beside it say how."""
     graph = held.graph
     if min(held.numbers) < 0:
-        # (one chip more than is stable, less what these become, is equivalent to none, and 1 on each vertex at least)
+        # (one chip more than is stable, less what these become, is equivalent to zero, and 1 on each vertex at least)
         full = graph.max_stable() + 1
         lift = full - full.stabilize(program=program)
         pairs = zip(held.numbers, lift.numbers)

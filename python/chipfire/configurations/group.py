@@ -90,9 +90,9 @@ class Group:
     def element(self, coordinates: Sequence[int], *, program: AnyProgram = None) -> Configuration:
         """The recurrent configuration of these coordinates, of which there is a number for each factor.
 
-        It comes of the identity by chips that fall and are multiplied by 4, again and again: in as many plays as the
-        largest factor has digits in base 4.
-        Proved: the plays. Not proved: which chips fall."""
+        Plays make it of the identity: each multiplies the chips by 4, adds some and stabilizes. There are as many plays
+        as the largest factor has digits in base 4.
+        Proved: the plays. Not proved: which chips are added."""
         times = as_ints(
             listed(coordinates, "coordinates stand in a list"), lambda at: f"coordinate {at}", None
         )
@@ -123,6 +123,6 @@ class Group:
         return tuple(self.element([int(at == place) for at in places]) for place in places)
 
     def order(self, chips: Chips) -> int:
-        """How many times chips are added to themselves until that is equivalent to none."""
+        """How many times chips are added to themselves until that is equivalent to zero."""
         pairs = zip(self.coordinates(chips), self.factors)
         return math.lcm(*(factor // math.gcd(count, factor) for count, factor in pairs))

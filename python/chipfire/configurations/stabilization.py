@@ -173,7 +173,7 @@ def rows_of(
 
 
 def _whole_rows(graph: Graph, configurations: Any, least: int | None) -> array[int] | None:
-    """The same, if none of the numbers has to be looked at by itself; else None."""
+    """The same, if none of the numbers has to be read by itself; else None."""
     numpy = numpy_of(configurations)
     if numpy:
         rows = _rows_of_array(numpy, graph, configurations)

@@ -1,6 +1,6 @@
 """Divisors of undirected graphs: chips on all vertices, the sink among them, which any vertex gives and takes.
 
-Stabilizations are the program's, whose answer is proved. Sums and ranks are not; tests compare them with their words.
+Proved: the stabilizations, which are the program's. Not proved: sums and ranks; tests compare them with definitions.
 """
 
 from __future__ import annotations
@@ -15,7 +15,7 @@ from chipfire.configurations.recurrent import superstable_representative
 from chipfire.graphs.graph import Graph
 from chipfire.utils import as_int, AsArray, with_unit
 
-#: How many divisors are looked at to find a rank, if that is not said.
+#: How many divisors are visited to find a rank, by default.
 MOST = 100_000
 
 
@@ -124,12 +124,13 @@ class Divisor(AsArray, Sums):
 
     def rank(self, *, most: int = MOST) -> int:
         """The rank r, by Baker and Norine: if any r chips are taken away, what is left is equivalent to an effective
-        divisor, but not so if any r + 1 are; -1 if it is equivalent to none itself.
+        divisor, but not so if any r + 1 are; -1 if this one is equivalent to no effective divisor.
 
-        By Riemann and Roch, r(D) - r(K - D) = degree - genus + 1 with K the canonical divisor. So the one of lower
-        degree is searched: what is left of it, up to equivalence, after one chip less and less: of each degree up to
-        `order(graph)`. A ValueError tells if more than `most` divisors would be looked at. The usual 100,000 take some
-        15 s of 5 by 5 squares, and do for each graph of up to 10,000 spanning trees and genus 10.
+        By Riemann and Roch, r(D) - r(K - D) = degree - genus + 1 with K the canonical divisor. The search begins at D
+        or K - D, of which it takes the one of lower degree. It takes away one chip after another, and visits what is
+        left, up to equivalence: at most `order(graph)` divisors of each degree. More than `most` in all are a
+        ValueError. The default of 100,000 takes some 15 s on 5 by 5 squares, and suffices for each graph of up to
+        10,000 spanning trees and genus 10.
         Nothing of this is proved, and the program is not asked."""
         most = as_int(most, "the most divisors", 1)
         other = canonical_divisor(self.graph) - self
@@ -223,7 +224,7 @@ def searched_rank(divisor: Divisor, most: int = MOST) -> int:
                 less.add(reduced([count - (at == vertex) for at, count in enumerate(chips)]))
             if seen + len(less) > most:
                 raise ValueError(
-                    f"the rank is {rank} or more, and {with_unit(most, 'divisor')} do not tell which"
+                    f"the rank is {rank} or more, and {with_unit(most, 'divisor')} do not show which"
                 )
         level = less
         seen = seen + len(less)

@@ -1,6 +1,6 @@
 """Polynomials of small graphs, as dicts from powers to coefficients: `sympy.Poly.from_dict` takes each of them.
 
-Avalanches are the program's, whose answer is proved. All else is not; tests compare it with sums over all cases.
+Proved: the avalanches, which are the program's. Not proved: all else; tests compare it with sums over all cases.
 """
 
 from __future__ import annotations
@@ -29,7 +29,7 @@ Terms = Counter[tuple[int, int]]
 #: What takes the last vertex out of a graph.
 Step = Callable[[int], Iterator[tuple[int, int, int]]]
 
-#: How many smaller graphs, or configurations, are looked at, if that is not said.
+#: How many smaller graphs, or configurations, are visited, by default.
 MOST = 100_000
 
 
@@ -235,7 +235,7 @@ def _require_few(graph: Graph, most: int) -> None:
     count = order(graph)
     if count > as_int(most, "the most configurations", 1):
         raise ValueError(
-            f"at most {most:,} recurrent configurations are gone through, and there are {count:,}"
+            f"at most {most:,} recurrent configurations are visited, and there are {count:,}"
         )
 
 
@@ -247,7 +247,7 @@ def _sorted(polynomial: dict[Power, int]) -> dict[Power, int]:
 def _whitney(graph: Graph, most: int, is_one: bool, progress: AnyProgress) -> Terms:
     """T(x, y) by powers of x - 1 and of y; at x = 1, if `is_one`.
 
-    The last vertex is contracted into one of its neighbours, after its edges to those behind that are deleted. Of the
+    The last vertex is contracted into one of its neighbours, after its edges to those after that are deleted. Of the
     m edges between the two, one is contracted, and the others become loops or are deleted: 1 + y + .. + y^(m - 1). Or
     all edges of the vertex are deleted: x - 1. The graphs alone are made first, since their terms take far longer.
     """
@@ -277,15 +277,15 @@ def _count_graphs(start: int, steps: Sequence[Step], most: int) -> int:
         for joined in graphs:
             smaller.update(after for after, _, _ in step(joined))
             if len(smaller) > most:
-                told = f"{with_unit(len(smaller), 'smaller graph')} come out"
-                raise ValueError(f"at least {told}, and {most:,} at most are looked at")
+                shown = f"{with_unit(len(smaller), 'smaller graph')} come out"
+                raise ValueError(f"at least {shown}, and {most:,} at most are visited")
         graphs = smaller
     return count
 
 
 def _steps(graph: Graph, is_one: bool) -> tuple[int, list[Step]]:
     """A graph as one number, which says how often each two vertices are joined, and how each vertex is taken out, from
-    the last one on. The pairs of a vertex with those before it stand behind the pairs of the vertices before it.
+    the last one on. The pairs of a vertex with those before it come after the pairs of the vertices before it.
     """
     joined = _joined(graph)
     beside: list[set[int]] = [set() for _ in range(graph.vertices)]

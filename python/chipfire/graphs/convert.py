@@ -152,8 +152,8 @@ def from_edges(
     for name in (source, target, weight):
         if name in table:
             column = table[name]
-            told = f"the column {name!r} of edges has values in an order"
-            columns.append(list(column) if isinstance(column, str) else listed(column, told))
+            wanted = f"the column {name!r} of edges has values in an order"
+            columns.append(list(column) if isinstance(column, str) else listed(column, wanted))
     if len({*map(len, columns)}) > 1:
         raise ValueError(
             f"the columns of edges have {' and '.join(str(len(it)) for it in columns)} rows"

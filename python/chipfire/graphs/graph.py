@@ -71,7 +71,7 @@ def _heads_of_first(columns: Columns, sink: int) -> list[int]:
 
 
 def _are_neighbours(columns: Columns, squares: int, width: int) -> bool:
-    """Whether the ends of each edge but those to the sink are neighbours on a grid of so many squares."""
+    """Whether the ends of each edge but those to the sink are neighbours on a grid of this number of squares."""
     tails, heads, _ = columns
     numpy = numpy_in_use() if tails else None
     if numpy:
@@ -437,8 +437,8 @@ class Graph:
         """Refuses a graph with loops, if only one without can be taken."""
         if self.loops:
             at, count = next((at, count) for at, count in enumerate(self.loops) if count)
-            told = f"vertex {self.names[at]!r} has {with_unit(count, 'loop')}"
-            raise ValueError(f"{told}: this takes a graph without loops")
+            why = f"vertex {self.names[at]!r} has {with_unit(count, 'loop')}"
+            raise ValueError(f"{why}: this takes a graph without loops")
 
     @property
     def loop_free(self) -> Graph:
@@ -455,8 +455,8 @@ class Graph:
             if left < 0 < loops:
                 name = self.names[at % self.vertices]
                 has = with_unit(chips[at], "chip")
-                told = f"vertex {name!r} has {has} and {with_unit(loops, 'loop')}"
-                raise ValueError(f"{told}: nothing is played on fewer chips than loops")
+                why = f"vertex {name!r} has {has} and {with_unit(loops, 'loop')}"
+                raise ValueError(f"{why}: nothing is played on fewer chips than loops")
         return found
 
     def with_loops(self, chips: Sequence[int]) -> array[int]:
@@ -491,7 +491,7 @@ class Graph:
     def numbers(
         self, values: Any, least: int | None = None, of: str = "chips", *, with_sink: bool = False
     ) -> tuple[int, ...]:
-        """The same, of `least` or more if that is said; or numbers of something else, as of "firings". If they are
+        """The same, of `least` or more if that is given; or numbers of something else, as of "firings". If they are
         wanted `with_sink`, a sequence has one for the sink too, and one number is for all vertices.
         """
         return tuple(self.column(values, least, of, with_sink=with_sink))
@@ -520,7 +520,7 @@ class Graph:
         )
 
     def _whole_column(self, values: Any, least: int | None, with_sink: bool) -> array[int] | None:
-        """Whole numbers that none has to be looked at by itself: one for each vertex, or for each but the sink, or an
+        """Whole numbers of which none has to be read by itself: one for each vertex, or for each but the sink, or an
         array of NumPy of the graph's shape. None for all else."""
         if not isinstance(values, (list, tuple, array)) and not numpy_of(values):
             return None

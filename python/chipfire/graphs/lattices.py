@@ -72,7 +72,7 @@ def grid(
     loss: Any = 0,
     lattice: str = "square",
 ) -> Graph:
-    """Returns a grid that loses chips at its border.
+    """Returns a grid that dissipates chips at its border.
 
     Parameters
     ----------
@@ -87,7 +87,7 @@ def grid(
         The directions whose borders are joined: all, or as said of each, that of the width first. Such a direction
         has at least two vertices.
     loss : int or Chips, optional
-        How many more chips a firing loses: one number for all vertices, or one for each. If all directions are
+        How many more chips a firing dissipates: one number for all vertices, or one for each. If all directions are
         periodic, some is needed.
     lattice : {"square", "triangular", "hexagonal"}, optional
         The neighbours of a vertex, as in `region`. A hexagonal lattice has an even size in a periodic direction.
@@ -246,7 +246,7 @@ def grid_for(chips: int) -> Graph:
 
 
 def _plain_grid(width: int, height: int) -> Graph:
-    """The grid of two directions, whose every border loses chips: rows between the first and the last are alike."""
+    """The grid of two directions, each border of which dissipates chips: the rows between first and last are alike."""
     sink = width * height
     few = width * min(height, 3)
     alike = max(height - 2, 1)

@@ -55,8 +55,8 @@ def parts_of_named(
 def parts_of_arrays(
     source: Any, target: Any, weight: Any, sink: Any, is_directed: bool
 ) -> dict[str, Any] | None:
-    """The same for edges whose ends have whole numbers as names, in arrays of NumPy; each sends one chip if there are no
-    weights. None if there is a loop, or several sinks, or if some value has to be looked at by itself.
+    """The same for edges whose ends have whole numbers as names, in arrays of NumPy; each sends one chip if there are
+    no weights. None if there is a loop, or several sinks, or if some value has to be read by itself.
     """
     numpy = numpy_of(source)
     weight = numpy.ones(len(source), "i") if numpy and weight is None else weight

@@ -62,7 +62,7 @@ class Frames:
         return len(self.limits)
 
     def save(self, file: FileName, scale: int = SCALE, seconds: float = 0.25) -> None:
-        """Writes the animation: `.html` is a page with a slider; with Pillow, `.gif` shows each picture so long."""
+        """Writes the animation: a page with a slider as `.html`, each picture for `seconds` as `.gif` (by Pillow)."""
         if os.fspath(file).lower().endswith(".html"):
             write_text(file, self.page())
         else:

@@ -22,7 +22,7 @@ def pillow() -> Any:
 
 
 def write(file: FileName, frames: Sequence[Rows], colours: bytes, milliseconds: int = 0) -> None:
-    """Writes a picture, or several that are shown for so long each; the end of the file's name says in which form."""
+    """Writes a picture, or several, each shown for `milliseconds`; the end of the file's name says in which form."""
     maker = pillow()
     if maker is not None:
         images = [

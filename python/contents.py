@@ -1,4 +1,4 @@
-"""The version of chipfire, and what is handed on of it: what lies where in the archive, the Debian package and the wheel.
+"""The version of chipfire, and what lies where in its parts: in the archive, the Debian package and the wheel.
 
 All that packs or checks takes both from here. The archive of the package's sources for pip has this file too, so it
 imports nothing else of the repository; and a Python that is too old for the others understands it.
@@ -122,7 +122,7 @@ def sources():
 
 
 def system():
-    """Returns what this machine is, as `uname -sm` tells it."""
+    """Returns what this machine is, as `uname -sm` reports it."""
     return f"{platform.system()} {platform.machine()}"
 
 
@@ -150,7 +150,7 @@ def manuals():
 
 
 def archive_top(of=None):
-    """Returns the name of the one folder in the archive of a version: of this one if none is said."""
+    """Returns the name of the one folder in the archive of a version: of this one by default."""
     return f"chipfire-{of or version()}"
 
 
@@ -160,13 +160,13 @@ def archive_name(of, machine):
 
 
 def archive_places(machine, of=None):
-    """Returns where all is that PROVED is about, and PROVED, in the archive of a version: of this one if none is said."""
+    """Returns where all is that PROVED is about, and PROVED, in the archive of a version: of this one by default."""
     found = places(ARCHIVE_LIBRARIES, machine)
     return {word: f"{archive_top(of)}/{place}" for word, place in found.items()}
 
 
 def npm_name(of=None):
-    """Returns the name of the package for npm of a version: of this one if none is said."""
+    """Returns the name of the package for npm of a version: of this one by default."""
     return f"chipfire-{of or version()}.tgz"
 
 

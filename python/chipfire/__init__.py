@@ -6,16 +6,21 @@
     report = chipfire.plain(grid, {190: 1000})
     print(report.chips, report.fired)
 
-Results are the program's, whose contracts are proved; nothing of the package is. The package needs the standard library
-alone: `pip install ./python` installs it, and a copy of its folder works too. The program is found in this order: the
-`program` that a call or a `Program` names, the environment variable CHIPFIRE, the program that an installed package
-carries, `target/chipfire` of the clone of the repository that the package lies in or that pip was named the folder of,
-the program in the `release` there, if `./chipfire` would take it, and `chipfire` in a folder of the PATH with a whole
-path. A clone that somebody but this user and root can change is passed over. An import that finds no program warns, unless
-the package carries the library alone, for a C library that is too old for the program: then plays, groups, books and the
-detector work. If the library lies beside the program, which has the same functions and proofs, plays start no program:
-`chipfire.library` has the calls, and `find_library()` its file. A copy of the folder has no version to compare with the
-library's, and does not call it.
+Results are the program's, whose contracts are proved. Not proved: the package. It needs the standard library alone:
+`pip install ./python` installs it, and a copy of its folder works too. The program is the first of these:
+
+    the `program` that a call or a `Program` names
+    the program that the environment variable CHIPFIRE names
+    the program that an installed package carries
+    `target/chipfire` in the clone of the repository that has the package, or that pip installed it from
+    the program in `release` there, if `./chipfire` would take it
+    `chipfire` in a folder that the PATH names by an absolute path
+
+A clone that others than this user and root can change is ignored. An import that finds no program warns, unless the
+package carries the library alone, for a C library that is too old for the program: then plays, groups, books and the
+detector work. The library has the same functions and proofs as the program. If it lies beside the program, plays start
+no process: `chipfire.library` has the calls, and `find_library()` returns its file. A copy of the folder has no version
+to compare with the library's, and does not call it.
 
 The usual words of sandpiles are found under these names:
 

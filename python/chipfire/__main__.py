@@ -62,14 +62,14 @@ def _page(asked: argparse.Namespace) -> str:
     options = {"limit": asked.limit, "ring": asked.ring, "program": asked.program}
     refuse_more(asked.events)
     if not begins(asked.events, TRACE_HEADER):
-        told = simulate(*game, rounds=asked.rounds, fed=asked.fed, books=True, **options)
+        run = simulate(*game, rounds=asked.rounds, fed=asked.fed, books=True, **options)
     elif asked.rounds is None and not asked.fed:
-        told = recorded(*game, **options)
+        run = recorded(*game, **options)
     else:
         raise ValueError("--rounds and --fed go with a schedule; a trace is a run without them")
     title = asked.title or "A run of chipfire"
     places = asked.positions and _positions(asked.positions)
-    return page_text(told, title=title, positions=places, program=asked.program)
+    return page_text(run, title=title, positions=places, program=asked.program)
 
 
 def _setting(files: list[str], asked: argparse.Namespace, **options: Any) -> Setting:
@@ -268,12 +268,12 @@ def _add_explore(commands: Any) -> None:
     )
     command = _add(commands, "explore", says, make=_explore)
     _add_detector(command)
-    says = "how many states are looked at"
+    says = "how many states are visited"
     command.add_argument("--most", type=int, default=100_000, metavar="N", help=says)
     says = "a send is one step, and not clear, claim and put: fewer states, and less is found"
     command.add_argument("--whole-sends", action="store_true", help=says)
     _add_limits(command, MAX_LIMIT, 1)
-    says = "the root feeds so many chips on its edge, each feed after the others"
+    says = "the root feeds CHIPS on its edge EDGE, each feed after the others"
     command.add_argument(
         "--feed",
         type=int,
@@ -344,10 +344,10 @@ def _add_judge_log(commands: Any) -> None:
     command.add_argument("--processes", type=int, default=0, metavar="N", help=says)
     for name, says in [
         ("gaps", "takes a log without events that its clocks count"),
-        ("past", "tells how many rows of each process are before an early claim"),
+        ("past", "reports the causal past of each early claim: how many rows of each process"),
         ("first", "ends at the first early claim, by process and row"),
         ("reactive", "for processes that do not log when they are passive"),
-        ("cut", "leaves out the rows that wait in vain, and all behind them"),
+        ("cut", "leaves out the rows that wait after maximal progress, and all after them"),
         ("progress", "writes which claim is judged, about once a second"),
     ]:
         command.add_argument(f"--{name}", action="store_true", help=says)

@@ -27,7 +27,7 @@ class Progress:
         self.function = asked if callable(asked) else None
         self.bar: Any = None
         self.is_shown = bool(asked)
-        self.told = -1
+        self.shown = -1
         self.next_time = time.monotonic()
         tqdm = import_optional("tqdm") if asked is True else None
         if tqdm:
@@ -43,13 +43,13 @@ class Progress:
     def show(self, done: int, is_last: bool = False) -> None:
         """Says how much is done, unless it has just been said."""
         now = time.monotonic()
-        if not self.is_shown or done == self.told or not is_last and now < self.next_time:
+        if not self.is_shown or done == self.shown or not is_last and now < self.next_time:
             return
         if self.function is not None:
             self.function(done, self.total)
         elif self.bar is not None:
-            self.bar.update(done - max(self.told, 0))
+            self.bar.update(done - max(self.shown, 0))
         else:
             print(f"chipfire: {done:,} of {self.total:,} {self.what}", file=sys.stderr, flush=True)
-        self.told = done
+        self.shown = done
         self.next_time = now + (_LINES if self.function is None and self.bar is None else _CALLS)

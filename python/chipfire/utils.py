@@ -1,4 +1,4 @@
-"""What all modules stand on: limits, whole numbers, files and their rows, and libraries that may be missing."""
+"""What all modules depend on: limits, whole numbers, files and their rows, and libraries that may be missing."""
 
 from __future__ import annotations
 
@@ -74,7 +74,7 @@ def as_ints(
 
 
 def in_column(values: Any, least: int | None = 0, most: int | None = None) -> array[int] | None:
-    """Whole numbers of a range as an array of 64-bit numbers, copied once, if none has to be looked at by itself: ints of
+    """Whole numbers of a range as an array of 64-bit numbers, copied once, if none has to be read by itself: ints of
     Python, or an array of NumPy, row by row. None for others."""
     numpy = numpy_of(values)
     if numpy:
@@ -201,7 +201,7 @@ def no_graph(given: Any, wanted: str) -> TypeError:
 
 
 def as_array(numbers: Sequence[Any], dtype: Any = None) -> Any:
-    """Whole numbers, or rows of them, as an array of NumPy, of 64 bits if no type is said."""
+    """Whole numbers, or rows of them, as an array of NumPy, of 64 bits by default."""
     numpy = import_optional("numpy", "an array is one of NumPy")
     exact = numpy.array(numbers, dtype=object)
     kind = numpy.dtype("int64" if dtype is None else dtype)

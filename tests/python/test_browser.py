@@ -349,7 +349,7 @@ class Controls(InBrowser):
 class Choices(InBrowser):
     """Pages on which one picks each event."""
 
-    #: What the page says now: the events that may happen, the last event with its reply, and the last word.
+    #: What the page says now: the events that may happen, the last event with its reply, and the verdict.
     NOW = """(() => ({
         possible: [...document.querySelectorAll("#possible button")].map((it) => it.textContent),
         picked: [...document.querySelectorAll("#possible button")].findIndex((it) => it.ariaPressed === "true"),
@@ -439,7 +439,7 @@ class Choices(InBrowser):
 
     def test_a_root_that_is_closed_too_early(self):
         self.open("at-once", setting=chipfire.Setting(TRIANGLE, (3, 0, 0)))
-        for said in ("Vertex 0 takes", "Vertex 0 acknowledges", "The root looks"):
+        for said in ("Vertex 0 takes", "Vertex 0 acknowledges", "The root reads"):
             self.browser.value(f"[...document.querySelectorAll('#possible button')].find("
                                f"(it) => it.textContent.startsWith('{said}')).click()")
         self.assertEqual(self.browser.value(END), [False, "wrong", "The root is closed; vertex 0 can still fire."])
@@ -457,7 +457,7 @@ class Choices(InBrowser):
 
 
 class Screens(InBrowser):
-    """The page on a projector and a phone, and by those who tell colours apart poorly."""
+    """The page on a projector and a phone, and by those who see few differences of colours."""
 
     SIZES = {"projector": ((1024, 768), False), "wide": ((1920, 1080), False), "phone": ((375, 812), True)}
 

@@ -26,7 +26,7 @@ from small_graphs import directed_graphs
 from students import EARLY, GAMES, MISSED, NOT_LOCAL, REFUSED, RIGHT, STUDENTS
 
 SOAK = bool(os.environ.get("CHIPFIRE_SOAK"))
-#: How many states of a game the search of this file looks at, and how many random schedules are drawn of a right class.
+#: How many states of a game the search of this file visits, and how many random schedules are drawn of a right class.
 CAP = 200_000 if SOAK else 3_000
 SCHEDULES = 10_000 if SOAK else 100
 PAIR = GAMES["pair"]
@@ -49,7 +49,7 @@ REFUSALS = {
     "TakesChips": ("it changes chips of vertex 0, which is the game's", 1),
     "TakesMessages": ("it changes delivered of edge [01], which is the game's", None),
     "EndsItself": ("it changes halt of vertex 0, which is the game's", 1),
-    "AnswersNotNow": ("take [01] answers 'not-now 5', and in the game 'got 1 1'", None),
+    "AnswersNotNow": ("take [01] replies 'not-now 5', and in the game 'got 1 1'", None),
     "OpensAgain": ("the root is open again, and it was closed before this event", None),
     "Lies": ("look 0 is one event of Lies in which more than two parts tell and hear something", None),
     "WithoutTells": ("look is an event of WithoutTells, whose `tells` does not say who tells whom", None),
@@ -278,7 +278,7 @@ class Endings(unittest.TestCase):
 
 
 class Sends(unittest.TestCase):
-    def test_whole_sends_are_asked_for_and_told(self):
+    def test_whole_sends_are_asked_for_and_reported(self):
         # (a detector that counts at the put is wrong only between a claim and its put)
         early = chipfire.explore(GAMES["triangle"], students.CountsPuts)
         self.assertEqual((early.status, len(early.schedule)), (2, 8))
@@ -306,7 +306,7 @@ class Knowledge(unittest.TestCase):
         self.assertGreaterEqual(count, 60)
 
     def test_a_claim_by_hand(self):
-        # Process 1 tells process 2 that it is passive, and process 0 sent to it and claims.
+        # Process 1 reports to process 2 that it is passive, and process 0 sent to it and claims.
         sent = [(0, "active", 0), (0, "send", 0), (0, "passive", 0), (1, "receive", 0)]
         told = [(1, "passive", 0), (1, "tell", 1), (0, "hear", 1)]
         claim = (0, "over", 0)
@@ -326,7 +326,7 @@ class Knowledge(unittest.TestCase):
 
 
 class Kept(unittest.TestCase):
-    """What a state tells from another, and what stays the same in it."""
+    """What distinguishes a state from another, and what stays the same in it."""
 
     @dataclasses.dataclass(frozen=True)
     class Share:
@@ -349,7 +349,7 @@ class Kept(unittest.TestCase):
         number = self.number(shared, shared)
         self.assertNotEqual(self.number([1], [1]), number)
         self.assertEqual(self.number([1], [1]), self.number([1], [1]))
-        # (values cannot be told from equal ones)
+        # (equal values cannot be distinguished)
         self.assertEqual(self.number(value, value), self.number(self.Share(2), self.Share(2)))
 
     def test_what_is_shared_stays_shared(self):

@@ -1,7 +1,7 @@
-"""Pages of runs: what stands where after each event, how rounds and traces are spelled out, and the text of a page.
+"""Pages of runs: the state after each event, how rounds and traces are spelled out, and the text of a page.
 
-What stands where is compared with the program's replies, books and reports, and with what the replies come to when
-they are added up, on the schedules of examples/detector and on random ones.
+The state is compared with the program's replies, books and reports, and with the sums of the replies, on the schedules
+of examples/detector and on random ones.
 """
 import dataclasses
 import html
@@ -48,7 +48,7 @@ def detector(name, **more):
 
 
 class Tally:
-    """What stands where, added up from the replies alone."""
+    """The state, added up from the replies alone."""
 
     def __init__(self, setting):
         graph, self.setting = setting.graph, setting
@@ -118,7 +118,7 @@ class Tally:
         assert edge["cells"][0] == numbers, (edge, numbers)
 
     def position(self):
-        """The chips of each vertex, with all that is on its way to it."""
+        """The chips of each vertex, with all that is in transit to it."""
         found = [it["chips"] for it in self.vertices]
         for edge, (_, head, _) in zip(self.edges, self.rows):
             found[head] += edge["pending"] + edge["claimed"] + sum(count for _, count in edge["cells"])
@@ -158,7 +158,7 @@ def random_events(numbers, graph, count):
 
 
 def asked(setting, events, **options):
-    """What the program answers to a schedule, with its books."""
+    """What the program returns for a schedule, with its books."""
     game = {"limit": setting.limit, "ring": setting.ring, "fed": setting.fed}
     return chipfire.simulate(setting.graph, setting.chips, events, books=True, **game, **options)
 
@@ -169,7 +169,7 @@ def data_of(text):
 
 
 class States(unittest.TestCase):
-    """A ledger is told the program's replies, and what it has then is what these come to."""
+    """A ledger gets the program's replies, and its state is then what these add up to."""
 
     def follow(self, simulation):
         book, tally = ledger.Ledger(simulation.setting), Tally(simulation.setting)
@@ -209,7 +209,7 @@ class States(unittest.TestCase):
 
 
 class Disagreements(unittest.TestCase):
-    """Answers that do not fit together are refused, each for what does not fit."""
+    """Replies that do not fit together are refused, each for what does not fit."""
 
     def setUp(self):
         self.simulation = detector("deficit", books=True)
@@ -244,10 +244,10 @@ class Disagreements(unittest.TestCase):
                                    (3, "sent 1 2", "sent 0 2"), (4, "done 1", "done 2")]:
             kind, *numbers = told.split()
             replies = self.with_reply(index, kind, *map(int, numbers))
-            self.refused(f"the program tells {told}, and the model {known}", replies=replies)
+            self.refused(f"the program says {told}, and the model {known}", replies=replies)
 
-    def test_a_page_tells_no_answers_but_the_programs(self):
-        # What a hasty detector would answer is no answer of the program, whoever says so.
+    def test_a_page_shows_no_replies_but_the_programs(self):
+        # What a hasty detector would reply is no reply of the program, whoever says so.
         early = chipfire.Simulation.parse("got 0 4\ndone 1\ndone 1\nroot open\n")
         game = chipfire.Setting(TRIANGLE, (4, 0, 0))
         events = tuple(chipfire.Event(kind, 4) for kind in ("take", "ack", "settle"))
@@ -261,13 +261,13 @@ class Disagreements(unittest.TestCase):
         report = self.simulation.report
         for changed in ({"chips": (0, 1, 3)}, {"fired": (2, 2, 0)}, {"over": (0,)}, {"sealed": (1,)}):
             self.refused("the end", report=dataclasses.replace(report, **changed))
-        self.refused("the end: the program tells None", report=None)
+        self.refused("the end: the program says None", report=None)
 
 
 class Spelled(unittest.TestCase):
     """Rounds and traces become the events that they stand for."""
 
-    def test_rounds_come_to_the_programs_end_by_events_that_do_something(self):
+    def test_rounds_reach_the_programs_end_by_events_that_do_something(self):
         halts, closed = set(), 0
         for seed in range(60):
             numbers = random.Random(seed)
@@ -280,10 +280,10 @@ class Spelled(unittest.TestCase):
                     told, whole = asked(setting, events), asked(setting, begun, rounds=rounds)
                     self.assertEqual((told.report, told.replies[: len(begun)]), (whole.report, whole.replies))
                     answered = list(zip(events, told.replies))
-                    vain = [(event, reply) for event, reply in answered[len(begun):]
+                    idle = [(event, reply) for event, reply in answered[len(begun):]
                             if reply.kind in ("not-now", "empty", "full")
                             or event.kind == "settle" and str(reply) == "done 0"]
-                    self.assertEqual(vain, [])
+                    self.assertEqual(idle, [])
                     halts |= {reply.numbers for event, reply in answered if event.kind == "halt" and reply.is_done}
                     closed += told.root_closed
         self.assertEqual((halts, closed > 60), ({(0,), (1,)}, True))
@@ -299,7 +299,7 @@ class Spelled(unittest.TestCase):
         self.assertEqual(sorted(rows_of(told), key=lambda row: row.vertex), trace)
 
     def test_the_ring_of_a_recorded_run(self):
-        # Vertex 0 fires so many times, 1 fires when it has all these messages, and 2 takes first what comes from 1.
+        # Vertex 0 fires `count` times, 1 fires when it has all these messages, and 2 takes first what comes from 1.
         for count, ring in [(3, 2), (65, 64)]:
             graph = chipfire.Graph(4, 3, [(0, 2), (0, 1), (1, 2, count), (2, 3, 1000)])
             trace = [(0, "take", 4, 2 * count), *[(0, "fire", 0, 1)] * count, *[(1, "take", 1, 1)] * count,
@@ -344,7 +344,7 @@ class Words(unittest.TestCase):
             ("ack", 1, 0): "The sink out acknowledges to vertex a what it may (edge 1).",
             ("fire", 1, 2): "Vertex b fires twice.",
             ("fire", 1, 1200): "Vertex b fires 1,200 times.",
-            ("settle", 4, 0): "The root looks how many messages vertex a has acknowledged (edge 4).",
+            ("settle", 4, 0): "The root reads how many messages vertex a has acknowledged (edge 4).",
             ("seal", 0, 0): "The stopper seals the edge from vertex a to vertex b (edge 0).",
             ("feed", 5, 1): "The root feeds 1 chip to vertex b (edge 5).",
             ("end", 9, 0): "The root notes that nothing more is fed.",
@@ -510,7 +510,7 @@ class Pages(unittest.TestCase):
 
     def test_every_page_says_what_is_proved_and_what_is_not(self):
         text = chipfire.lab.pages.page_text(detector("deficit"))
-        for words in ("What it answers is proved", "tested and not proved", "each of the 32 events"):
+        for words in ("They are proved", "tested and not proved", "each of the 32 events"):
             self.assertIn(words, " ".join(text.split()))
 
     def test_a_refusal_says_why(self):
@@ -690,7 +690,7 @@ class Choices(unittest.TestCase):
 
     def test_books_that_a_detector_does_not_keep(self):
         class Looks(chipfire.model.Core):
-            """Looks at all parts at once, which nobody can, and acknowledges nothing."""
+            """Reads all parts at once, which nobody can, and acknowledges nothing."""
 
             def may_ack(self, e):
                 return 0

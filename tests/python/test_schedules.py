@@ -32,8 +32,8 @@ FOUR = chipfire.Setting(TRIANGLE, (4, 0, 0))
 #: - Whoever acknowledges at once, or also while at work, does so after the first take, and the root sees it: 3 steps,
 #:   and no fewer, since the root closes by a settle, which needs an acknowledgement, which needs a take.
 #: - Whoever is passive and forgets its deficit has to be passive: vertex 0 fires twice at once and sends both messages
-#:   before it acknowledges. Both are on their way.
-#: - A root that looks at its first edge is content when vertex 0, which has one chip and cannot fire, has acknowledged.
+#:   before it acknowledges. Both are in transit.
+#: - A root that reads its first edge is content when vertex 0, which has one chip and cannot fire, has acknowledged.
 SEND = [("clear", 0), ("claim", 0), ("put", 0), ("clear", 1), ("claim", 1), ("put", 1)]
 BY_HAND = {
     "at-once": ([("take", 4), ("ack", 4), ("settle", 4)], ["vertex 0 can fire"]),
@@ -129,7 +129,7 @@ class OnAVertex(model.Core):
 
 
 class ByACount(model.Core):
-    """The root closes once all messages are taken, without a look at who is at work."""
+    """The root closes once all messages are taken, without reading who is at work."""
 
     def is_closed(self):
         return all(len(e.sent) == e.delivered for e in self.edges)
@@ -231,7 +231,7 @@ class AskedAndSaysSo(Asked):
 
 
 class ChangesTheLimit(model.Core):
-    """Changes what a game has for good."""
+    """Changes what a game never changes."""
 
     def on_take(self, e):
         self.limit -= 1
@@ -282,7 +282,7 @@ REFUSED = {
     Chance: "Chance does not do the same again",
     Clock: "Clock does not do the same again",
     WithALock: r"WithALock.lock, of type lock, cannot be compared.*not_state = \('lock',\)",
-    ChangesTheLimit: "ChangesTheLimit.limit changed, which a game has for good: keep yours elsewhere",
+    ChangesTheLimit: "ChangesTheLimit.limit changed, which a game never changes: keep yours elsewhere",
     Asked: "Asked, after 1 event: it changes polls when it is only asked what may happen",
 }
 
@@ -324,7 +324,7 @@ class Explorer(unittest.TestCase):
                         self.assertEqual(len(found.schedule) - 2 * sends, least)
 
     def test_the_states_are_those_that_a_third_search_found(self):
-        # Somebody else's search on these two games, with firings one at a time, found so many.
+        # Somebody else's search on these two games, with firings one at a time, found these numbers.
         found = [chipfire.explore(TWO, name, whole_sends=True).states for name in ("right", "any-order")]
         self.assertEqual(found, [30, 34])
         with mock.patch.object(model.Core, "works", firing_once):
@@ -392,7 +392,7 @@ class Explorer(unittest.TestCase):
             self.assertEqual((found.states, found.schedule, found.lost, found.is_whole), (100, None, None, False))
             self.assertIn("the others are not tried, nor whether the root can always be closed", str(found))
         self.assertTrue(chipfire.explore(FOUR, most=1405, whole_sends=True).is_whole)
-        # (a state that was reached and not gone on from is looked at too)
+        # (a state that was reached and not gone on from is visited too)
         self.assertEqual(chipfire.explore(FOUR, "at-once", most=12).left, ("vertex 0 can fire",))
 
     def test_feeds(self):
@@ -430,7 +430,7 @@ class Explorer(unittest.TestCase):
         self.assertEqual((right.schedule, right.lost), (None, None))
         self.assertIn("halt", [event.kind for event in waits.stuck])
 
-    def test_what_cannot_be_explored_is_told(self):
+    def test_what_cannot_be_explored_is_reported(self):
         for options, said in (
             ({"feeds": ((4, 2),)}, "the setting is not fed"), ({"seals": (4,)}, "the edge of a seal is above 3: 4"),
             ({"most": 0}, "most is below 1"),
@@ -809,7 +809,7 @@ class AtTheShell(unittest.TestCase):
                     file.write("event,at,count,reply\n" + "".join(",".join(map(str, row)) + "\n" for row in rows))
                 told, said = self.asked("judge", graph, chips, f"{folder}/log.csv")
                 self.assertEqual(told, status, said)
-            # (of any program: process 0 claims before it is passive, behind that, and never)
+            # (of any program: process 0 claims before it is passive, after that, and never)
             for rows, answer in (("0,over,0\n0,passive,0\n", (2, "over 0 1 early: process 0 is active\nend missed\n")),
                                  ("0,passive,0\n0,over,0\n", (0, "over 0 2 right\nend claimed\n")),
                                  ("0,passive,0\n", (3, "end missed\n")), ("0,stop,0\n", (1, "fault 28 Kind 1"))):

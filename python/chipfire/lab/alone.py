@@ -1,7 +1,7 @@
 """A process for one class of somebody else, with limits of time and memory, that is ended with all that it started.
 
-It reports on a pipe in lines of JSON, so that what a class prints spoils nothing. It is no jail: a class has the rights
-of whoever grades it.
+It reports on a pipe in lines of JSON, so that what a class prints spoils nothing. It is no sandbox: a class has the
+rights of whoever grades it.
 """
 
 from __future__ import annotations
@@ -64,7 +64,7 @@ class Task(NamedTuple):
     program: Union[str, None] = None
 
 
-def told_alone(task: Task) -> Facts:
+def facts_of(task: Task) -> Facts:
     """What a process of its own reports: it always has a verdict, or classes."""
     limits = task.limits
     ours, theirs = os.pipe()
@@ -106,7 +106,7 @@ def _heard(pipe: int, until: float) -> Facts:
 
 
 def _unsaid(status: int, is_late: bool, limits: Limits) -> Verdict:
-    """The verdict on a class whose process said none."""
+    """The verdict on a class whose process reported none."""
     if status == -signal.SIGXCPU:
         over = f"{with_unit(limits.seconds, 'second')} of a processor are over"
         return Verdict(UNDECIDED, over)
@@ -186,6 +186,6 @@ def _page(
             wrong_page(detector, file, setting, title=title, program=program)
         else:
             page(play(setting, verdict.schedule or (), detector), file, title=title)
-    except Exception as error:  # (the verdict stands)
+    except Exception as error:  # (the verdict stays)
         return {"why": f"{verdict.why}; there is no page: {error}"}
     return {"page": file}

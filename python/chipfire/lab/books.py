@@ -1,7 +1,7 @@
 """The books of a process: its counters for the detector of Dijkstra and Scholten, kept by calls of the library.
 
-The calls are proved; docs/tasks/detect-your-own.md says of what, and which duties are the caller's. Each duty may also
-write a row for `judge`, so that the logs of all processes show what the books of one cannot.
+The calls are proved; docs/tasks/detect-your-own.md says what that means, and which duties are the caller's. Each duty
+may also write a row for `judge`, so that the logs of all processes show what the books of one cannot.
 """
 
 from __future__ import annotations
@@ -41,7 +41,7 @@ class _Side:
             raise ValueError("an edge is named twice")
         self.words = array("Q", [word for edge in self.edges for word in (edge, 0, 0)])
 
-    def slice(self) -> tuple[int, int]:
+    def array(self) -> tuple[int, int]:
         """Where the tallies begin, and how many there are. An address stays until an edge is added."""
         if not self.edges:
             return _NOTHING.buffer_info()[0], 0
@@ -98,7 +98,7 @@ class Books:
     Books can be pickled; a log that is a list is copied.
 
     Proved: each call notes exactly its step on sound counters. If the calls of all processes make a legal log,
-    `is_over` returns true only when all is over. Not proved: that your program calls in the right moments, and what
+    `is_over` returns true only when all is over. Not proved: that your program calls at the right moments, and what
     Python adds.
 
     Examples
@@ -234,11 +234,11 @@ class Books:
         return bool(over.value)
 
     def _last(self, edge: int) -> tuple[bool, int]:
-        """Sorts the parent behind the others, since its last message waits for all of theirs."""
+        """Sorts the parent after the others, since its last message waits for all of theirs."""
         return edge == self._books.parent, edge
 
     def _acknowledged(self, edge: int, passive: bool) -> tuple[int, int, int]:
-        """Acknowledges what may be on an edge: how many messages that are, and with those before them."""
+        """Acknowledges what may be on an edge: how many messages that are, and how many with those before them."""
         count, so_far = ctypes.c_uint64(), ctypes.c_uint64()
         why = f"its acknowledgements on edge {edge}"
         self._call("acknowledge", why, edge, passive, count, so_far)
@@ -261,9 +261,9 @@ class Books:
         self._call("open", "its books are not sound")
 
     def _point(self) -> None:
-        """Tells the library where both sides lie."""
-        self._books.ins, self._books.ins_len = self._ins.slice()
-        self._books.outs, self._books.outs_len = self._outs.slice()
+        """Gives the library the addresses of both sides."""
+        self._books.ins, self._books.ins_len = self._ins.array()
+        self._books.outs, self._books.outs_len = self._outs.array()
 
     def _call(self, name: str, why: str, *words: Any) -> None:
         """Makes a call of the library; `why` says what a refusal means."""

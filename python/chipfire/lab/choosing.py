@@ -113,7 +113,7 @@ class _Choices:
         self.steps: dict[str, int] = {}
 
     def data(self) -> dict[str, Any]:
-        """Of each state its moves (the numbers of their steps, and where they lead), and its last word, if any."""
+        """Of each state its moves (the numbers of their steps, and where they lead), and its verdict, if any."""
         moves = []
         ends = []
         for state in self.states:
@@ -143,7 +143,7 @@ class _Choices:
         replies = Simulation.parse("\n".join([*lines, "root open"])).replies
         reached = self.known.noted()
         self.known.load(state)
-        self.ledger.look()
+        self.ledger.refresh()
         steps = []
         for played, reply in zip(events, replies):
             steps.append(json.dumps(self.words.step(self.ledger, played, reply)))
@@ -164,7 +164,7 @@ class _Choices:
         return self.places[state]
 
     def _end(self, goes_on: bool) -> dict[str, Any] | None:
-        """The last word of the present state."""
+        """The verdict on the present state."""
         if self.core.is_closed():
             return closed_end(self.core.left())
         return None if goes_on else {"text": WORDS["pages"]["stuck"], "isWrong": True}

@@ -89,8 +89,8 @@ def _same(content: Any) -> Any:
 
 
 class _Backend(NamedTuple):
-    """What back ends do not share: what makes an inbox, which has no end of room; the numbers of edges; whether one
-    awaits; and how the content of a message is packed. What cannot be pickled is so refused before it is noted.
+    """What back ends do not share: what makes an inbox, which never fills up; the numbers of edges; whether one awaits;
+    and how the content of a message is packed. So what cannot be pickled is refused before it is noted.
     """
 
     inbox: Callable[[], Any]
@@ -224,7 +224,7 @@ class Process:
             self._inboxes[self._tails[edge]].put_nowait(Answer(edge, count))
 
     def _noted(self, duty: Callable[..., Any], *words: Any) -> Any:
-        """Calls a duty. A refusal goes to the root too, so that nobody waits in vain."""
+        """Calls a duty. A refusal goes to the root too, so that nobody waits for ever."""
         try:
             return duty(*words)
         except Fault as fault:
@@ -237,8 +237,8 @@ class Detector:
 
     A message goes to the one inbox that each process has, which never fills up; edges come as they are needed. Each
     process loops over its messages, and sends others. `begin` sends the first messages, by a root of the detector's
-    own. `wait`, or ``await`` in asyncio, returns when all is over. What a process is refused is raised there, and by
-    `wait` too, if that has not returned yet. In asyncio the detector is made inside the running loop.
+    own. `wait`, or ``await`` in asyncio, returns when all is over. A refusal is raised in the process, and by `wait`
+    too, if that has not returned yet. In asyncio the detector is made inside the running loop.
 
     Parameters
     ----------
@@ -264,7 +264,7 @@ class Detector:
     Notes
     -----
     Proved: the counters of each process, and that the root does not see an end too early if the calls make a legal
-    log. Not proved: that the inboxes and the loops of Python do.
+    log. Not proved: that the inboxes and loops of Python make a legal log.
 
     Examples
     --------
@@ -374,7 +374,7 @@ class Detector:
         return added
 
     def _ends(self) -> bool:
-        """Whether all is over. If it is, all processes are told."""
+        """Whether all is over. If it is, all processes get notice of it."""
         with self._root._lock:
             is_over = self._root.books.is_over()
         if is_over:

@@ -1,7 +1,7 @@
 """Detectors to try on `chipfire.model`: the right one with a condition left out, and two of another kind.
 
 `DETECTORS` has each by its name, with a small game on which `chipfire.explore` finds what is wrong. None is proved;
-`explore` looks at all schedules of one game.
+`explore` tries all schedules of one game.
 """
 
 from __future__ import annotations
@@ -44,7 +44,7 @@ class AnyOrder(Core):
 
 
 class OneEdge(Core):
-    """A root that looks at the first edge alone on which it sent something."""
+    """A root that reads the first edge alone on which it sent something."""
 
     def is_closed(self) -> bool:
         used = [e for e in self.edges[self.graph_edges :] if e.sent]
@@ -232,7 +232,7 @@ DETECTORS = {
     ),
     "one-edge": Known(
         OneEdge,
-        "the root looks at the first edge alone on which it sent something",
+        "the root reads the first edge alone on which it sent something",
         Setting(_TRIANGLE, (1, 2, 0)),
     ),
     "safra": Known(Safra, "Safra's token"),

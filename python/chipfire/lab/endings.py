@@ -51,8 +51,8 @@ class Moves:
     def round(
         self, is_due: Callable[[int], bool], is_free: Callable[[int], bool]
     ) -> Union[tuple[int, list[int]], None]:
-        """The first state from which events go round for ever, though none that is possible again and again is
-        forgotten, and the root stays open; with the steps of such a round. None if there is none.
+        """The first state from which events can repeat for ever while the root stays open, though none that is possible
+        again and again is forgotten; and the steps of such a round. None if there is none.
 
         is_due   whether a step is one that happens once at most, so that no round has it
         is_free  whether a step need never happen

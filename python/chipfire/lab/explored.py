@@ -21,21 +21,21 @@ class DetectorError(ValueError):
 
 @dataclass(frozen=True)
 class Explored:
-    """What all schedules of a game come to.
+    """What is found in all schedules of a game.
 
     states       how many states the game has, or had until a schedule was found, or `most`
     schedule     a shortest schedule after which the root is closed and something is left; None if none was found
     left         what is left then
     stuck        a shortest schedule after which the root is open and nothing can happen; None if none was found
-    lost         a shortest schedule after which the root is open and stays so, be it that nothing can happen or that
-                 events go on for ever; None if there is none, or if that was not tried
+    lost         a shortest schedule after which the root is open and stays so, whether nothing can happen or events go
+                 on for ever; None if there is none, or if that was not tried
     is_whole     whether these are all states; else a schedule was found, or there are more than `most`, and no `lost`
-    endless      a schedule whose last events, `round` many, can go round for ever, none forgotten that is possible,
-                 while the root is open; None if there is none, or if that was not tried
-    round        how many these are
-    not_local    a schedule after which the root is closed, and no message told it of what happened; None if none was
+    endless      a schedule whose last `round` events can repeat for ever while the root is open, though no possible
+                 event is forgotten; None if there is none, or if that was not tried
+    round        the number of these events
+    not_local    a schedule after which the root is closed though no message reported some act to it; None if none was
                  found among the shortest to each closed root and random ones, or if that was not tried
-    unknown      what no message told it then
+    unknown      that act
     whole_sends  whether a send was one step
     """
 

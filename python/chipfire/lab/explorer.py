@@ -32,7 +32,7 @@ from chipfire.lab.states import frozen, States
 from chipfire.utils import as_int, with_unit
 
 #: How many random schedules of each search are played once more, and of how many, if there are as many states, the logs
-#: are looked at.
+#: are read.
 REPLAYS = 200
 LOGS = 1000
 
@@ -71,8 +71,8 @@ def explore(
     -------
     Explored
         What was found. Its `status` is 0 if the detector is right in this game, 2 if it closes the root too early, 3
-        if it can miss the end, 4 if there were too many states, and 5 if the root knows what no message told it;
-        `schedule` leads there.
+        if it can miss the end, 4 if there were too many states, and 5 if it closes the root though no message reported
+        some act to it; `schedule` leads there.
 
     Raises
     ------
@@ -88,8 +88,8 @@ def explore(
     Notes
     -----
     Other chips, feeds, seals, limits and rings are not tried, nor messages that are lost, doubled or overtaken. The
-    logs of the shortest schedule to each closed root, and of up to 1,000 random ones, show whether the root knew what
-    no message told it. A look at other parts that never helps to close the root is not found.
+    logs of the shortest schedule to each closed root, and of up to 1,000 random ones, show whether messages reported
+    each act to the root. A read of other parts that never helps to close the root is not found.
 
     The state is all that stands in attributes of the game, its edges and its vertices, but for those that the class
     names in `not_state`. The schedules found, and 200 random ones, are played a second time.
@@ -287,7 +287,7 @@ class _Search:
             if said != right and event.kind != "end":  # (that settles too, which is the detector's)
                 self._require_shared()
                 raise self._error(
-                    f"{event.kind} {event.at} answers {said!r}, and in the game {right!r}"
+                    f"{event.kind} {event.at} replies {said!r}, and in the game {right!r}"
                 )
         return after
 
@@ -387,7 +387,7 @@ class _Search:
     def _other(self, events: Iterable[Event], what: str) -> DetectorError:
         schedule = Schedule(events)
         return DetectorError(
-            f"{self.name} does not do the same again: after {with_unit(len(schedule), 'event')} it comes to another "
+            f"{self.name} does not do the same again: after {with_unit(len(schedule), 'event')} it has another "
             f"{what} than in the search. What it keeps has to stand in attributes of the game, and not in those of a "
             "class or in globals; and it may not ask chance or the clock",
             schedule,

@@ -9,7 +9,7 @@ from collections.abc import Iterable, Iterator, Sequence
 from dataclasses import asdict, dataclass
 from typing import Any, Union
 
-from chipfire.lab.alone import Facts, Limits, Task, told_alone
+from chipfire.lab.alone import Facts, Limits, Task, facts_of
 from chipfire.lab.suite import EARLY, GAMES, MISSED, NOT_LOCAL, RIGHT
 
 
@@ -70,14 +70,14 @@ def grades(
         os.makedirs(pages, exist_ok=True)
     for name in names:
         for one in _files(name) if os.path.isdir(name) else [name]:
-            told = {"classes": [one]}
+            facts = {"classes": [one]}
             if one.endswith(".py"):
-                told = told_alone(Task(one, limits))
-            if "classes" not in told:
-                yield _grade(one, told)
-            for found in told.get("classes", ()):
+                facts = facts_of(Task(one, limits))
+            if "classes" not in facts:
+                yield _grade(one, facts)
+            for found in facts.get("classes", ()):
                 task = Task(found, limits, _page_of(found, pages), program)
-                yield _grade(found, told_alone(task))
+                yield _grade(found, facts_of(task))
 
 
 def _files(folder: str) -> list[str]:
@@ -93,17 +93,17 @@ def _page_of(name: str, pages: Union[str, None]) -> Union[str, None]:
     return pages and os.path.join(pages, re.sub(r"[^\w.-]", "_", name) + ".html")
 
 
-def _grade(name: str, told: Facts) -> Grade:
+def _grade(name: str, facts: Facts) -> Grade:
     """The grade by what the process of a class reported."""
-    events = told["schedule"]
+    events = facts["schedule"]
     return Grade(
         name,
-        told["verdict"],
-        told.get("game"),
+        facts["verdict"],
+        facts.get("game"),
         None if events is None else len(events),
-        _plain(told["why"]),
+        _plain(facts["why"]),
         events or (),
-        told.get("page"),
+        facts.get("page"),
     )
 
 

@@ -28,7 +28,7 @@ class Claim(NamedTuple):
 
 @dataclass(frozen=True)
 class Judged:
-    """What a log came to.
+    """The verdict on a log.
 
     row       the index of the first row whose reply is not the right detector's or does not fit the game, or None
     told      the log's reply there
@@ -147,21 +147,21 @@ def judge(
     core.ring = MAX_CHIPS
     claims: list[Claim] = []
     row: int | None = None
-    told = right = ""
+    logged = right = ""
     for index, (kind, at, count, reply) in enumerate(_rows(log, also)):
         if kind == CLAIM:
             left = tuple(core.left())
             claims.append(Claim(index, reply, reply == "open" or not left, left))
         elif kind in EVENTS:
-            said = _answer(core, kind, at, count, reply)
+            said = _right_reply(core, kind, at, count, reply)
             if said != reply and kind not in ("ack", "settle", "end", "read"):
                 return Judged(index, reply, said, False, tuple(claims), False)
             if said != reply and row is None:
                 row = index
-                told = reply
+                logged = reply
                 right = said
     is_missed = bool(claims) and claims[-1].said == "open" and not core.left()
-    return Judged(row, told, right, True, tuple(claims), is_missed)
+    return Judged(row, logged, right, True, tuple(claims), is_missed)
 
 
 def _rows(
@@ -169,10 +169,10 @@ def _rows(
 ) -> Iterator[tuple[str, int, int, str]]:
     """The rows of a log, each with its numbers."""
     try:
-        told = list(read_rows(log, LOG_HEADER)) if isinstance(log, FILE) else log
+        rows = list(read_rows(log, LOG_HEADER)) if isinstance(log, FILE) else log
     except ValueError as error:
         raise ValueError(f"{error}: this is no log of a detector of chip-firing") from None
-    for index, row in enumerate(told):
+    for index, row in enumerate(rows):
         if isinstance(row, str) or len(row) != len(LOG_HEADER):
             raise ValueError(
                 f"row {index} has not {len(LOG_HEADER)} fields: {', '.join(LOG_HEADER)}"
@@ -203,31 +203,31 @@ def _number(value: Any, what: str) -> int:
     return as_int(value, what)
 
 
-def _answer(core: Core, kind: str, at: int, count: int, told: str) -> str:
-    """Plays an event of a log on the model, and returns the reply that is right: the log's own, `told`, if it may be.
+def _right_reply(core: Core, kind: str, at: int, count: int, logged: str) -> str:
+    """Plays an event of a log on the model, and returns the reply that is right: the log's own, `logged`, if it may be.
 
     The model acknowledges and settles all that it can, and reads the root once that is closed. A log may acknowledge
     or settle less, call an edge full that has a message, and read the root once nothing is left.
     """
     e = core.edges[at] if at < len(core.edges) else None
-    done = _number_done(told)
-    if kind == "clear" and told == "full" and e is not None and e.delivered < len(e.sent):
+    done = _number_done(logged)
+    if kind == "clear" and logged == "full" and e is not None and e.delivered < len(e.sent):
         e.clear = False
-        return told
+        return logged
     if kind == "ack" and e is not None and 0 < done <= core.may_ack(e):
         e.acked += done
         if core.vertices[e.head].parent == at and e.acked == e.delivered:
             core.vertices[e.head].parent = None
-        return told
+        return logged
     if kind in ("settle", "end"):
         e = core.edges[core.graph_edges] if kind == "end" else e
         if e is not None and 0 <= done <= e.acked - e.settled:
             e.settled += done
             core.ended = core.ended or kind == "end"
-            return told
+            return logged
     is_read = kind == "read" and at < len(core.vertices)
     if is_read and done == core.vertices[at].fired and not core.left():
-        return told
+        return logged
     return core.step(kind, at, count)
 
 

@@ -1,4 +1,4 @@
-"""Where the vertices of a graph stand in a drawing. The same graph always comes to the same places."""
+"""Where the vertices of a graph stand in a drawing. The same graph always gets the same places."""
 
 from __future__ import annotations
 
@@ -74,7 +74,7 @@ def _in_rows(count: int, columns: int) -> list[Point]:
 
 
 def _from_distances(graph: Graph, started: Sequence[int]) -> Places:
-    """Places as far from each other as the walks between them are long, the sink below who gets the root's chips."""
+    """Places as far from each other as the walks between them are long, the sink below those with the root's chips."""
     points = _stressed(_distances(graph))
     down = points[graph.sink]
     away = down - (sum(points[vertex] for vertex in started) / len(started) if started else down)

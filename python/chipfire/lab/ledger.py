@@ -1,4 +1,4 @@
-"""What stands where after each event of a simulation: a game of the model that is compared with the program's answers.
+"""The state after each event of a simulation: a game of the model that is compared with the program's results.
 
 A `Ledger` plays the schedule on `chipfire.model`, and shows what stands in vertices, edges and books. It compares each
 reply with the program's (`note`), after each event the books (`compare`), and at the end the report (`close`).
@@ -33,7 +33,7 @@ _HALTS = {None: None, "sealed": "seal", "over": "limit"}
 
 
 class Disagreement(Exception):
-    """Two answers of the program do not fit together, or not with the model."""
+    """Two results of the program do not fit together, or not with the model."""
 
 
 class Ledger:
@@ -46,9 +46,9 @@ class Ledger:
         self.core = opened(setting, detector)
         #: The books of the engaged vertices.
         self._books: dict[int, Books] = {}
-        self.look()
+        self.refresh()
 
-    def look(self) -> None:
+    def refresh(self) -> None:
         """Takes all facts from the game, which somebody else has changed."""
         self.facts: State = {
             "root": [self._root(0)],
@@ -157,9 +157,9 @@ class Ledger:
         )
 
     @staticmethod
-    def _agree(what: str, told: Any, known: Any) -> None:
-        if told != known:
-            raise Disagreement(f"{what}: the program tells {told}, and the model {known}")
+    def _agree(what: str, said: Any, known: Any) -> None:
+        if said != known:
+            raise Disagreement(f"{what}: the program says {said}, and the model {known}")
 
 
 class ModelLedger(Ledger):

@@ -1,7 +1,7 @@
-"""What the root knows when it closes: the acts of which a message told it.
+"""What the root knows when it closes: the acts that a message reported to it.
 
 In a log of `model_log` a process knows its own acts, and what the sender of a message knew that it got. A root that
-closes and does not know of some act of the game looked at another part, and no program on threads can do that. This is
+closes and does not know of some act of the game has read another part, and no program on threads can do that. This is
 what the program's `judge` finds in such a log if nothing is left at its end.
 """
 
@@ -21,8 +21,8 @@ _GETS = {"receive": "send", "hear": "tell"}
 
 
 def unknown(log: Sequence[tuple[int, str, int]]) -> Union[tuple[int, str], None]:
-    """An act of the game of which the first claim in a log does not know: its process, and what that did in words. None
-    if it knows of all."""
+    """An act of the game that the first claim in a log does not know: its process, and the act in words. None if the
+    claim knows all."""
     clocks: dict[int, Counter[int]] = defaultdict(Counter)
     messages: dict[tuple[str, int], deque[Counter[int]]] = defaultdict(deque)
     acts: dict[int, list[tuple[int, str]]] = defaultdict(list)

@@ -26,7 +26,7 @@ _GETS = ("receive", "hear")
 _GOT_BY = dict(zip(_SENDS, _GETS))
 KINDS = (*_SENDS, *_GETS, "passive", "active", "over")
 
-#: How an answer of the program begins, and its fault of rows that fit together in no order.
+#: How a result of the program begins, and its fault of rows that fit together in no order.
 _BEGINS = ("over ", "end ")
 _STUCK = 70
 
@@ -303,33 +303,39 @@ class _Rows:
         """How many of the first rows of a process were given."""
         return self.given_of[process][count]
 
-    def fault(self, told: Fault) -> Fault:
+    def fault(self, refusal: Fault) -> Fault:
         """A fault of the program, by the rows and the names that were given."""
-        if told.number == _ABSENT:
-            name = list(self.processes)[told.place[0]]
+        if refusal.number == _ABSENT:
+            name = list(self.processes)[refusal.place[0]]
             words = f"process {name!r} has no row in the log"
-            return Fault(told.number, told.name, (name,), told.explanation, told.status, words)
-        if not (24 <= told.number < _ABSENT and told.place):  # (the place is a row)
-            return told
-        index = self.rows[told.place[0]][0] // 2
+            return Fault(
+                refusal.number, refusal.name, (name,), refusal.explanation, refusal.status, words
+            )
+        if not (24 <= refusal.number < _ABSENT and refusal.place):  # (the place is a row)
+            return refusal
+        index = self.rows[refusal.place[0]][0] // 2
         words = f"row {index} of the log is {self.given[index]!r}"
-        return Fault(told.number, told.name, (index,), told.explanation, told.status, words)
+        return Fault(
+            refusal.number, refusal.name, (index,), refusal.explanation, refusal.status, words
+        )
 
     def progress(self) -> Progress:
-        """How far these rows can be met. The program found no fault in them but that they fit in no order."""
+        """Maximal progress on these rows. The program found no fault in them but that they fit in no order."""
         return Progress((row[0], row[1], row[2]) for _, row in self.rows)
 
-    def stuck(self, told: Fault, progress: Progress) -> Fault:
+    def stuck(self, refusal: Fault, progress: Progress) -> Fault:
         """The fault of rows that fit in no order, by the names that were given, and where the waits lead."""
-        process, row = told.place
+        process, row = refusal.place
         name = list(self.processes)[process]
         index = self.places[name][row] // 2
         words = f"row {index} of the log is {self.given[index]!r}; {progress.said(name, self.own)}"
         place = (name, self.own(name, row))
-        return Fault(told.number, told.name, place, told.explanation, told.status, words)
+        return Fault(
+            refusal.number, refusal.name, place, refusal.explanation, refusal.status, words
+        )
 
     def keep(self, made: Mapping[Hashable, int]) -> None:
-        """Keeps so many rows of each process, and leaves out those behind them."""
+        """Keeps this number of rows of each process, and leaves out those after them."""
         count: Counter[Hashable] = Counter()
         rows = []
         for place, row in self.rows:
@@ -344,7 +350,7 @@ class _Rows:
 
 
 def _activity(rows: Iterable[tuple[int, Sequence[Any]]]) -> Iterator[tuple[int, Row]]:
-    """What is put in: `active` before a first row that sends, `passive` behind the last sent before the next is got."""
+    """What is put in: `active` before a first row that sends, `passive` after the last sent before the next is got."""
     first = dict[Hashable, int]()
     last = dict[Hashable, int]()
     for place, (process, kind, _) in (it for it in rows if it[1]):
@@ -422,8 +428,8 @@ def read_json_lines(
                         )
                         hash(rows[-1])
                 except Exception as error:  # (whatever a function does)
-                    told = f"{os.fspath(file)}: line {number}: {type(error).__name__}: {error}"
-                    raise ValueError(told) from error
+                    why = f"{os.fspath(file)}: line {number}: {type(error).__name__}: {error}"
+                    raise ValueError(why) from error
     return rows
 
 
@@ -548,8 +554,8 @@ def _require_all(events: Iterable[_Event]) -> None:
         for host, count in it.clock.items():
             last = count - 1 if host == it.host else count  # (the one before it, of its own)
             if last > 0 and (host, last) not in there:
-                told = f"the clock counts event {last} of {host!r}, which is not there"
-                raise ValueError(f"line {it.line}: {told}; gaps=True takes the log as it is")
+                why = f"the clock counts event {last} of {host!r}, which is not there"
+                raise ValueError(f"line {it.line}: {why}; gaps=True takes the log as it is")
 
 
 def _sent(
@@ -567,7 +573,7 @@ def _sent(
         ):
             return sender.message
     raise ValueError(
-        f"line {it.line}: the clock does not tell who sent the message: give message_of"
+        f"line {it.line}: the clock does not say who sent the message: give message_of"
     )
 
 

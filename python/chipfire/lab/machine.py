@@ -1,4 +1,4 @@
-"""The distributed machine: schedules, replies, books and traces, and what a schedule came to.
+"""The distributed machine: schedules, replies, books and traces, and the result of a schedule.
 
 docs/CORE.md says what each event does, docs/DETECTOR.md what stands in the books, and docs/TRACES.md what a trace is.
 """
@@ -82,13 +82,13 @@ class Schedule(list[Event]):
     halt = _event("halt", "This vertex halts, if it has a cause.")
     settle = _event(
         "settle",
-        "The tail of this edge, or the root, looks how many of its messages are acknowledged.",
+        "The tail of this edge, or the root, reads how many of its messages are acknowledged.",
     )
     seal = _event("seal", "Nothing is sent on this edge from now on.")
     read = _event("read", "The root reads how often this vertex fired, once it is closed.")
 
     def clear(self, edge: int) -> Schedule:  # type: ignore[override]
-        """The tail of this edge looks whether the next cell is empty."""
+        """The tail of this edge reads whether the next cell is empty."""
         self.append(Event("clear", edge))
         return self
 
@@ -266,8 +266,8 @@ class Setting:
 
 @dataclass(frozen=True)
 class Simulation:
-    """What a schedule came to: a reply for each event, the report if the root closed, and a board for each reply if the
-    books were asked for. The rest is what was asked, and in words what of the schedule nobody wrote.
+    """The result of a schedule: a reply for each event, the report if the root closed, and a board for each reply if
+    the books were asked for. The rest is what was asked, and `made_up` says which events were added to the schedule.
 
     A closed root says that all is over; `report.closed` says besides that no limit and no seal stopped a vertex.
     """
@@ -303,9 +303,9 @@ class Simulation:
 
     @property
     def game(self) -> Setting:
-        """The setting, if `simulate` answered this simulation."""
+        """The setting, if `simulate` returned this simulation."""
         if self.setting is None:
             raise ValueError(
-                "this simulation does not know what was asked: take what `simulate` answers"
+                "this simulation does not know what was asked: take what `simulate` returns"
             )
         return self.setting

@@ -1,9 +1,9 @@
-"""The machine and its detector the plain way: what `chipfire simulate` must answer, and a thing to change and to try.
+"""The machine and its detector the plain way: what `chipfire simulate` must report, and a model to change and to try.
 
     python3 python/chipfire/lab/model.py GRAPH CHIPS SCHEDULE [--limit F] [--ring R] [--rounds N] [--books] [--fed]
 
-It shares nothing with chipfire: every message stands in a row of its edge for good, and what was put, delivered,
-acknowledged and settled are numbers beside it. It expects files that are right, and checks nothing. It is not proved.
+It shares nothing with chipfire: an edge keeps all its messages in a row, and what was put, delivered, acknowledged and
+settled are numbers beside it. It expects files that are right, and checks nothing. It is not proved.
 
 A `Core` is one game. `step` makes an event, `enabled` lists those that would do something now, and `left` says what is
 still to do. The detector's rule is in `may_ack` and `is_closed`; `chipfire.detectors` has others.
@@ -80,7 +80,7 @@ class TooManyEvents(ValueError):
 class Edge:
     """An edge with the chips of all its messages; those of the root have -1 as their tail."""
 
-    #: Attributes that it has for good: they do not stand in its `__dict__`.
+    #: Attributes that are never set anew: they are not in its `__dict__`.
     HELD: tuple[str, ...] = ("number", "tail", "head", "mult")
     __slots__ = (*HELD, "__dict__")
 
@@ -107,13 +107,14 @@ class Core:
     """A game, with the detector of Dijkstra and Scholten.
 
     A detector of your own has other `HOOKS`. What it keeps stands in attributes of the game, of its edges or of its
-    vertices, under any name that the model has not: they are the state that `chipfire.explore` tells from others.
-    Classes, globals, chance and the clock are not. It may write `acked`, `settled` and `parent` of the model's.
+    vertices, under any name that the model has not: they are the state that `chipfire.explore` compares with others.
+    Classes, globals, chance and the clock are no part of it. A detector may write the model's `acked`, `settled` and
+    `parent`.
     """
 
     #: Attributes that say nothing of what will happen, such as a count of polls: they are no part of the state.
     not_state: tuple[str, ...] = ()
-    #: Attributes that a game has for good: they do not stand in its `__dict__`.
+    #: Attributes that are never set anew: they are not in its `__dict__`.
     HELD: tuple[str, ...] = (
         "sink",
         "limit",
@@ -229,7 +230,7 @@ class Core:
     # What may happen, and what is left.
 
     def enabled(self, most: int = MOST_EVENTS) -> list[Event]:
-        """The events that would do something now, at most so many of the detector's own; nothing is sealed or fed by
+        """The events that would do something now, at most `most` of the detector's own; nothing is sealed or fed by
         itself."""
         found: list[Event] = [] if self.ended else [("end", 0, 0)]
         for e in self.edges:
@@ -437,7 +438,7 @@ class Core:
         return self.settle(self.graph_edges)
 
     def turn(self, v: int) -> None:
-        """One turn of a vertex, as docs/CORE.md tells it."""
+        """One turn of a vertex, as docs/CORE.md describes it."""
         vertex = self.vertices[v]
         for e in self.ins(v):
             self.step("take", e.number)
@@ -527,7 +528,7 @@ def rows(file_name: str) -> list[dict[str, str]]:
 
 
 def main() -> None:
-    words = argparse.ArgumentParser(description="What chipfire simulate must answer.")
+    words = argparse.ArgumentParser(description="What chipfire simulate must report.")
     for name in ("graph", "chips", "schedule"):
         words.add_argument(name)
     for name, least in (("limit", 2**40), ("ring", 1), ("rounds", 0)):

@@ -1,8 +1,8 @@
 """A page that shows a run of the machine event by event: one file of HTML, which asks for nothing else.
 
-Replies and books are the program's, but for what `play` played on the model alone. What stands where is the model's,
-and so are the events of rounds and of recorded runs that nobody wrote down: a `Ledger` compares each reply, the books
-after each event, and the report at the end. The page simulates nothing: it gets the facts that each event changed.
+Replies and books are the program's, but for what `play` played on the model alone. All else is the model's, also the
+events that are added to rounds and to recorded runs: a `Ledger` compares each reply, the books after each event, and
+the report at the end. The page simulates nothing: it gets the facts that each event changed.
 """
 
 from __future__ import annotations
@@ -51,7 +51,7 @@ from chipfire.utils import (
     write_text,
 )
 
-#: The sizes of rings that are tried for a trace, which does not tell its own.
+#: The sizes of rings that are tried for a trace, which does not say its own.
 RINGS = (1, 2, 4, 8, 16, 32, 64)
 
 #: How many rows of a schedule or a trace a page shows at most, and how many events of rounds.
@@ -121,32 +121,32 @@ def page_text(
         words = Words(simulation.game)
         data = model_data(simulation, words, positions) | {"words": list(words.numbers)}
         return filled(title, data, model_parts(simulation), "run-model.html", "drawing.html")
-    told = spelled_out(simulation, program)
-    ledger = Ledger(told.game)
-    words = Words(told.game)
-    steps = [words.step(ledger, *row) for row in compared(told, ledger)]
-    ledger.close(told.report)
-    for index, note in told.notes.items():
+    run = spelled_out(simulation, program)
+    ledger = Ledger(run.game)
+    words = Words(run.game)
+    steps = [words.step(ledger, *row) for row in compared(run, ledger)]
+    ledger.close(run.report)
+    for index, note in run.notes.items():
         steps[index]["note"] = note
     parts = {
         "events": with_unit(len(steps), "event"),
-        "made_up": f"<p>{html.escape(told.made_up)}</p>",
+        "made_up": f"<p>{html.escape(run.made_up)}</p>",
     }
-    parts["end"] = _SAYS["report" if told.report else "no report"]
-    data = page_data(told, positions)
+    parts["end"] = _SAYS["report" if run.report else "no report"]
+    data = page_data(run, positions)
     data |= {
         "steps": steps,
         "words": list(words.numbers),
-        "end": {"text": _end(told, ledger), "isWrong": False},
+        "end": {"text": _end(run, ledger), "isWrong": False},
     }
     return filled(title, data, parts, "run-proved.html", "drawing.html")
 
 
-def model_data(told: Play, words: Words, positions: Mapping[Any, Point] | None) -> dict[str, Any]:
+def model_data(run: Play, words: Words, positions: Mapping[Any, Point] | None) -> dict[str, Any]:
     """What the page of a run shows that the model alone played."""
-    done = {event.kind for event, reply in zip(told.schedule, told.replies) if reply.is_done}
-    ledger = ModelLedger(told.game, told.detector, keeps_books(told.detector, done))
-    game = told.game
+    done = {event.kind for event, reply in zip(run.schedule, run.replies) if reply.is_done}
+    ledger = ModelLedger(run.game, run.detector, keeps_books(run.detector, done))
+    game = run.game
     start = ledger.state()
     roots = ledger.core.outs(-1)
     shown = (
@@ -155,7 +155,7 @@ def model_data(told: Play, words: Words, positions: Mapping[Any, Point] | None) 
         else Setting(game.graph, tuple(int(e.put > 0) for e in roots))
     )
     data = page_data(
-        Simulation(told.replies, None, (), tuple(told.schedule), setting=shown), positions
+        Simulation(run.replies, None, (), tuple(run.schedule), setting=shown), positions
     )
     if shown is not game:  # (what is called a sink is a vertex as any other)
         data |= {it: WORDS["computation"][it] for it in ("titles", "hidden", "opening")}
@@ -165,15 +165,13 @@ def model_data(told: Play, words: Words, positions: Mapping[Any, Point] | None) 
         data["hidden"] = [*data.get("hidden", ()), *WORDS["books"]]
     steps: list[dict[str, Any]] = []
     early = [0] * is_early(ledger.core)
-    for number, row in enumerate(zip(told.schedule, told.replies), 1):
+    for number, row in enumerate(zip(run.schedule, run.replies), 1):
         steps.append(words.step(ledger, *row))
         early += [number] * is_early(ledger.core)
-    for index, note in told.schedule.notes.items():
+    for index, note in run.schedule.notes.items():
         steps[index]["note"] = note
     end = (
-        closed_end(told.left)
-        if told.root_closed
-        else {"text": "The root is open.", "isWrong": False}
+        closed_end(run.left) if run.root_closed else {"text": "The root is open.", "isWrong": False}
     )
     if early and not end["isWrong"]:
         end = {"text": _SAYS["early"].format(event=early[0]), "isWrong": True}
@@ -181,14 +179,14 @@ def model_data(told: Play, words: Words, positions: Mapping[Any, Point] | None) 
 
 
 def keeps_books(detector: Detector, done: Collection[str]) -> bool:
-    """Whether a detector keeps books of acknowledgements: not if it neither closes by them, nor gives any on a page, of
-    whose events that did something these are the kinds."""
+    """Whether a detector keeps books of acknowledgements: not if it neither closes by them, nor gives any on a page.
+    `done` has the kinds of the page's events that did something."""
     make = known_detector(detector).make
     return "ack" in done or make.may_ack is Core.may_ack or make.is_closed is Core.is_closed
 
 
 def closed_end(left: Iterable[str]) -> dict[str, Any]:
-    """The last word on a root that is closed: it is wrong if something is left."""
+    """The verdict on a root that is closed: it is wrong if something is left."""
     still = " and ".join(
         it.replace(" can ", " can still ").replace(" is ", " is still ") for it in left
     )
@@ -198,10 +196,10 @@ def closed_end(left: Iterable[str]) -> dict[str, Any]:
     }
 
 
-def model_parts(told: Play) -> dict[str, str]:
+def model_parts(run: Play) -> dict[str, str]:
     """What such a page says of the detector and the computation."""
-    known = known_detector(told.detector)
-    game = type(told.game)
+    known = known_detector(run.detector)
+    game = type(run.game)
     names = [f"{made.__module__}.{made.__qualname__}" for made in (known.make, game)]
     parts = {
         "says": known.says,
@@ -244,10 +242,10 @@ def filled(
     return string.Template(package_text("web", "run.html")).substitute(held)
 
 
-def _end(told: Simulation, ledger: Ledger) -> str:
-    """The last word of a run."""
-    if told.report is not None:
-        return _SAYS["closed" if told.report.closed else "stopped"]
+def _end(run: Simulation, ledger: Ledger) -> str:
+    """The verdict at the end of a run."""
+    if run.report is not None:
+        return _SAYS["closed" if run.report.closed else "stopped"]
     waits = with_unit(ledger.facts["root"][0]["deficit"], "acknowledgement")
     return _SAYS["open" if ledger.core.ended else "not ended"].format(acknowledgements=waits)
 
@@ -330,7 +328,7 @@ def recorded(
 
 
 class _Spelled(Core):
-    """A game that writes its events down, but for looks that find nothing."""
+    """A game that writes its events down, but for reads that find nothing."""
 
     def __init__(self, *words: Any) -> None:
         super().__init__(*words)
@@ -403,38 +401,38 @@ def spell_trace(setting: Setting, trace: Sequence[TraceRow]) -> tuple[Event, ...
 
 
 def spelled_out(simulation: Simulation, program: AnyProgram = None) -> Simulation:
-    """What the program answers to a simulation now, with books, and the events of its rounds spelled out. If the
-    simulation was told anything else, that is a Disagreement."""
+    """What the program returns for a simulation now, with books, and the events of its rounds spelled out. If the
+    simulation has anything else, that is a Disagreement."""
     setting = simulation.game
     schedule = simulation.schedule
     made_up = simulation.made_up
     if simulation.rounds:
         schedule = spell_rounds(setting, schedule, simulation.rounds)
         made_up = _SAYS["rounds"].format(events=with_unit(len(simulation.schedule), "event"))
-    told = asked(setting, schedule, program)
-    if told.report != simulation.report:
-        raise Disagreement("the program comes to another end than before")
-    for index, (reply, before) in enumerate(zip(told.replies, simulation.replies)):
+    now = asked(setting, schedule, program)
+    if now.report != simulation.report:
+        raise Disagreement("the program reports another end than before")
+    for index, (reply, before) in enumerate(zip(now.replies, simulation.replies)):
         if reply != before:
             raise Disagreement(f"event {index}: the program replies {reply}, and not {before}")
-    if told.boards[: len(simulation.boards)] != simulation.boards:
+    if now.boards[: len(simulation.boards)] != simulation.boards:
         raise Disagreement("the program has other books than the simulation")
-    return replace(told, made_up=made_up, notes=simulation.notes)
+    return replace(now, made_up=made_up, notes=simulation.notes)
 
 
 def asked(
     setting: Setting, schedule: Iterable[Sequence[Any]], program: AnyProgram = None
 ) -> Simulation:
-    """What the program answers to a schedule, with its books."""
+    """What the program returns for a schedule, with its books."""
     options: dict[str, Any] = {"limit": setting.limit, "ring": setting.ring, "fed": setting.fed}
     return simulate(setting.graph, setting.chips, schedule, books=True, program=program, **options)
 
 
-def page_data(told: Simulation, positions: Mapping[Any, Point] | None) -> dict[str, Any]:
+def page_data(run: Simulation, positions: Mapping[Any, Point] | None) -> dict[str, Any]:
     """What the page shows but for the events: the graph and its places, and the opening."""
-    setting = told.game
-    graph = told.game.graph
-    events = zip(told.schedule, told.replies)
+    setting = run.game
+    graph = run.game.graph
+    events = zip(run.schedule, run.replies)
     fed = {
         event.at - len(graph.edges)
         for event, reply in events
@@ -457,14 +455,14 @@ def page_data(told: Simulation, positions: Mapping[Any, Point] | None) -> dict[s
     }
 
 
-def compared(told: Simulation, ledger: Ledger) -> Iterator[tuple[Event, Reply]]:
+def compared(run: Simulation, ledger: Ledger) -> Iterator[tuple[Event, Reply]]:
     """The events with their replies; after each the ledger is compared with the books."""
-    for event, reply, board in zip(told.schedule, told.replies, told.boards):
+    for event, reply, board in zip(run.schedule, run.replies, run.boards):
         yield event, reply
         ledger.compare(board)
 
 
-def told_pairs(core: Core, event: Event) -> list[tuple[int, int]]:
+def messages_of(core: Core, event: Event) -> list[tuple[int, int]]:
     """Who tells whom in an event of a detector's own, the root after the vertices, if its `tells` says so."""
     if event.kind in (*EVENTS, WORK):
         return []
@@ -493,7 +491,7 @@ class Words:
         if event.kind == "ack" and not ledger.keeps_books:
             question = None  # (no rule is about it)
         step: dict[str, Any] = {"kind": event.kind, "at": event.at, "done": reply.is_done}
-        tells = told_pairs(ledger.core, event) if reply.is_done else []
+        tells = messages_of(ledger.core, event) if reply.is_done else []
         if tells:
             root = len(ledger.core.vertices)
             step["tells"] = [[None if it == root else it for it in pair] for pair in tells]

@@ -22,7 +22,7 @@ class Reached:
         #: The states by number, and the number of each.
         self.order = [start]
         self.places = {start: 0}
-        #: By the number of a state: from which state the search came to it, and by which move.
+        #: By the number of a state: from which state the search reached it, and by which move.
         self.came = [(-1, -1)]
         #: By the number of a state: whether the root is closed, and the state of the game without a detector.
         self.closed = [False]
@@ -81,7 +81,7 @@ class Reached:
         return len(self.way(len(self.order) - 1))
 
     def graph(self) -> Moves:
-        """The same for what is asked of the ends of schedules."""
+        """The states and moves in the form that finds how schedules end."""
         steps = array("i", [self.known[move][0] for move in self.moves])
         return Moves(self.closed, self.firsts, steps, self.heads)
 
@@ -107,7 +107,7 @@ class Reached:
                 yield schedule
 
     def drawn(self, draw: random.Random, most: int) -> Union[Schedule, None]:
-        """A random schedule of at most `most` steps to a closed root, if it comes to one."""
+        """A random schedule of at most `most` steps to a closed root, if it reaches one."""
         at = 0
         made: list[Event] = []
         for _ in range(most):

@@ -161,7 +161,7 @@ def random_schedule(
 
 @dataclass(frozen=True)
 class Play:
-    """A run that the model alone played, with any detector: what it answers is not proved.
+    """A run that the model alone played, with any detector. Not proved: its replies.
 
     replies      a reply for each event
     root_closed  whether the detector says in the end that all is over
@@ -357,8 +357,8 @@ def shiviz(setting: Game, events: Iterable[Sequence[Any]], detector: Detector = 
             messages[at].append(clock.copy())
         elif kind == "ack":
             answers[at] = clock.copy()
-        told = ", ".join(f'"{name}":{count}' for name, count in sorted(clock.items()))
-        lines += [f"{host} {{{told}}}", f"{kind} {at}: {reply}"]
+        counts = ", ".join(f'"{name}":{count}' for name, count in sorted(clock.items()))
+        lines += [f"{host} {{{counts}}}", f"{kind} {at}: {reply}"]
     return "".join(f"{line}\n" for line in lines)
 
 
@@ -429,33 +429,33 @@ def model_log(
     return [act for acts in log for act in acts]
 
 
-def _told(core: Any, kind: str, at: int) -> list[tuple[int, int]]:
+def _messages_of(core: Any, kind: str, at: int) -> list[tuple[int, int]]:
     """Who tells whom in an event of a detector's own, which is at one part or between two."""
-    told = [(int(teller), int(hearer)) for teller, hearer in core.tells(kind, at)]
-    if len({part for pair in told for part in pair}) > 2:
+    pairs = [(int(teller), int(hearer)) for teller, hearer in core.tells(kind, at)]
+    if len({part for pair in pairs for part in pair}) > 2:
         raise ValueError(
             f"{kind} {at} is one event of {type(core).__name__} in which more than two parts tell and hear something: "
             "make an event of each"
         )
-    return told
+    return pairs
 
 
 def _acts(core: Any, event: Event, seen: dict[tuple[str, int, int], _Acts]) -> _Acts:
-    """What an event adds to a log. A take or a seal is told if a tail sees it: until then its acts are in `seen`."""
+    """What an event adds to a log. A tail reads of a take or a seal later: until then its acts are in `seen`."""
     (kind, at, _) = event
     root = len(core.vertices)
     many = len(core.edges)
-    own = [] if kind in (*EVENTS, WORK) else _told(core, kind, at)
+    own = [] if kind in (*EVENTS, WORK) else _messages_of(core, kind, at)
     e = core.edges[core.graph_edges if kind == "end" or at >= len(core.edges) else at]
     before = e.acked + e.settled
     said, *_ = core.step(*event).split() or ["done"]
     if said in ("not-now", "empty", "full") or kind in ("fire", "halt", "read", "feed", WORK):
         return []
     if kind not in EVENTS:
-        told = [(*pair, 3 * many + pair[0] * (root + 1) + pair[1]) for pair in own]
+        messages = [(*pair, 3 * many + pair[0] * (root + 1) + pair[1]) for pair in own]
         return [
             act
-            for teller, hearer, it in told
+            for teller, hearer, it in messages
             for act in ((teller, "tell", it), (hearer, "hear", it))
         ]
     tail = root if e.tail < 0 else e.tail

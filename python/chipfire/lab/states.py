@@ -1,4 +1,4 @@
-"""The state of a game on the model as a short tuple of numbers, and back; `explore` tells what belongs to it.
+"""The state of a game on the model as a short tuple of numbers, and back; `explore` says what belongs to it.
 
 What can be changed is copied with all that shares it, and what cannot be compared is refused by its name.
 """
@@ -15,7 +15,7 @@ from typing import Any, Union
 
 from chipfire.lab.model import Core
 
-#: What does not change, and is compared as it is; the first of these are met most often.
+#: What does not change, and is compared as it is; the first of these are the most frequent.
 _PLAIN = {int, bool, str, type(None), float, Fraction}
 _FIXED = (*_PLAIN, complex, bytes, enum.Enum, type)
 
@@ -80,7 +80,7 @@ def frozen(value: Any) -> Any:
 
 
 class States:
-    """The states of one game: `noted` tells the present one, `load` goes to another that was noted.
+    """The states of one game: `noted` returns the present one, `load` goes to another that was noted.
 
     A state has a number for what cannot be changed in each edge, each vertex and the rest of the game, and one for all
     that can. `like` makes two games have the same.
@@ -90,7 +90,7 @@ class States:
         self.parts: list[Any] = [*core.edges, *core.vertices, core]
         if isinstance(core.not_state, str):
             raise ValueError(f"not_state is a tuple of names: not_state = ({core.not_state!r},)")
-        #: What the detector leaves out; what the parts have for good; and what is not gone into, by its `id`.
+        #: What the detector leaves out; what the parts never change; and what is not gone into, by its `id`.
         self.left_out = {*core.not_state}
         self.good = [
             (part, name, getattr(part, name), _content(getattr(part, name)))
@@ -180,9 +180,8 @@ class States:
             hash(said)
         except (TypeError, RecursionError):
             raise ValueError(
-                f"{type(self.parts[index]).__name__}.{name}, of type {type(value).__name__}, cannot be compared, so no "
-                f"state can be told from another: leave it out by not_state = ({name!r},), or keep what stands in it in "
-                "plain values"
+                f"{type(self.parts[index]).__name__}.{name}, of type {type(value).__name__}, cannot be compared, nor "
+                f"can states with it: leave it out by not_state = ({name!r},), or keep plain values in its place"
             ) from None
         return said
 
@@ -227,12 +226,12 @@ class States:
         return is_cleared
 
     def check(self) -> None:
-        """Checks that each part still has what it has for good."""
+        """Checks that nothing changed that a game never changes."""
         for part, name, value, content in self.good:
             if getattr(part, name) is not value or _content(value) != content:
                 of = type(part).__name__
                 raise ValueError(
-                    f"{of}.{name} changed, which a game has for good: keep yours elsewhere"
+                    f"{of}.{name} changed, which a game never changes: keep yours elsewhere"
                 )
 
     def changed(self, before: tuple[int, ...]) -> list[str]:

@@ -1,7 +1,7 @@
-"""Which rows of a log wait for a message that nobody sends: how far its rows can be met, and who waits for whom there.
+"""Which rows of a log wait for a message that nobody sends: maximal progress on its rows, and who waits for whom then.
 
-The program names the least process that waits at greatest progress, which is proved. What is found here is tested, and
-not proved. At a terminal the program says the same of a log in a file.
+The program names the least process that waits after maximal progress, and that is proved. Not proved: what is found
+here, which is tested. At a terminal the program says the same of a log in a file.
 """
 
 from __future__ import annotations
@@ -25,7 +25,7 @@ class Stream(NamedTuple):
 
 
 class Progress:
-    """Greatest progress on a log: each process has made as many rows as it can, each behind the message that it gets.
+    """Maximal progress on a log: each process has made as many rows as it can, each after the message that it gets.
 
     The rows are (process, kind, channel), and the program found no fault in them but that they fit in no order.
     """

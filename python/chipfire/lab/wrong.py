@@ -80,14 +80,14 @@ def wrong_page_text(
         states = with_unit(found.states, "state")
         none = f"{name} closes the root too early in no schedule of this game, which has {states}"
         raise ValueError(none if found.is_whole else f"{name}: {found}")
-    told = play(setting, found.schedule, detector)
+    run = play(setting, found.schedule, detector)
     words = Words(setting)
-    data = model_data(told, words, positions)
+    data = model_data(run, words, positions)
     data |= {
         "beside": _beside(setting, found.schedule, words, program),
         "words": list(words.numbers),
     }
-    parts = {**model_parts(told), "states": with_unit(found.states, "state")}
+    parts = {**model_parts(run), "states": with_unit(found.states, "state")}
     proved = "run-wrong.html" if isinstance(setting, Setting) else "run-wrong-model.html"
     return filled(title or f"A wrong detector: {name}", data, parts, proved, "two-drawings.html")
 

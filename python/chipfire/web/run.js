@@ -9,7 +9,7 @@ const byId = (name) => document.getElementById(name);
 let at = 0;
 let playing = null;
 
-// --- A game: what stands where, forward and back
+// --- A game: its state, forward and back
 
 class Game {
     constructor(start, steps) {
@@ -652,7 +652,7 @@ function showPositions() {
     byId("dragged").hidden = false;
 }
 
-// --- The stops: all events, or with whole sends those at which no send is under way
+// --- The stops: all events, or with whole sends those at which no send is in the middle of its events
 
 let stops = [];
 let isCoarse = false;
@@ -784,7 +784,7 @@ function bandOf({ vertex, from, to }, { x, row, bottom, now }) {
         }));
 }
 
-// A message, or an acknowledgement, from one part to another. What is still on its way now ends in a box or a point.
+// A message, or an acknowledgement, from one part to another. What is still in transit now ends in a box or a point.
 function arrowOf({ from, to, chips }, kind, tail, head, { x, row, columns, end, now }) {
     const isMessage = kind === "messages";
     const hasArrived = to !== undefined && stopOf(to) <= end;
@@ -976,7 +976,7 @@ function showQuestion() {
 
 // --- Choosing: the page has all states of its game, and whoever reads it picks each event among those that may happen
 
-// The state after each event at which no send is under way, and which move was picked there.
+// The state after each event at which no send is in the middle of its events, and which move was picked there.
 const reached = new Map([[0, 0]]);
 const picked = new Map();
 
@@ -992,7 +992,7 @@ function choose(move) {
     leap(last);
 }
 
-// The last word on what was picked: where the root was closed too early, it stays so.
+// The verdict on what was picked: where the root was closed too early, it stays so.
 function choiceEnd() {
     const { ends, early } = run.choices;
     const end = ends[reached.get(at)];
@@ -1000,7 +1000,7 @@ function choiceEnd() {
     return first === null || end?.isWrong ? end : { text: early.replace("{event}", first), isWrong: true };
 }
 
-// The events that may happen now; that which was picked looks pressed.
+// The events that may happen now; that which was picked appears pressed.
 function showChoices() {
     const hadFocus = document.activeElement?.closest("#possible");
     const choices = run.choices.moves[reached.get(at)].map(([steps], move) => {
@@ -1017,7 +1017,7 @@ function showChoices() {
 
 // --- Showing one state
 
-// Goes to the state after so many events.
+// Goes to the state after this number of events.
 function goTo(step) {
     const wanted = Math.max(0, Math.min(step, last));
     const stop = stopOf(wanted);
@@ -1076,7 +1076,7 @@ function showWords(from) {
     byId("changes").replaceChildren(...(words.length ? words : ["nothing"]).map((text) => element("li", {}, text)));
 }
 
-// The last word, in large letters: red if the root is closed and something is left.
+// The verdict, in large letters: red if the root is closed and something is left.
 function showEnd() {
     const end = run.choices ? choiceEnd() : at === last && asked === null ? run.end : null;
     byId("end").hidden = !end;
@@ -1084,7 +1084,7 @@ function showEnd() {
     byId("end").textContent = end?.text ?? "";
 }
 
-// What the right detector answers to the same event, and whether another than the wrong one has answered so far.
+// What the right detector replies to the same event. The first reply that differs from the wrong one's is marked.
 function showBeside() {
     const step = at > 0 && asked === null ? run.beside.steps[at - 1] : null;
     byId("reply-beside").textContent = step ? run.words[step.reply] : "";

@@ -123,7 +123,7 @@ class Browser:
         self.ask("Emulation.setEmulatedMedia", features=[{"name": key, "value": it} for key, it in features.items()])
 
     def names(self):
-        """The roles and names of what a screen reader tells of the page."""
+        """The roles and names of what a screen reader reads out of the page."""
         nodes = self.ask("Accessibility.getFullAXTree")["nodes"]
         return [(it["role"]["value"], it.get("name", {}).get("value", "")) for it in nodes if not it["ignored"]]
 

@@ -1,10 +1,10 @@
-"""Asks SageMath for the answers that stand in sage_cases.json, which the tests compare with chipfire's.
+"""Asks SageMath for the results in sage_cases.json, which the tests compare with chipfire's.
 
     sage -python tests/python/sage_cases.py >tests/python/sage_cases.json
 
 The file that lies here was written by SageMath 9.5 (Debian's package `sagemath`). Each case is a sandpile graph as Sage
 has it, its identity element, the order and the invariant factors of its group, its burning script and configuration,
-and configurations drawn at random (the seed is fixed) with what Sage's `stabilize(True)` answers, the stable
+and configurations drawn at random (the seed is fixed) with what Sage's `stabilize(True)` returns, the stable
 configuration and the firing vector, and its `equivalent_recurrent`; each vertex has as many chips as loops at least.
 Chips are then dropped one at a time on the identity: `drops` are names, `avalanches` are how many firings each caused
 and of how many vertices, and `left` is what lies there at the end. `stables` are stable configurations, with what
@@ -66,7 +66,7 @@ def games(draw):
 
 
 def undirected():
-    """Each undirected graph whose divisors are looked at: how it is made, and its sandpile."""
+    """Each undirected graph whose divisors are drawn: how it is made, and its sandpile."""
     yield "sandpiles.Cycle(5)", sandpiles.Cycle(5)
     yield "sandpiles.Complete(4)", sandpiles.Complete(4)
     yield "sandpiles.Complete(5)", sandpiles.Complete(5)
@@ -116,7 +116,7 @@ def stables_of(sandpile, draw):
     for _ in range(STABLES):
         drawn = SandpileConfig(sandpile, {name: draw.randint(0, int(most[name])) for name in most})
         for found in (drawn, drawn.equivalent_recurrent(), most - drawn.equivalent_recurrent()):
-            # (a configuration that was asked for its representative answers wrongly whether it is recurrent)
+            # (a configuration that was asked for its representative says wrongly whether it is recurrent)
             chips = SandpileConfig(sandpile, dict(found))
             yield {
                 "chips": numbers(chips),
@@ -155,7 +155,7 @@ def case_of(how, sandpile, most, draw):
 
 
 def coefficients(polynomial):
-    """The coefficients of a polynomial of several variables, each behind its powers."""
+    """The coefficients of a polynomial of several variables, each after its powers."""
     return sorted([*map(int, powers), int(count)] for powers, count in polynomial.dict().items())
 
 

@@ -32,7 +32,7 @@ class Game:
         self.start = ((0,) * vertices, (0,) * vertices, (None,) * vertices, zeros, sent, zeros, zeros, zeros)
 
     def is_over(self, state):
-        """Whether no message is under way, nothing is pending, and no vertex can fire."""
+        """Whether no message is in transit, nothing is pending, and no vertex can fire."""
         chips, _, _, pending, sent, taken, _, _ = state
         idle = not any(pending) and all(len(sent[it]) == taken[it] for it in self.all)
         return idle and not any(self.can_fire(chips, at) for at in range(len(chips)))
@@ -89,7 +89,7 @@ class Messages:
     """A game of another computation. A state is a tuple of seven: what each vertex knows, its parent, and of each edge,
     those of the root last, all that was to be sent, and how many are put, taken, acknowledged and settled.
 
-    `react(known, load, outs)` answers what a vertex knows after a message and what it is to send; `work(known, outs)`
+    `react(known, load, outs)` returns what a vertex knows after a message and what it is to send; `work(known, outs)`
     the same for each way in which it may go on of itself, which it does once all is put. The root has sent `starts`.
     """
 

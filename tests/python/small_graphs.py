@@ -22,7 +22,7 @@ def renamed(vertices, edges):
 
 @functools.lru_cache(maxsize=None)
 def simple_graphs(most=5):
-    """The edges (lower, higher) of each connected simple graph of up to so many vertices, up to isomorphism."""
+    """The edges (lower, higher) of each connected simple graph of at most `most` vertices, up to isomorphism."""
     found = []
     for vertices in range(1, most + 1):
         pairs = list(itertools.combinations(range(vertices), 2))
@@ -49,7 +49,7 @@ def graphs_of_sage():
 
 
 def directed_graphs(most=3, mult=2):
-    """Each directed multigraph of up to so many vertices without loops, each vertex of which reaches the sink."""
+    """Each directed multigraph of at most `most` vertices without loops, each vertex of which reaches the sink."""
     for vertices in range(1, most + 1):
         for sink in range(vertices):
             pairs = [it for it in itertools.permutations(range(vertices), 2) if it[0] != sink]

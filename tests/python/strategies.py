@@ -67,7 +67,7 @@ def by_numbers(test, make, rounds):
 
 
 def drawn(make, rounds):
-    """Hands a test what `make` draws, so many times."""
+    """Hands a test what `make` draws, `rounds` times."""
 
     def handed(test):
         most = max(rounds, int(os.environ.get("CHIPFIRE_SOAK") or 0))

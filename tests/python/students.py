@@ -549,7 +549,7 @@ class ThreeInARow(Core):
 
 
 class GlobalLeft(_Silent):
-    """One look at all parts at once."""
+    """Reads all parts at once."""
 
     def is_closed(self):
         return not self.left()
@@ -572,7 +572,7 @@ class AtOnceIfAlone(Core):
 
 
 class ReadsAcknowledged(Core):
-    """A tail looks at what the head acknowledged, before it settles it."""
+    """A tail reads what the head acknowledged, before it settles it."""
 
     def may_let_go(self, edge):
         outs = self.outs(edge.head)
@@ -580,14 +580,14 @@ class ReadsAcknowledged(Core):
 
 
 class RootReads(Core):
-    """The root looks at what is acknowledged on all edges, before it settles its own."""
+    """The root reads what is acknowledged on all edges, before it settles its own."""
 
     def is_closed(self):
         return self.ended and all(len(e.sent) == e.acked for e in self.edges)
 
 
 class Snapshot(_Silent):
-    """An event in which the root looks at all vertices, and nobody tells it anything."""
+    """An event in which the root reads all vertices, and nobody tells it anything."""
 
     over = False
 

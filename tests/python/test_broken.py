@@ -18,7 +18,7 @@ from chipfire.lab.detector import Answer, Message
 from test_examples import SCRIPTS
 
 PAGES, SIDE, STEPS = 30, 4, 100_000
-#: What the process of the search tells the root, which listens only then, and whether that has claimed.
+#: What the process of the search reports to the root, which listens only then, and whether that has claimed.
 FORK = multiprocessing.get_context("fork")
 TOLD, CLAIMED = FORK.SimpleQueue(), FORK.Event()
 NEVER = "it has no message left and is engaged"
@@ -32,7 +32,7 @@ def next_item(me, item):
 
 
 async def late(me):
-    """A loop that notes a message only behind the work on it."""
+    """A loop that notes a message only after the work on it."""
     while (item := await me._inboxes[me.name].get()) is not None:
         if next_item(me, item):
             yield item.content
@@ -180,7 +180,7 @@ class Broken(unittest.TestCase):
             return f"{fault.name} {fault.place}"
 
     def place(self, log, said):
-        """The row of a refusal: behind those that its process has written."""
+        """The row of a refusal: after those that its process has written."""
         refused = re.search(r"process (\d+): ", said)
         return len(self.rows(log, refused[1])) if refused else None
 
@@ -227,7 +227,7 @@ class Crawler(Broken):
 
 
 class Own:
-    """The inbox of the one process, which tells when nothing comes any more but from the root."""
+    """The inbox of the one process, which reports when nothing comes any more but from the root."""
 
     def __init__(self, me):
         self.me, self.inbox, self.left = me, me._inboxes[me.name], 1
@@ -244,7 +244,7 @@ class Own:
 
 
 def wait(detector):
-    """Waits, once the process has told how it stands."""
+    """Waits, once the process has reported its state."""
     never = TOLD.get() == NEVER
     try:
         detector.wait(0.01 if never else None)

@@ -209,7 +209,7 @@ class Explorer(unittest.TestCase):
                 chipfire.explore(GAMES["flooding"][0], **options)
 
 
-class Told(unittest.TestCase):
+class Written(unittest.TestCase):
     """What is written of runs."""
 
     def data(self, text):
@@ -301,7 +301,7 @@ class Told(unittest.TestCase):
             data = self.data(self.page(lambda file: chipfire.page(told, file)))
             self.assertEqual(sum("yes" in step for step in data["steps"] if step["kind"] == "ack"), count)
 
-    def test_states_and_loads_stand_on_the_page(self):
+    def test_states_and_loads_are_on_the_page(self):
         told = chipfire.play(GAMES["shortest paths"][0], [("take", 4), ("put", 0)])
         data = self.data(self.page(lambda file: chipfire.page(told, file)))
         taken = [change[:4] for change in data["steps"][0]["changes"]]

@@ -188,7 +188,7 @@ class Arithmetic(unittest.TestCase):
         for found in (one + numpy.array(ROWS), numpy.array(ROWS) + one):
             self.assertEqual(found.numbers, (0, 2, 4, 6, 8, 10, 0))
 
-    def test_what_it_is_asked_is_what_the_functions_answer(self):
+    def test_its_methods_return_what_the_functions_return(self):
         most = TEE.max_stable()
         self.assertEqual((most.is_stable(), most.is_recurrent(), most.is_superstable()), (True, True, False))
         self.assertEqual((2 * most).stabilize().numbers[:4], tuple(model.stabilized(TEE, [6, 6, 6, 6, 0])[0][:4]))
@@ -286,7 +286,7 @@ class All(unittest.TestCase):
 class Groups(unittest.TestCase):
     @drawn(near_chips, 45)
     def test_the_order_of_an_element(self, game):
-        """So many times the chips are equivalent to none, by whole firings."""
+        """That number of times the chips are equivalent to zero, and no smaller one, by whole firings."""
         graph, chips = game
         script = model.script_between(graph, chips, [0] * graph.vertices)
         wanted = math.lcm(*(times.denominator for times in script))
@@ -362,7 +362,7 @@ class Families(unittest.TestCase):
             self.assertEqual(beside, 2 * (width * (height - 1) + height * (width - 1)))
 
     def test_regions_of_the_three_lattices(self):
-        # a block of three by three, whose middle is vertex 4: who is beside it, and how many chips each loses
+        # a block of three by three, whose middle is vertex 4: who is beside it, and how many chips each dissipates
         block, heads = [[1] * 3] * 3, {}
         for lattice, beside, lost in [
             ("square", [1, 3, 5, 7], [2, 1, 2, 1, 0, 1, 2, 1, 2]),
@@ -400,7 +400,7 @@ class Families(unittest.TestCase):
         with self.assertRaises(KeyError):
             chipfire.Graph.undirected(square, [1, 9])
 
-    def test_many_sinks_are_not_looked_for_in_lists(self):
+    def test_many_sinks_are_not_searched_in_lists(self):
         compared = []
 
         class Name:

@@ -51,7 +51,7 @@ class Verify(unittest.TestCase):
                 others = [count + (at != graph.sink) for at, count in enumerate(report.fired)]
                 self.assertFalse(chipfire.verify(graph, chips, others))
 
-    def test_what_else_a_report_tells_is_verified_too(self):
+    def test_what_else_a_report_says_is_verified_too(self):
         report = chipfire.plain(TRIANGLE, [5, 0, 0], limit=2)
         self.assertTrue(chipfire.verify(TRIANGLE, [5, 0, 0], report, limit=2))
         self.assertTrue(chipfire.verify(TRIANGLE, [5, 0, 0], report.fired, limit=2))
@@ -61,7 +61,7 @@ class Verify(unittest.TestCase):
                      chipfire.Report((2, 0, 3), (2, 1, 0), (), (0,))):
             self.assertFalse(chipfire.verify(TRIANGLE, [5, 0, 0], told, limit=2))
 
-    def test_sittings_are_verified_together(self):
+    def test_stages_are_verified_together(self):
         last = chipfire.resume(TRIANGLE, chipfire.plain(TRIANGLE, [5, 0, 0], limit=1))
         self.assertTrue(chipfire.verify(TRIANGLE, [5, 0, 0], last))
         self.assertTrue(chipfire.verify(TRIANGLE, [5, 0, 0], last.total))
@@ -84,7 +84,7 @@ class Verify(unittest.TestCase):
 
 
 class Guesses(WithFolder):
-    def test_a_guess_changes_no_answer(self):
+    def test_a_guess_changes_no_result(self):
         for graph, chips, report in games():
             draw, inner = random.Random(1), [int(at != graph.sink) for at in range(graph.vertices)]
             more, less = ([max(count + by * it, 0) for count, it in zip(report.fired, inner)] for by in (1, -1))

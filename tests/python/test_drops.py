@@ -13,7 +13,7 @@ from test_sandpiles import has
 
 
 def slow_rows(graph, chips, drops):
-    """Size, extent and chips lost of each drop (vertex, chips), and what lies there in the end, by the slow player."""
+    """Size, area and dissipated chips of each drop (vertex, chips), and the chips at the end, by the slow player."""
     left = slow_report(graph, chips).chips
     for vertex, count in drops:
         more = [there + count * (vertex == at) for at, there in enumerate(left)]

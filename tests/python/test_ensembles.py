@@ -27,7 +27,7 @@ from test_sandpiles import has
 IS_HERE = chipfire.find_library() is not None
 #: Edges of several chips, and some to the sink.
 MULTIGRAPH = chipfire.Graph.undirected([("a", "b", 2), ("b", "c"), ("a", "s", 3), ("c", "s"), ("c", "b", 2)], "s")
-#: Each square of 2 by 2 loses one more chip.
+#: Each square of 2 by 2 dissipates one more chip.
 LOSSY = chipfire.Graph(5, 4, [*chipfire.grid(2, 2).edges, *((vertex, 4) for vertex in range(4))])
 
 
@@ -124,7 +124,7 @@ class Chains(unittest.TestCase):
                     self.assertEqual(found.chips[chain].tolist(), list(slow_report(graph, together).chips))
                 self.assertEqual((list(found.made), len({*found.seeds})), ([40] * 5, 5))
 
-    def test_the_seed_is_told_from_which_all_is_played_again(self):
+    def test_the_seed_is_reported_from_which_all_is_played_again(self):
         grid = chipfire.grid(7, 5)
         for seed, told in [(3, 3), ("3", "3"), (None, None), (3.0, 3), (2.5, 2.5), (b"3", b"3"),
                            (bytearray(b"3"), b"3"), (True, 1), (-3, -3)]:
@@ -237,7 +237,7 @@ class Chains(unittest.TestCase):
             self.assertEqual((len(there), dropped.report.chips), (20, chips))
 
     @unittest.skipUnless(has("numpy"), "NumPy is not here")
-    def test_a_chain_stops_after_the_first_drop_that_loses_a_chip_or_spans(self):
+    def test_a_chain_stops_after_the_first_drop_that_dissipates_a_chip_or_spans(self):
         def spans(fired):
             places = [divmod(vertex, 4) for vertex, count in enumerate(fired[:12]) if count]
             rows, columns = ({*it} for it in zip(*places)) if places else ({}, {})

@@ -108,7 +108,7 @@ class Places(WithFolder):
         return site
 
     def asked(self, package, path="/nowhere", user=None, here=None, python=sys.executable):
-        """What the package in a folder answers that is asked elsewhere, by the files in `here` and what it finds."""
+        """What the package in a folder finds where it is called elsewhere, with the files that are then in `here`."""
         here = here or self.file("here")
         for name in ("started", "loaded"):
             if os.path.exists(f"{here}/{name}"):
@@ -376,7 +376,7 @@ class Without(Places):
         for said in ("the package carries none", "none is on the PATH", "work without it", "CHIPFIRE", "./chipfire"):
             self.assertIn(said, told)
 
-    def test_it_can_be_told_not_to(self):
+    def test_the_warning_can_be_turned_off(self):
         ran = self.runs("import chipfire", "-W", "ignore:chipfire has no program:RuntimeWarning")
         self.assertEqual((ran.returncode, ran.stderr), (0, ""))
 

@@ -8,7 +8,7 @@ import unittest
 
 from test_group_laws import GRAPHS
 
-#: All configurations with at most so many chips on each vertex are tried.
+#: All configurations with at most this number of chips on each vertex are tried.
 MOST_CHIPS = 3
 
 
@@ -59,8 +59,9 @@ class Firings(unittest.TestCase):
                 self.assertLessEqual(excess(graph), 0, graph.into)
 
     def test_how_near_the_bound_is(self):
-        # (beside the sink it is met. On a path of three with an edge back, all chips on the far end go to and fro until
-        # one is left in the middle: each other one went to the sink, and the end sent all of them and all that came back)
+        # (beside the sink it is attained. On a path of three with an edge back, all chips on the far end go to and fro
+        # until one is left in the middle: each other one went to the sink, and the end sent all of them and all that
+        # came back)
         one_way, both_ways = [[0, 1, 0], [0, 0, 1]], [[0, 1, 0], [1, 0, 1]]
         for chips in range(1, 6):
             for into, vertex, most in ((one_way, 1, chips), (both_ways, 0, 2 * chips - 1)):

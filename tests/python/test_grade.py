@@ -145,7 +145,7 @@ class Suite(unittest.TestCase):
                 found = shown(student.make)[1]
                 self.assertEqual(found.verdict, VERDICTS[student.verdict], (student.make, found))
 
-    def test_a_root_that_looks_at_others_is_not_local(self):
+    def test_a_root_that_reads_others_is_not_local(self):
         for student in students.STUDENTS:
             if student.verdict == students.NOT_LOCAL:
                 first = next(it for _, it in suite.findings(student.make) if it is not None)

@@ -12,7 +12,7 @@ from strategies import random_graph
 
 
 def small_graphs(directed=3, simple=5):
-    """All directed multigraphs of up to so many vertices, and all simple ones with the first or last vertex as sink."""
+    """All small directed multigraphs, and all small simple graphs with the first or last vertex as sink."""
     yield from directed_graphs(directed)
     for vertices, edges in simple_graphs(simple):
         for sink in {0, vertices - 1}:

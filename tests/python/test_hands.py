@@ -1,6 +1,6 @@
 """What users of SageMath, NumPy, SciPy and pandas expect: spellings, seeds, sizes, arrays, tables, files and types.
 
-Values come from SageMath's answers, from the slow words of `model`, and from calculations by hand.
+Values come from SageMath's results, from the slow words of `model`, and from calculations by hand.
 """
 import base64
 import copy
@@ -180,14 +180,14 @@ def some_graphs():
 
 
 def asked(graph):
-    """Answers of all kinds about a graph, which keeps some of them."""
-    answers = [graph.shape, graph.edges, graph.degrees(), graph.wrong, graph.number(graph.names[0]), graph.squares]
-    answers += [graph.max_stable(), graph.identity(), graph.order(), chipfire.laplacian(graph), graph.loops, graph.names]
-    answers += [chipfire.is_recurrent(graph, graph.max_stable()), chipfire.burning_script(graph), graph.outs(0)]
-    answers += [chipfire.stabilize(graph, 7), chipfire.plain(graph, 7), (graph.max_stable() + 3).equivalent_superstable()]
+    """Results of all kinds about a graph, which keeps some of them."""
+    results = [graph.shape, graph.edges, graph.degrees(), graph.wrong, graph.number(graph.names[0]), graph.squares]
+    results += [graph.max_stable(), graph.identity(), graph.order(), chipfire.laplacian(graph), graph.loops, graph.names]
+    results += [chipfire.is_recurrent(graph, graph.max_stable()), chipfire.burning_script(graph), graph.outs(0)]
+    results += [chipfire.stabilize(graph, 7), chipfire.plain(graph, 7), (graph.max_stable() + 3).equivalent_superstable()]
     if not graph.loops:
-        answers += [graph.text(), *map(list, graph.long_columns)]
-    return answers
+        results += [graph.text(), *map(list, graph.long_columns)]
+    return results
 
 
 class Pickles(unittest.TestCase):
@@ -563,7 +563,7 @@ class Notebooks(unittest.TestCase):
         self.assertEqual(points, [[1, 2], [6**0.5, 3 / 2], [120**0.5, 1 / 8]])
         self.assertEqual((axes.get_xscale(), axes.get_yscale()), ("log", "log"))
 
-    def test_without_matplotlib_the_text_stands(self):
+    def test_without_matplotlib_the_text_is_shown(self):
         for result, _ in self.results():
             with mock.patch.dict("sys.modules", {"matplotlib.figure": None, "matplotlib": None}):
                 self.assertIsNone(result._repr_html_())

@@ -35,7 +35,7 @@ def without(*gone):
 
 
 def words_of(test, rows, **options):
-    """What the fault of a stuck log says behind its row."""
+    """What the fault of a stuck log says after its row."""
     with test.assertRaises(chipfire.Fault) as raised:
         chipfire.judge_log(rows, **options)
     test.assertEqual(raised.exception.number, 70)
@@ -64,7 +64,7 @@ class Waits(WithFolder):
         self.assertEqual(words_of(self, without((1, "send", 1))), words)
 
     def test_a_doubled_row_far_from_the_least_process(self):
-        # Each process but the last waits for the token of the one behind it; the last heard its message twice.
+        # Each process but the last waits for the token of the one after it; the last heard its message twice.
         last = 124
         rows = [row for it in range(last) for row in [(it, "hear", it + 1), (it, "tell", it)]]
         rows += [(last, "hear", last + 1)] * 2 + [(last, "tell", last), (last + 1, "tell", last + 1)]
@@ -208,7 +208,7 @@ class FirstAndExpected(WithFolder):
 
 class LongLogs(unittest.TestCase):
     def test_the_program_is_started_twice_for_any_number_of_cuts(self):
-        # Each process hears of the one before it as often as that tells, and once more: by hand each is cut at its row 20.
+        # Each process hears from the one before it once more than that tells it: by hand each is cut at its row 20.
         count, turns = 300, 10
         rows = [
             row for it in range(count)

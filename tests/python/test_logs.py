@@ -93,7 +93,7 @@ class Verdicts(unittest.TestCase):
         self.assertEqual(str(judged).split("\n"), lines)
         self.assertEqual(chipfire.judge_log(AT_ONCE).claims[0].past, {})
 
-    def test_a_message_on_its_way(self):
+    def test_a_message_in_transit(self):
         rows = [("a", "active", 0), ("a", "send", "w"), *([("a", "send", ("to", "b"))] * 2), ("a", "passive", 0)]
         rows += [("b", "receive", ("to", "b")), ("b", "passive", 0), ("c", "receive", "w"), ("c", "passive", 0)]
         rows += [("b", "tell", 1), ("c", "tell", 2), ("a", "hear", 1), ("a", "hear", 2), ("a", "over", 0)]
@@ -112,7 +112,7 @@ class Verdicts(unittest.TestCase):
 
     def test_a_reactive_process_that_logs_when_it_is_passive(self):
         # By hand: b sends, hears of it, tells a, and is at work until its row 4. Without that row it would count as
-        # passive behind the last message that it sent, which is before a hears of it.
+        # passive after the last message that it sent, which is before a hears of it.
         rows = [("a", "send", "x"), ("a", "hear", "x"), ("a", "over", 0), ("c", "receive", "y"), ("c", "tell", "y")]
         rows += [("b", *it) for it in [("receive", "x"), ("send", "y"), ("hear", "y"), ("tell", "x"), ("passive", 0)]]
         self.assertEqual(told(rows, reactive=True), ["over a 2 early: process b is active", "end missed"])
@@ -176,11 +176,11 @@ class Faults(WithFolder):
         self.assertIn("row 3 of the log is ('a', 'hear', 'x')", str(fault))
         rows = [("z", "over", 0), *(row for row in rows if row[1] not in ("active", "passive"))]
         fault = fault_of(self, rows, reactive=True)
-        # (before a's row 1 an `active` is put in, and behind it a `passive`)
+        # (before a's row 1 an `active` is put in, and after it a `passive`)
         self.assertEqual((fault.number, fault.place), (70, ("a", 1)))
         self.assertIn("row 2 of the log is ('a', 'hear', 'x')", str(fault))
 
-    def test_rows_behind_those_that_fit(self):
+    def test_rows_after_those_that_fit(self):
         rows = [*RIGHT, ("b", "hear", "lost"), ("b", "over", 0), ("c", "receive", "z"), ("a", "over", 0)]
         self.assertEqual(fault_of(self, rows).place, ("b", 5))
         lines = ["cut b 5", "cut c 3", "over a 4 right", "over a 5 right", "end claimed"]
@@ -414,7 +414,7 @@ class JsonLines(WithFolder):
         rows = chipfire.read_json_lines(file, process=1, kind=0, channel=lambda it: (it[1], "b"))
         self.assertEqual(rows, [((1, (2,)), "tell", ((1, (2,)), "b"))])
 
-    def test_what_is_wrong_is_told_with_file_and_line(self):
+    def test_what_is_wrong_is_reported_with_file_and_line(self):
         for line, words in [
             ("{", "JSONDecodeError"), ("[1]", "TypeError"), ("3", "TypeError"), ("{}", "KeyError: 'kind'"),
             ("\xff", "Error"), ('{"kind": []}', "there is no kind ()"),
@@ -544,7 +544,7 @@ class ShiViz(WithFolder):
                 found.update(it for _, it in came)
 
     def test_a_line_that_is_lost_is_refused(self):
-        # By hand: b begins active, tells a that it is passive, and is not, and a claims. Without b's first line b
+        # By hand: b begins active, reports to a that it is passive, and is not, and a claims. Without b's first line b
         # would begin passive, and the claim be right.
         events = [("b", {"b": 1}, "active"), ("b", {"b": 2}, "tell"), ("a", {"a": 1, "b": 2}, "hear"),
                   ("a", {"a": 2, "b": 2}, "over"), ("b", {"b": 3}, "passive")]
@@ -574,7 +574,7 @@ class ShiViz(WithFolder):
                 else:
                     chipfire.read_shiviz(text, kind_of, message_of=message_of)
 
-    def test_what_is_wrong_is_told_with_its_line(self):
+    def test_what_is_wrong_is_reported_with_its_line(self):
         good = 'a {"a": 1}\nsend\n'
         for text, words in [
             ("nothing\n", "line 1: .* does not read 'nothing'"),
@@ -646,8 +646,8 @@ class Models(unittest.TestCase):
         self.assertEqual(own[1], ["receive 0"])
         self.assertEqual(own[2], ["receive 1", "passive 0", "tell 1"])
 
-    def test_what_a_tail_sees_of_a_cell_and_of_a_seal_is_told(self):
-        # (seven edges, so a cell of edge 0 is told on 7 and its seal on 14)
+    def test_what_a_tail_sees_of_a_cell_and_of_a_seal_is_logged(self):
+        # (seven edges, so a cell of edge 0 is logged on 7 and its seal on 14)
         sends = [("clear", 0), ("claim", 0), ("put", 0), ("clear", 1), ("claim", 1), ("put", 1)]
         events = [("take", 4), ("fire", 0, 1), *sends, ("fire", 0, 1), ("clear", 0), ("seal", 0), ("take", 0),
                   ("clear", 0), ("clear", 0), ("claim", 0)]
@@ -714,7 +714,7 @@ class Models(unittest.TestCase):
             chipfire.model_log(FOUR, Asks, [("ask", 0, 0)])
         Asks.tells = lambda self, kind, at: [(3, at), (at, 3)]
         rows = chipfire.model_log(FOUR, Asks, [("ask", 0, 0)])
-        # (behind 3 times 7 channels, of 4 times 4 pairs)
+        # (after 3 times 7 channels, of 4 times 4 pairs)
         self.assertEqual(rows[-4:], [(3, "tell", 33), (0, "hear", 33), (0, "tell", 24), (3, "hear", 24)])
 
 

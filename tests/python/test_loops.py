@@ -45,7 +45,7 @@ def played():
 
 
 def around(plain, below, above):
-    """All chips from so many below 0 to so many above what each vertex needs to fire; none on the sink."""
+    """All chips from `below` below 0 to `above` above what each vertex needs to fire; none on the sink."""
     return itertools.product(*(
         (0,) if vertex == plain.sink else range(-below, least + above)
         for vertex, least in enumerate(model.needs(plain))

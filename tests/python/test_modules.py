@@ -1,4 +1,4 @@
-"""How the package is built: its modules, what it hands on, its signatures and its types."""
+"""How the package is built: its modules, the names that it exports, its signatures and its types."""
 import ast
 import glob
 import importlib
@@ -118,7 +118,7 @@ def trees():
 
 class Modules(unittest.TestCase):
     def goes_down(self, below):
-        """Looks that no import goes in a circle: `below` has what each module imports."""
+        """Checks that no import goes in a circle: `below` has what each module imports."""
         while below:
             lowest = {module for module, others in below.items() if not others & below.keys()}
             self.assertTrue(lowest, below)
@@ -191,13 +191,13 @@ class Modules(unittest.TestCase):
 
 
 class Signatures(unittest.TestCase):
-    def test_the_options_of_each_command_are_told(self):
-        told = {name: list(inspect.signature(getattr(chipfire, name)).parameters) for name in COMMANDS}
-        self.assertEqual(told["plain"], ["graph", "chips", "limit", "guess", "progress", "program"])
-        self.assertIn("workers", told["run"])
+    def test_the_options_of_each_command_are_in_its_signature(self):
+        options = {name: list(inspect.signature(getattr(chipfire, name)).parameters) for name in COMMANDS}
+        self.assertEqual(options["plain"], ["graph", "chips", "limit", "guess", "progress", "program"])
+        self.assertIn("workers", options["run"])
         for name in COMMANDS:
             method = getattr(chipfire.Program("/nowhere"), name)
-            self.assertEqual([*inspect.signature(method).parameters, "program"], told[name], name)
+            self.assertEqual([*inspect.signature(method).parameters, "program"], options[name], name)
             self.assertEqual(inspect.getdoc(method), inspect.getdoc(getattr(chipfire, name)))
 
     def test_no_public_function_hides_its_options(self):

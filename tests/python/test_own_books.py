@@ -194,7 +194,7 @@ class Refused(unittest.TestCase):
             with self.assertRaisesRegex(ValueError, words):
                 make()
 
-    def test_a_number_is_looked_at_before_it_is_noted(self):
+    def test_a_number_is_checked_before_it_is_noted(self):
         """ctypes takes the remainder of a number that is too large, and nothing of what only stands for one."""
 
         class Like:

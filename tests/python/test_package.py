@@ -1,4 +1,4 @@
-"""The package's objects and commands, on games whose answers are known from outside.
+"""The package's objects and commands, on games whose results are known from outside.
 
 The triangle has edges 0 to 1, 0 to the sink 2, 1 to 0 and 1 to the sink. Its plays are worked by hand in docs/GAME.md,
 its schedules in examples/detector/README.md, and examples/ has the files that are compared here.
@@ -54,7 +54,7 @@ class WithFolder(unittest.TestCase):
         return path
 
     def program(self, line):
-        """A program that does what a line for a shell says, and answers with the report of the triangle."""
+        """A program that does what a line for a shell says, and prints the report of the triangle."""
         path = self.file("program", f"#!/bin/sh\n{line}\ncat {EXAMPLES}/triangle/report.json\n")
         os.chmod(path, 0o755)
         return path
@@ -72,7 +72,7 @@ class Graphs(WithFolder):
     def test_the_grid_is_that_of_the_examples(self):
         self.assertEqual(chipfire.grid(8, 8), chipfire.Graph.read(f"{EXAMPLES}/grid/graph.json"))
 
-    def test_a_path_loses_chips_at_both_ends(self):
+    def test_a_path_dissipates_chips_at_both_ends(self):
         edges = [(0, 1, 1), (0, 3, 1), (1, 0, 1), (1, 2, 1), (2, 1, 1), (2, 3, 1)]
         graph = chipfire.path(3)
         self.assertEqual((graph.vertices, graph.sink, sorted(graph.edges)), (4, 3, edges))
@@ -134,14 +134,14 @@ class Plain(WithFolder):
         self.assertEqual((report.chips, report.fired, report.over), ((2, 0, 3), (2, 1, 0), (0,)))
         self.assertFalse(report.closed)
 
-    def test_a_play_that_is_told_of(self):
+    def test_a_play_whose_progress_is_shown(self):
         report = chipfire.plain(TRIANGLE, [5, 0, 0], limit=2, progress=True)
         self.assertEqual((report.chips, report.fired, report.over), ((2, 0, 3), (2, 1, 0), (0,)))
         with self.assertRaises(chipfire.Fault) as raised:
             chipfire.run(TRIANGLE, [4, 0, 0], turns=1, progress=True)
         self.assertEqual((raised.exception.number, raised.exception.status), (61, 3))
 
-    def test_what_is_told_of_a_play_goes_to_standard_error(self):
+    def test_the_progress_of_a_play_goes_to_standard_error(self):
         lines = ["chipfire: progress: 1 rounds, 3 firings", "chipfire: progress: 2 rounds, 4 firings"]
         program = self.program("; ".join(f"echo '{line}' >&2" for line in lines))
         with contextlib.redirect_stderr(io.StringIO()) as told:
@@ -182,8 +182,8 @@ class Plain(WithFolder):
         self.assertEqual(chipfire.plain("--graph.json", "-c", limit=1).fired, (1, 0, 0))
 
 
-class Sittings(WithFolder):
-    def test_three_sittings_are_those_of_the_examples(self):
+class Stages(WithFolder):
+    def test_three_stages_are_those_of_the_examples(self):
         first = chipfire.plain(TRIANGLE, [5, 0, 0], limit=1)
         second = chipfire.resume(TRIANGLE, first, limit=1)
         third = chipfire.resume(TRIANGLE, second)
@@ -216,7 +216,7 @@ class Sittings(WithFolder):
                 chipfire.Report.read(self.file("report.json"), graph)
             with self.assertRaisesRegex(ValueError, "another graph"):
                 chipfire.resume(graph, chipfire.Report.read(self.file("report.json")))
-        # (worked by hand: nobody fired, so only who could fire tells that it is none of this graph)
+        # (worked by hand: nobody fired, so only who could fire shows that it is none of this graph)
         for chips, over, fits in [((2, 0, 0), (), False), ((2, 0, 0), (0,), True), ((1, 1, 9), (), True)]:
             self.assertEqual(chipfire.Report(chips, (0, 0, 0), over).fits(TRIANGLE), fits)
         # (0 fired once and 1 has not got its chip: it would have begun with -1)
@@ -256,11 +256,11 @@ class Large(WithFolder):
             call(*arguments, **options)
         return caught.exception.number, caught.exception.place
 
-    def test_a_large_graph_is_looked_at(self):
+    def test_a_large_graph_is_checked(self):
         wanted = chipfire.Check(5000, 4999, 4999, (2,) * 4999 + (0,), (1,) * 4999 + (0,))
         self.assertEqual(chipfire.check(self.FAN), wanted)
 
-    def test_a_large_game_in_one_sitting_and_in_two(self):
+    def test_a_large_game_in_one_stage_and_in_two(self):
         whole = chipfire.plain(self.FAN, self.CHIPS, progress=True)
         self.assertEqual(whole, chipfire.Report((1, 1, *[0] * 4996, 1, 6), (2, 0, *[0] * 4996, 1, 0)))
         self.assertEqual(chipfire.stabilize(self.FAN, self.CHIPS), whole.configuration)
@@ -432,7 +432,7 @@ class Refusals(WithFolder):
         fault = self.refused(chipfire.replay, TRIANGLE, {0: 4}, trace)
         self.assertEqual((fault.number, fault.name, fault.place), (70, "Stuck", (1, 0)))
 
-    def test_a_fault_tells_what_the_program_explains(self):
+    def test_a_fault_says_what_the_program_explains(self):
         fault = self.refused(chipfire.plain, TRIANGLE, self.file("chips.csv", "vertex,chips\n0,4\n0,-1\n"))
         self.assertEqual((fault.number, fault.place), (25, (1,)))
         self.assertEqual(fault.explanation, chipfire.explain(25).strip())
@@ -565,7 +565,7 @@ class Mistakes(WithFolder):
             with self.assertRaisesRegex(ValueError, "^limit is above"):
                 call(TRIANGLE, *others, limit=2**41)
 
-    def test_words_that_the_program_does_not_take_are_told(self):
+    def test_words_that_the_program_does_not_take_are_reported(self):
         fault = self.fault(chipfire.explain, 999)
         self.assertEqual((fault.number, fault.words), (91, "it does not take the word `999`"))
         usage = "{ echo 'chipfire: fault 91 Usage' >&2; exit 1; }"
@@ -583,7 +583,7 @@ class Mistakes(WithFolder):
         fault = self.fault(chipfire.plain, CHIPS_FILE, CHIPS_FILE, limit=3, program=self.program(f"{taken} || {usage}"))
         self.assertEqual(fault.words, "it does not take the word `--limit=3`")
 
-    def test_of_the_words_one_that_is_no_utf_8_is_told(self):
+    def test_of_the_words_one_that_is_no_utf_8_is_reported(self):
         fault = self.fault(chipfire.plain, TRIANGLE, os.fsdecode(b"caf\xe9.csv"), limit=3)
         self.assertEqual((fault.number, fault.words), (91, r"it does not take the word `caf\udce9.csv`"))
 
@@ -594,7 +594,7 @@ class Mistakes(WithFolder):
                     call(value)
 
     def test_a_program_that_is_another_one(self):
-        chipfire.identity(TRIANGLE)  # (what one program answered is no answer of another)
+        chipfire.identity(TRIANGLE)  # (the result of one program is not that of another)
         for program in ("/bin/true", "/bin/echo", self.program("exit 7")):
             for call in (lambda **it: chipfire.plain(TRIANGLE, {}, **it), lambda **it: chipfire.check(TRIANGLE, **it),
                          lambda **it: chipfire.is_recurrent(TRIANGLE, {}, **it),

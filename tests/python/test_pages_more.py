@@ -121,7 +121,7 @@ class Shown(unittest.TestCase):
                     self.assertIsNone(found[step])
             self.assertEqual(self.browser.complaints(), [])
 
-    def test_what_is_told_is_an_arrow_of_the_diagram(self):
+    def test_what_one_part_tells_another_is_an_arrow_of_the_diagram(self):
         told, places = played(Safra)
         self.open(told, (1280, 800))
         self.browser.press("d")

@@ -32,7 +32,7 @@ SINK = "#a5d8c2"
 
 
 def slowly(graph, chips, limit=2**40):
-    """The chips that lie there if each vertex may fire so often, and how often each fired, by the slow player."""
+    """The chips that lie there within a limit of firings, and how often each vertex fired, by the slow player."""
     position = list(graph.chips(chips))
     of_file = {"vertices": graph.vertices, "sink": graph.sink, "edges": graph.edges}
     fired = play.play(of_file, position, limit, random.Random(1))
@@ -146,7 +146,7 @@ class Files(WithFolder):
         report = chipfire.plain(self.grid, self.chips, limit=0)
         self.assertEqual(svg_squares(report.picture().svg()), coloured(self.grid.chips(self.chips), 7, 35))
 
-    def test_the_words_count_the_firings_of_all_sittings(self):
+    def test_the_words_count_the_firings_of_all_stages(self):
         report = chipfire.resume(self.grid, chipfire.plain(self.grid, self.chips, limit=2))
         said = f"{sum(self.fired)} firings, {self.position[35]} chips in the sink"
         self.assertEqual(report.picture().title, said)
@@ -277,7 +277,7 @@ class Shapes(WithFolder):
         graph.write(self.file("graph.json"))
         return chipfire.Graph.read(self.file("graph.json"))
 
-    def test_grids_tell_their_shape(self):
+    def test_grids_have_their_shape(self):
         for width, height in [(2, 2), (7, 5), (5, 7), (2, 9), (1, 1), (6, 1)]:
             self.assertEqual(chipfire.grid(width, height).shape, (height, width))
             self.assertEqual(self.read(chipfire.grid(width, height)).shape, (height, width))
@@ -590,7 +590,7 @@ class Plots(unittest.TestCase):
         points = drawn.to_rgba(drawn.get_array(), bytes=True)[..., :3].tolist()
         self.assertEqual([[tuple(it) for it in row] for row in points], coloured(position, 5, 15))
 
-    def test_a_plot_has_a_scale_and_a_bar_that_tells_it(self):
+    def test_a_plot_has_a_scale_and_a_bar_that_shows_it(self):
         pyplot = importlib.import_module("matplotlib.pyplot")
         report = chipfire.plain(chipfire.grid(5, 3), {7: 4000})
         most = f"{max(report.fired):,}"

@@ -1,5 +1,5 @@
-"""What reads the tests: a sample with all that can come of a test is told alike by unittest and by pytest, and names and
-numbers of tests are what is asked for."""
+"""What reads the tests: a sample with all that can come of a test has the same outcomes by unittest and by pytest, and
+names and numbers of tests are what is asked for."""
 
 import importlib.util
 import json
@@ -105,7 +105,7 @@ TELL = "\nwith open('outcomes', 'w') as file: json.dump(outcomes, file)\n"
 
 class Readers(unittest.TestCase):
     def tells(self, reading):
-        """Has the sample read in a Python of its own, and compares what is told."""
+        """Has the sample read in a Python of its own, and compares the outcomes."""
         with tempfile.TemporaryDirectory() as folder:
             with open(f"{folder}/sample.py", "w", encoding="ascii") as file:
                 file.write(SAMPLE)
@@ -153,7 +153,7 @@ class Names(unittest.TestCase):
 
 
 class Numbers(unittest.TestCase):
-    def test_fewer_tests_than_there_were_are_told(self):
+    def test_fewer_tests_than_there_were_are_reported(self):
         (least,) = (count for key, count in counts.least().items() if key == ("docs", ""))
         self.assertEqual(counts.wrong("docs", "", least), [])
         self.assertRegex(

@@ -1,4 +1,4 @@
-"""Sandpiles as others have them: SageMath's answers, stored in sage_cases.json, and graphs of NetworkX and Sage."""
+"""Sandpiles as others have them: SageMath's results, stored in sage_cases.json, and graphs of NetworkX and Sage."""
 import collections
 import importlib.util
 import json
@@ -206,7 +206,7 @@ class Sunk(Labelled):
 
 
 class LikeSage(unittest.TestCase):
-    """Graphs that answer as those of SageMath do, which need not be here."""
+    """Graphs with the methods of those of SageMath, which need not be here."""
 
     def test_vertices_have_the_order_that_sage_gives_them(self):
         for case in CASES:

@@ -127,7 +127,7 @@ class WrongInputs(unittest.TestCase):
         for call, refusal, said in GRAPHS + CALLS:
             self.check(call, refusal, said)
 
-    def test_what_is_no_graph_is_told_with_and_without_the_program(self):
+    def test_what_is_no_graph_is_reported_with_and_without_the_program(self):
         for arguments, said in NO_GRAPHS:
             graph = Graph(*arguments)
             self.check(lambda: chipfire.check(graph), chipfire.Fault, said)

@@ -213,7 +213,7 @@ class Ways(WithFolder):
             (lambda: chipfire.plain(chain, [30, 0]), short, False),
             (lambda: chipfire.plain(chain, [300, 0]), long, False),
             (lambda: chipfire.verify(chain, [30, 0], short), True, False),
-            (lambda: chipfire.verify(chain, [300, 0], long), True, True),
+            (lambda: chipfire.verify(chain, [300, 0], long), True, False),
             (lambda: chipfire.verify(chain, [300, 0], short), False, False),
         ]:
             with mock.patch.object(library, "MOST_WORK", 6 * 320), self.counted() as started:
@@ -257,11 +257,31 @@ class Ways(WithFolder):
             most, limits = max(slow_report(graph, chips).fired), [0, 1, 2, 5, 2**40]
             reports = [slow_report(graph, chips, limit) for limit in limits]
             less = dataclasses.replace(reports[-1], chips=(reports[-1].chips[0] - 2**41, *reports[-1].chips[1:]))
-            for short, (limit, right) in itertools.product((most, most + 1, 2**28), zip(limits, reports)):
-                work = max(short, sum(chips) + 1) * (graph.vertices + len(graph.edges))
-                with self.subTest(graph=graph, short=short, limit=limit), mock.patch.object(library, "MOST_WORK", work):
-                    found = [chipfire.verify(graph, chips, report, limit=limit) for report in [*reports, less]]
+            size = graph.vertices + len(graph.edges)
+            works = [0, *(max(short, sum(chips) + 1) * size for short in (most, most + 1, 2**28))]
+            for work, (limit, right) in itertools.product(works, zip(limits, reports)):
+                with self.subTest(graph=graph, work=work, limit=limit), mock.patch.object(library, "MOST_WORK", work):
+                    with self.counted() as started:
+                        found = [chipfire.verify(graph, chips, report, limit=limit) for report in [*reports, less]]
                     self.assertEqual(found, [report == right for report in [*reports, less]])
+                    self.assertEqual(started.call_count > 0, not IS_HERE)
+
+    def test_a_long_claim_that_fires_more_is_not_verified(self):
+        """The chips that it leaves are its own, and stable ones: only the counts are too high."""
+        told = 0
+        for graph in (TRIANGLE, chipfire.path(3), chipfire.cycle(4)):
+            chips = [9] * graph.vertices
+            right = slow_report(graph, chips)
+            for more in itertools.product(range(3), repeat=graph.vertices):
+                counts = [fired + it * (at != graph.sink) for at, (fired, it) in enumerate(zip(right.fired, more))]
+                ends = graph.position_after(chips, counts)
+                if min(ends) < 0 or not chipfire.is_stable(graph, ends):
+                    continue
+                claim = dataclasses.replace(right, fired=tuple(counts), chips=tuple(ends))
+                with mock.patch.object(library, "MOST_WORK", 0):
+                    self.assertEqual(chipfire.verify(graph, chips, claim), claim == right, claim)
+                told += claim != right
+        self.assertGreater(told, 0)
 
     @unittest.skipUnless(IS_HERE, "the library is not called")
     def test_a_library_of_another_version_is_not_called(self):

@@ -433,14 +433,48 @@ def is_end(
     program: FileName | None,
     limit: int,
 ) -> bool | None:
-    """Whether these are the counts and the chips at the end of a game; or None if that is the program's to say."""
+    """Whether these are the counts and the chips at the end of a game; or None if that is the program's to say.
+
+    To verify what is right takes passes over the graph, and what is wrong is played. If that may be long, it is found here
+    that it is wrong: the counts leave other chips, or a vertex may fire. Counts beyond these are too high, and the library
+    lowers them."""
     found = loaded() if program is None else None
-    at_most = most(graph)
-    # (a game that is stopped here and not by its limit has a vertex that fires more often)
-    if not found or sum(chips) >= at_most or max(fired) >= at_most < limit:
+    if not found:
         return None
+    at_most = most(graph)
+    is_long = sum(chips) >= at_most or max(fired) >= at_most < limit
+    may_be = not is_long or _may_end(graph, chips, fired, ends, limit)
+    # (a game that is stopped here and not by its limit has a vertex that fires more often)
+    within = limit if is_long else min(limit, at_most)
+    # (the library refuses what is no game, in any case)
     arrays = (chips, fired, ends)
-    return _call(found.chipfire_verify, graph, [min(limit, at_most)], *arrays, but=53) == 0
+    status = _call(found.chipfire_verify, graph, [within if may_be else 0], *arrays, but=53)
+    return may_be and status == 0
+
+
+def _may_end(
+    graph: Graph, chips: array[int], fired: array[int], ends: array[int], limit: int
+) -> bool:
+    """Whether these counts leave these chips, of which each vertex has too few to fire, or has fired as often as the limit
+    allows. A graph on which nothing can be played has no such counts."""
+    if graph.wrong or max(fired) > limit or _left(graph, chips, fired) != ends:
+        return False
+    vertices = zip(graph.degrees(), ends, fired)
+    return all(not degree or count < degree or times == limit for degree, count, times in vertices)
+
+
+def _left(graph: Graph, chips: array[int], fired: array[int]) -> array[int]:
+    """The chips that counts leave, each less a multiple of 2^64."""
+    numpy = numpy_in_use()
+    if not numpy:
+        return array("Q", [count % 2**64 for count in graph.position_after(chips, fired)])
+    tails, heads, mults = (numpy.frombuffer(column, "q") for column in graph.long_columns)
+    left = array("Q", chips)
+    count = numpy.frombuffer(left, "q")
+    sent = mults * numpy.frombuffer(fired, "q")[tails]
+    numpy.add.at(count, heads, sent)
+    numpy.subtract.at(count, tails, sent)
+    return left
 
 
 def _row_call(name: str, graph: Graph, rows: array[int], program: FileName | None) -> Any:

@@ -1,8 +1,8 @@
 -- Serves KeptGames.antt.
 -- Where the play of a pile ends, and drops on it.
 use Rattle.std.proofs.Common.{◌≡◌, ℕ, ◌+◌, ◌-◌, ◌<◌, ◌≤◌, ◌^◌, Bool, true, false, not, ◌&&◌, eqb, leb, cond, List, [], ◌∷◌, ◌++◌}
-use Rattle.std.proofs.Common.{length, map, take, drop, set, sum, sum_by, slice_index, Option, Some, None, Result, Ok, Err}
-use Rattle.std.proofs.Common.{inl, inr, refl, sym, ap, ◌∙◌, subst, arith, true≢false}
+use Rattle.std.proofs.Common.{length, map, take, drop, set, sum, slice_index, Option, Some, None, Ok, Err}
+use Rattle.std.proofs.Common.{inl, inr, refl, sym, ◌∙◌, subst, arith, true≢false}
 use Rattle.std.proofs.lemmas.Bool.Decides.{nat_tests}
 use Rattle.std.proofs.lemmas.List.{map-append, append_assoc, append-nil, length-map, length_push}
 use Rattle.std.proofs.lemmas.List.{take_all, drop_all, set_at}
@@ -32,10 +32,10 @@ use Rattle.chip_fire.specs.declared.avalanche.Avalanche.{Avalanche}
 use Rattle.chip_fire.specs.Avalanches.{dropped, IsAvalanche, AreAvalanches}
 use Rattle.chip_library.specs.declared.fault.CallFault.{CallFault}
 use Rattle.chip_library.specs.declared.fault.CallFault.TheVariants.{Stopped}
-use Rattle.chip_library.specs.declared.kept.PileState.TheVariants.{ToPlay, Stable, Halted}
-use Rattle.chip_library.specs.Drops.{Told, drops_of, AreOn, AreRows, BeginsPile, CanFall, Leaves}
-use Rattle.chip_library.specs.KeptGames.{KeptGame, IsKept, BeginsGame, IsPlayedOut, Plays, AreDropped, Drops, DropsOnStable}
-use Rattle.chip_library.specs.KeptGames.{Rows, with_first, MakesEach, DropsEach, GoesOn, PlaysSome}
+use Rattle.chip_library.specs.declared.kept.PileState.TheVariants.{ToPlay, Stable}
+use Rattle.chip_library.specs.Drops.{Told, drops_of, AreOn, BeginsPile, CanFall, Leaves}
+use Rattle.chip_library.specs.KeptGames.{KeptGame, IsKept, BeginsGame, IsPlayedOut, Plays, Drops, DropsOnStable}
+use Rattle.chip_library.specs.KeptGames.{with_first, GoesOn, PlaysSome}
 use Rattle.chip_library.specs.KeptGames.{PilesAreOutcomes, DropsFollow, MoreDrops}
 use Rattle.chip_library.proofs.DropLemmas.{made_all, leaves_none, leaves_more, all_more}
 
@@ -151,7 +151,7 @@ whole_play old new false plays = plays
 -- ---- one call after another
 
 -- a pile that was played out stays as it was when it is played again
-played_once : (old played new : KeptGame) → Plays old played (Ok tt) → IsPlayedOut played new → IsPlayedOut old new
+pub played_once : (old played new : KeptGame) → Plays old played (Ok tt) → IsPlayedOut played new → IsPlayedOut old new
 played_once old played new first again =
     let stable = first.1 in
     let over : played.state ≡ ToPlay → ⊥ = (λ is. cc) in record {
@@ -229,26 +229,3 @@ pub first_all : (number : Told → ℕ) (told : List Told) (column : List ℕ) �
     → map number told ≡ with_first number told column
 first_all number told column long =
     let none = drop_all (length told) column (omega arith) in rw (none, append-nil) refl
-
--- drops that were made one after another on a pile that was played out
-pub dropped_more : (old : KeptGame) → Plays old old (Ok tt) → (told : List Told) (k : KeptGame) → k.state ≡ Stable
-    → Leaves old.pile told k.pile → AreDropped old k told
-dropped_more old plays told k stable leaves = (old, plays, stable, leaves)
-
--- drops on a pile that was played out are those on the pile before
-pub dropped_played : (old played new : KeptGame) (told : List Told) → Plays old played (Ok tt) → AreDropped played new told
-    → AreDropped old new told
-dropped_played old played new told first (end, again, stable, leaves) =
-    (end, (played_once old played end first again.0, again.1), stable, leaves)
-
--- drops that can fall on a pile that was played out are those on the pile before
-pub each_played : (old played new : KeptGame) (at amounts : List ℕ) (before after : Rows)
-    → AreRows at amounts before.sizes before.extents before.losts → CanFall old.pile.game at amounts (length at)
-    → Plays old played (Ok tt) → (told : Result (Unit {0}) CallFault)
-    → MakesEach played new at amounts before after told → DropsEach old new at amounts before after told
-each_played old played new at amounts before after rows can first (Ok done) (told, on, written, made) =
-    (rows, told, on, written, dropped_played old played new told first made)
-each_played old played new at amounts before after rows can first (Err fault)
-    (i, is, (told, k, made, long, inside, on, written, stopped)) =
-    subst (λ (f : CallFault). DropsEach old new at amounts before after (Err f)) (sym is)
-    (rows, can, inr (told, k, dropped_played old played k told first made, long, inside, on, written, stopped))

@@ -129,14 +129,6 @@ StopsAt old new at amounts before after i =
     × AreOn told (take i at) (take i amounts) × (after ≡ with_rows told before)
     × DropsOnStable k new (slice_index at i) (slice_index amounts i) None
 
--- what drops that can fall return on a stable pile: all are made, or the limit stops one
-abbrev pub MakesEach : (old new : KeptGame) → (at amounts : List ℕ) → (before after : Rows)
-    → Result (Unit {0}) CallFault → Type 0
-MakesEach old new at amounts before after (Ok done) = (told : List Told) × AreOn told at amounts
-    × AreTold told after.sizes after.extents after.losts × AreDropped old new told
-MakesEach old new at amounts before after (Err fault) =
-    (i : ℕ) × (fault ≡ Stopped i) × StopsAt old new at amounts before after i
-
 -- the limit has stopped the play before the drops, and nothing was dropped; or that of one of them
 abbrev pub StopsDrops : (old new : KeptGame) → (at amounts : List ℕ) → (before after : Rows) → ℕ → Type 0
 StopsDrops old new at amounts before after i =

@@ -7,4 +7,5 @@ pub mod PartBooks
 pub mod Sums
 pub mod Worked
 pub mod KeptGames
+pub mod Measures
 pub mod GroupCalls

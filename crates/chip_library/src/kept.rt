@@ -5,15 +5,17 @@ ghost use Rattle.chip_graph.specs.Limits.{max_total};
 ghost use Rattle.chip_graph.specs.ChipGame.{IsGame};
 ghost use Rattle.chip_sequence.specs.Counted.{game_from};
 ghost use Rattle.chip_library.specs.CallFaults.{IsFaultOfGame};
-ghost use Rattle.chip_library.specs.Drops.{AreRows, CanFall, IsFaultOfColumns};
-ghost use Rattle.chip_library.specs.KeptGames.{BeginsGame, MakesPile, PutsChips, Plays, PlaysSome, Drops, DropsOnStable};
-ghost use Rattle.chip_library.specs.KeptGames.{MakesEach, DropsEach, bytes_on};
+ghost use Rattle.chip_fire.specs.Measured.{row_vertices, row_times};
+ghost use Rattle.chip_library.specs.Drops.{CanFall, IsFaultOfColumns};
+ghost use Rattle.chip_library.specs.KeptGames.{BeginsGame, MakesPile, PutsChips, Plays, PlaysSome, Drops};
+ghost use Rattle.chip_library.specs.KeptGames.{DropsEach, bytes_on};
+ghost use Rattle.chip_library.specs.Measures.{MeasuresOnStable, MeasuresEach};
 
-use crate::drops::are_rows;
 use crate::edges::EdgeLists;
 use crate::fault::CallFault;
 use crate::game::game_of;
-use chip_fire::{Avalanche, Pile};
+use crate::measures::{are_measures, make_each};
+use chip_fire::{Avalanche, Measured, Pile};
 use chip_graph::{Game, GameFault, Graph, MAX_LIMIT, MAX_TOTAL, total_of};
 use core::mem::replace_with;
 use std::alloc::Global;
@@ -164,24 +166,33 @@ impl KeptPile {
         if let Err(fault) = played {
             return (kept, Err(fault));
         }
-        let (kept, avalanche) = kept.drop_on_stable(alloc, vertex, count);
-        (kept, avalanche.ok_or(CallFault::Stopped(0)))
+        let (kept, measured) = kept.measure_on_stable(alloc, vertex, count, false);
+        match measured {
+            Some(measured) => (kept, Ok(measured.avalanche)),
+            None => (kept, Err(CallFault::Stopped(0))),
+        }
     }
 
-    /// Drops chips on a pile that is stable, and plays on to the end: the avalanche, or `None` if the limit has stopped
-    /// it.
-    fn drop_on_stable(self, alloc: Global, vertex: u64, count: u64) -> (KeptPile, Option<Avalanche>)
+    /// Drops chips on a pile that is stable, and plays on to the end: what is measured (`Pile::drop_measured`), or `None`
+    /// if the limit has stopped it.
+    pub(crate) fn measure_on_stable(
+        self,
+        alloc: Global,
+        vertex: u64,
+        count: u64,
+        timed: bool,
+    ) -> (KeptPile, Option<Measured>)
         requires stable { self.state ≡ PileState.Stable }
         requires is_vertex { vertex < self.pile.game.graph.vertices }
         requires few_chips { sum self.pile.game.start + count ≤ max_total }
-        ensures { DropsOnStable self result.0 vertex count result.1 }
+        ensures { MeasuresOnStable self result.0 vertex count timed result.1 }
     {
         let KeptPile { pile, .. } = self;
-        let (pile, avalanche) = pile.drop_chips(alloc, vertex, count);
-        match avalanche {
-            Some(avalanche) => {
+        let (pile, measured) = pile.drop_measured(alloc, vertex, count, timed);
+        match measured {
+            Some(measured) => {
                 let state = PileState::Stable;
-                (KeptPile { pile, state }, Some(avalanche))
+                (KeptPile { pile, state }, Some(measured))
             }
             None => {
                 let state = PileState::Halted;
@@ -208,21 +219,94 @@ impl KeptPile {
             (record { sizes = sizes.old; extents = extents.old; losts = losts.old })
             (record { sizes = sizes.new; extents = extents.new; losts = losts.new }) result }
     {
-        if !are_rows(at, amounts, sizes, extents, losts) {
+        let told = self.measure_each(
+            alloc,
+            at,
+            amounts,
+            sizes,
+            extents,
+            losts,
+            &mut [],
+            &mut [],
+            &mut [],
+            &mut [],
+        );
+        match told {
+            Ok(_) => Ok(()),
+            Err(fault) => Err(fault),
+        }
+    }
+
+    /// `drop_each`, which tells more of the drops in slices that the caller may leave empty: how many drops were made.
+    ///
+    /// `durations` gets for how many rounds each avalanche lasts, in each of which each legal vertex fires once.
+    /// `vertices` gets which vertices the drops fired and `times` how often each, those of one drop after those of
+    /// another, and `ends` where those of each drop end. It stops before a drop if there is less room left for these than
+    /// the graph has vertices.
+    pub fn measure_each(
+        &mut self,
+        alloc: Global,
+        at: &[u64],
+        amounts: &[u64],
+        sizes: &mut [u64],
+        extents: &mut [u64],
+        losts: &mut [u64],
+        durations: &mut [u64],
+        ends: &mut [u64],
+        vertices: &mut [u64],
+        times: &mut [u64],
+    ) -> Result<u64, CallFault>
+        ensures { MeasuresEach self.old self.new at.now amounts.now
+            (record {
+              rows = record { sizes = sizes.old; extents = extents.old; losts = losts.old };
+              durations = durations.old;
+              ends = ends.old;
+              vertices = vertices.old;
+              times = times.old;
+            })
+            (record {
+              rows = record { sizes = sizes.new; extents = extents.new; losts = losts.new };
+              durations = durations.new;
+              ends = ends.new;
+              vertices = vertices.new;
+              times = times.new;
+            }) result }
+    {
+        if !are_measures(
+            at, amounts, sizes, extents, losts, durations, ends, vertices, times,
+        ) {
             return Err(CallFault::Lengths);
         }
         if let Some(fault) = fault_of_columns(self.game(), at, amounts) {
             return Err(fault);
         }
         replace_with(self, alloc, KeptPile::play)?;
-        make_each(alloc, self, at, amounts, sizes, extents, losts)
+        make_each(
+            alloc, self, at, amounts, sizes, extents, losts, durations, ends, vertices, times,
+        )
     }
 
     /// The game, with all chips at its start that were dropped.
-    fn game(&self) -> &Game
+    pub(crate) fn game(&self) -> &Game
         ensures { result.now ≡ self.now.pile.game }
     {
         self.pile.game()
+    }
+
+    /// The vertices that fired in the last drop (`Pile::row_vertices`).
+    pub(crate) fn row_vertices(&self) -> &[u64]
+        requires { self.now.state ≡ PileState.Stable }
+        ensures { result.now ≡ row_vertices self.now.pile }
+    {
+        self.pile.row_vertices()
+    }
+
+    /// How often each of them fired in it.
+    pub(crate) fn row_times(&self) -> &[u64]
+        requires { self.now.state ≡ PileState.Stable }
+        ensures { result.now ≡ row_times self.now.pile }
+    {
+        self.pile.row_times()
     }
 
     /// How many chips each vertex has.
@@ -246,46 +330,6 @@ impl KeptPile {
         let graph = self.pile.game().graph();
         VERTEX_BYTES * graph.vertices() + EDGE_BYTES * graph.edges().len() as u64
     }
-}
-
-/// Makes drops that can fall on a stable pile, one after another, until the limit stops one.
-fn make_each(
-    alloc: Global,
-    kept: &mut KeptPile,
-    at: &[u64],
-    amounts: &[u64],
-    sizes: &mut [u64],
-    extents: &mut [u64],
-    losts: &mut [u64],
-) -> Result<(), CallFault>
-    requires played { Plays kept.old kept.old (Ok tt) }
-    requires rows { AreRows at.now amounts.now sizes.old extents.old losts.old }
-    requires can_fall { CanFall kept.old.pile.game at.now amounts.now (length at.now) }
-    ensures { MakesEach kept.old kept.new at.now amounts.now
-        (record { sizes = sizes.old; extents = extents.old; losts = losts.old })
-        (record { sizes = sizes.new; extents = extents.new; losts = losts.new }) result }
-{
-    for drop in 0..at.len() {
-        let falls = (alloc, at[drop], amounts[drop]);
-        let Some(avalanche) = replace_with(kept, falls, one_drop) else {
-            return Err(CallFault::Stopped(drop as u64));
-        };
-        sizes[drop] = avalanche.size;
-        extents[drop] = avalanche.extent;
-        losts[drop] = avalanche.lost;
-    }
-    Ok(())
-}
-
-/// A stable pile with one drop more.
-fn one_drop(kept: KeptPile, falls: (Global, u64, u64)) -> (KeptPile, Option<Avalanche>)
-    requires stable { kept.state ≡ PileState.Stable }
-    requires is_vertex { falls.1 < kept.pile.game.graph.vertices }
-    requires few_chips { sum kept.pile.game.start + falls.2 ≤ max_total }
-    ensures { DropsOnStable kept result.0 falls.1 falls.2 result.1 }
-{
-    let (alloc, vertex, count) = falls;
-    kept.drop_on_stable(alloc, vertex, count)
 }
 
 /// A copy of chips with which a game on this graph begins, or the first reason why none does.

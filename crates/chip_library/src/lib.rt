@@ -21,6 +21,7 @@ mod game;
 mod group;
 mod kept;
 pub mod laws;
+mod measures;
 mod stabilize;
 pub mod sums;
 

@@ -259,3 +259,66 @@ fn many_drops_on_a_pile(rt: HostRuntime) {
     );
     assert!(&rt; told == Err(CallFault::Vertex(1)) && has(&kept, &[3, 1, 4], &[2, 1, 0]));
 }
+
+/// The triangle fires 0, 1 after the first drop, nothing after the second, and 0 twice and both together after the third.
+#[test]
+fn measures_of_drops(rt: HostRuntime) {
+    let lists = TRIANGLE.edges();
+    let mut kept = KeptPile::new(rt.alloc(), lists, LARGEST, &[1, 1, 0]).expect(&rt, "a pile");
+    let (mut sizes, mut extents, mut losts) = ([7; 3], [7; 3], [7; 3]);
+    let (mut durations, mut ends) = ([7; 3], [7; 3]);
+    let (mut vertices, mut times) = ([7; 7], [7; 7]);
+    let told = kept.measure_each(
+        rt.alloc(),
+        &[0, 2, 0],
+        &[1, 1, 5],
+        &mut sizes,
+        &mut extents,
+        &mut losts,
+        &mut durations,
+        &mut ends,
+        &mut vertices,
+        &mut times,
+    );
+    assert!(&rt; told == Ok(3) && has(&kept, &[1, 1, 7], &[4, 2, 0]));
+    assert!(&rt; sizes == [2, 0, 4] && extents == [2, 0, 2] && losts == [2, 0, 4]);
+    assert!(&rt; durations == [2, 0, 3] && ends == [2, 2, 4]);
+    assert!(&rt; vertices == [0, 1, 0, 1, 7, 7, 7] && times == [1, 1, 3, 1, 7, 7, 7]);
+}
+
+/// Behind what the first drop fires there is no room for three vertices once more; and the limit stops a drop.
+#[test]
+fn no_room_for_a_drop(rt: HostRuntime) {
+    let lists = TRIANGLE.edges();
+    let mut kept = KeptPile::new(rt.alloc(), lists, 3, &[1, 1, 0]).expect(&rt, "a pile");
+    let (mut sizes, mut extents, mut losts) = ([7; 2], [7; 2], [7; 2]);
+    let (mut ends, mut vertices, mut times) = ([7; 2], [7; 4], [7; 4]);
+    let told = kept.measure_each(
+        rt.alloc(),
+        &[0, 0],
+        &[1, 5],
+        &mut sizes,
+        &mut extents,
+        &mut losts,
+        &mut [],
+        &mut ends,
+        &mut vertices,
+        &mut times,
+    );
+    assert!(&rt; told == Ok(1) && has(&kept, &[1, 0, 2], &[1, 1, 0]));
+    assert!(&rt; sizes == [2, 7] && ends == [2, 7] && vertices == [0, 1, 7, 7]);
+    let mut durations = [7; 2];
+    let told = kept.measure_each(
+        rt.alloc(),
+        &[2, 0],
+        &[1, 5],
+        &mut sizes,
+        &mut extents,
+        &mut losts,
+        &mut durations,
+        &mut [],
+        &mut [],
+        &mut [],
+    );
+    assert!(&rt; told == Err(CallFault::Stopped(1)) && durations == [0, 7] && sizes == [0, 7]);
+}

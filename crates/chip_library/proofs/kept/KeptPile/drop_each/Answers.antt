@@ -1,14 +1,44 @@
-use Rattle.std.proofs.Common.{rules, length}
-use Rattle.std.proofs.lemmas.Option.{MatchOption-at_none}
-use Rattle.chip_library.specs.Drops.{AreRows, CanFall}
-use Rattle.chip_library.proofs.KeptLemmas.{each_played}
+use Rattle.std.proofs.Common.{[], refl}
+use Rattle.chip_library.specs.Measures.{Measures}
+use Rattle.chip_library.proofs.MeasuresLemmas.{drops_ok, drops_err}
 use Rattle.chip_library.proofs.kept.KeptPile.drop_each.Goals as goal
 
-pub returns : goal.returns
-returns c =
-    let rows : AreRows c.args.at.now c.args.amounts.now c.args.sizes.now c.args.extents.now c.args.losts.now = search rules in
-    let can : CanFall c.args.self.now.pile.game c.args.at.now c.args.amounts.now (length c.args.at.now) =
-    rw c.game.ensures at (MatchOption-at_none _ _ c.in_default.is c.fault_of_columns.ensures.first) in
-    let plays = rw c.in_ok-replace_with.was at c.replace_with.ensures in
-    each_played c.args.self.now c.replace_with.new.dest c.make_each.new.kept _ _ _ _ rows can plays c.make_each.result
-    c.make_each.ensures
+pub returns-in-Ok : goal.returns-in-Ok
+returns-in-Ok c =
+    let before : Measures = record {
+      rows = record { sizes = c.args.sizes.now; extents = c.args.extents.now; losts = c.args.losts.now };
+      durations = [];
+      ends = [];
+      vertices = [];
+      times = [];
+    } in
+    let new = c.measure_each-told.new in
+    let after : Measures = record {
+      rows = record { sizes = new.sizes; extents = new.extents; losts = new.losts };
+      durations = new.durations;
+      ends = new.ends;
+      vertices = new.vertices;
+      times = new.times;
+    } in
+    drops_ok c.args.self.now new.self c.args.at.now c.args.amounts.now before after
+    (record { durations = refl; ends = refl; vertices = refl; times = refl }) _ _ c.in-Ok.is c.measure_each-told.ensures
+
+pub returns-in-Err : goal.returns-in-Err
+returns-in-Err c =
+    let before : Measures = record {
+      rows = record { sizes = c.args.sizes.now; extents = c.args.extents.now; losts = c.args.losts.now };
+      durations = [];
+      ends = [];
+      vertices = [];
+      times = [];
+    } in
+    let new = c.measure_each-told.new in
+    let after : Measures = record {
+      rows = record { sizes = new.sizes; extents = new.extents; losts = new.losts };
+      durations = new.durations;
+      ends = new.ends;
+      vertices = new.vertices;
+      times = new.times;
+    } in
+    drops_err c.args.self.now new.self c.args.at.now c.args.amounts.now before after
+    (record { durations = refl; ends = refl; vertices = refl; times = refl }) _ _ c.in-Err.is c.measure_each-told.ensures

@@ -254,6 +254,7 @@ uint64_t chipfire_random_recurrent(uint64_t vertices, uint64_t sink,
  *     chipfire_pile_play(&pile, ..);          plays it, in portions if you like; else the first drop does
  *     chipfire_pile_drop(&pile, ..);          as often as you like; or many at a time:
  *     chipfire_pile_drops(&pile, ..);
+ *     chipfire_pile_measure(&pile, ..);       the same, and what fired
  *     chipfire_pile_free(&pile);              no pile any more
  *
  * The most chips, 2^40, those on the sink too, and the limit are for the game and all its drops together, from
@@ -316,6 +317,35 @@ uint64_t chipfire_pile_drops(struct chipfire_pile *pile,
                              uint64_t *extents, size_t extents_len,
                              uint64_t *losts, size_t losts_len,
                              uint64_t *place);
+
+/* chipfire_pile_drops, which tells more of each drop in four slices. Of what is not asked for they have length 0.
+ *
+ * durations  one number for each drop, or none: gets for how many rounds it lasts, in each of which each legal vertex
+ *            fires once; 0 if nothing fires
+ * ends       one number for each drop, or none: gets where the vertices that it fires end in the next slice. Those of the
+ *            first drop begin at 0
+ * vertices   gets the vertices that fire, each once in a drop, in any order; length 0 without ends
+ * times      as many numbers as vertices: gets how often each of them fires in the drop
+ *
+ * With ends it stops before a drop where vertices has fewer numbers left than the graph has vertices. So a call makes a
+ * drop at least, if there were as many at first.
+ *
+ * On success *place is how many drops were made: all, or those before the one without room, which is still to be made. The
+ * pile is as they have left it. Faults are those of chipfire_pile_drops. What is of no drop that was made stays as it was.
+ *
+ * Durations make a play in rounds, which fires a vertex with many chips one time after another. They change nothing else
+ * but the order of vertices. */
+uint64_t chipfire_pile_measure(struct chipfire_pile *pile,
+                               const uint64_t *at, size_t at_len,
+                               const uint64_t *amounts, size_t amounts_len,
+                               uint64_t *sizes, size_t sizes_len,
+                               uint64_t *extents, size_t extents_len,
+                               uint64_t *losts, size_t losts_len,
+                               uint64_t *durations, size_t durations_len,
+                               uint64_t *ends, size_t ends_len,
+                               uint64_t *vertices, size_t vertices_len,
+                               uint64_t *times, size_t times_len,
+                               uint64_t *place);
 
 /* Copies the chips of each vertex: before the first play those that were put there. */
 uint64_t chipfire_pile_chips(struct chipfire_pile *pile, uint64_t *chips, size_t chips_len);

@@ -190,6 +190,14 @@ struct Drop {
     std::uint64_t size, extent, lost;
 };
 
+/// Drops with what else is measured of them: for how many rounds each lasts, and the vertices that it fires with how often
+/// each, which end at its number in `ends` and begin where those of the drop before end. What is not asked for is empty.
+struct Measures : Drops {
+    explicit Measures(std::size_t count) : Drops(count) {}
+
+    std::vector<std::uint64_t> durations, ends, vertices, times;
+};
+
 /// The least burning script, and how many chips it takes from each vertex on balance.
 struct Burning {
     std::vector<std::uint64_t> script, chips;
@@ -357,6 +365,20 @@ public:
         return set_off;
     }
 
+    /// Drops that are measured: what they fire, and if it is asked for, for how many rounds (chipfire_pile_measure).
+    Measures measure(Numbers at, Numbers amounts, bool timed = false)
+    {
+        Measures found(at.size());
+        found.durations.resize(timed ? at.size() : 0);
+        found.ends.resize(at.size());
+        if (amounts.size() != at.size()) throw Error(CHIPFIRE_FAULT_LENGTHS, 0);
+        std::size_t made = 0;
+        do {
+            made = measure_more(at, amounts, made, found);
+        } while (made < at.size());
+        return found;
+    }
+
     /// The chips of each vertex.
     std::vector<std::uint64_t> chips()
     {
@@ -377,6 +399,31 @@ public:
     std::uint64_t size() { return chipfire_pile_size(its()); }
 
 private:
+    /// Makes the drops from number `made` on that there is room for: how many are made then.
+    std::size_t measure_more(Numbers at, Numbers amounts, std::size_t made, Measures &found)
+    {
+        const std::size_t before = found.vertices.size(), room = before + std::max(vertices_, before);
+        const std::size_t left = at.size() - made, timed = found.durations.empty() ? 0 : left;
+        found.vertices.resize(room);
+        found.times.resize(room);
+        std::uint64_t place = 0;
+        const std::uint64_t fault = chipfire_pile_measure(
+            its(), at.data() + made, left, amounts.data() + made, left, found.sizes.data() + made, left,
+            found.extents.data() + made, left, found.losts.data() + made, left,
+            found.durations.data() + (timed == 0 ? 0 : made), timed, found.ends.data() + made, left,
+            found.vertices.data() + before, room - before, found.times.data() + before, room - before, &place);
+        if (fault != CHIPFIRE_FAULT_STOPPED) detail::must(fault, place);
+        const std::size_t all = made + static_cast<std::size_t>(place);
+        for (std::size_t drop = made; drop < all; drop++) found.ends[drop] += before;
+        if (fault == CHIPFIRE_FAULT_STOPPED) {
+            for (auto rows : {&found.sizes, &found.extents, &found.losts}) rows->resize(all);
+            throw Stopped(all, std::move(found));
+        }
+        found.vertices.resize(all == 0 ? 0 : static_cast<std::size_t>(found.ends[all - 1]));
+        found.times.resize(found.vertices.size());
+        return all;
+    }
+
     struct Free {
         void operator()(chipfire_pile *pile) const noexcept
         {

@@ -366,6 +366,31 @@ static void try_drops_on_piles(void)
     EXPECT(chipfire_pile_size(&kept) == 3 * 76 + 4 * 48);
 }
 
+/* From 1, 1 chips the first drop fires 0, 1; the second nothing; the third 0 twice, and then both together. Then there is no
+ * room for the second. */
+static void try_measures_on_piles(void)
+{
+    uint64_t sizes[3], extents[3], losts[3], durations[3], ends[3], vertices[7], times[7], place = GUARD;
+    const uint64_t at[3] = {0, 2, 0}, amounts[3] = {1, 1, 5};
+    for (int i = 0; i < 7; i++) vertices[i] = times[i] = GUARD;
+    EXPECT(chipfire_pile_put(&kept, UINT64_C(1) << 40, NUMBERS(1, 1, 0), N) == 0);
+    EXPECT(chipfire_pile_measure(&kept, at, 3, amounts, 3, sizes, 3, extents, 3, losts, 3, durations, 3, ends, 3, vertices, 7,
+                                 times, 7, &place) == 0 && place == 3);
+    EXPECT(are(sizes, 3, NUMBERS(2, 0, 4)) && are(extents, 3, NUMBERS(2, 0, 2)) && are(losts, 3, NUMBERS(2, 0, 4)));
+    EXPECT(are(durations, 3, NUMBERS(2, 0, 3)) && are(ends, 3, NUMBERS(2, 2, 4)));
+    EXPECT(are(vertices, 7, NUMBERS(0, 1, 0, 1, GUARD, GUARD, GUARD)));
+    EXPECT(are(times, 7, NUMBERS(1, 1, 3, 1, GUARD, GUARD, GUARD)));
+    EXPECT_PILE(&kept, NUMBERS(1, 1, 7), NUMBERS(4, 2, 0));
+    EXPECT(chipfire_pile_measure(&kept, at, 3, amounts, 3, sizes, 3, extents, 3, losts, 3, NULL, 0, ends, 3, vertices, 4, times,
+                                 4, &place) == 0 && place == 1);
+    EXPECT_PILE(&kept, NUMBERS(1, 0, 9), NUMBERS(5, 3, 0));
+    EXPECT(chipfire_pile_measure(&kept, at, 3, amounts, 3, sizes, 3, extents, 3, losts, 3, NULL, 0, ends, 3, vertices, 4, times,
+                                 3, &place) == 12 && place == 0);
+    EXPECT(chipfire_pile_put(&kept, UINT64_C(1) << 40, NUMBERS(4, 0, 0), N) == 0);
+    EXPECT(chipfire_pile_measure(&kept, NULL, 0, NULL, 0, NULL, 0, NULL, 0, NULL, 0, NULL, 0, NULL, 0, NULL, 0, NULL, 0,
+                                 &place) == 0 && place == 0);
+}
+
 /* Faults leave the pile as it was. */
 static void try_faults_of_piles(void)
 {
@@ -580,6 +605,7 @@ int main(void)
     try_piles();
     try_plays_of_piles();
     try_drops_on_piles();
+    try_measures_on_piles();
     try_faults_of_piles();
     try_stopped_piles();
     try_claims();

@@ -93,6 +93,13 @@ static void play_drops()
         EXPECT((stopped.place() == 2 && stopped.made().sizes == Row{1, 0} && stopped.made().losts == Row{1, 0}));
     }
     EXPECT(fault_of([&] { chipfire::Pile(graph, {1}); }) == at(CHIPFIRE_FAULT_START_LENGTH, 0));
+    pile.put({1, 1, 0});
+    const auto found = pile.measure({0, 2, 0, 2, 2}, {1, 1, 5, 0, 0}, true);
+    EXPECT((found.sizes == Row{2, 0, 4, 0, 0} && found.durations == Row{2, 0, 3, 0, 0}));
+    EXPECT((found.ends == Row{2, 2, 4, 4, 4} && found.vertices == Row{0, 1, 0, 1} && found.times == Row{1, 1, 3, 1}));
+    EXPECT((pile.measure({0}, {0}).durations.empty() && pile.measure({}, {}).ends.empty()));
+    EXPECT(fault_of([&] { pile.measure({0, 3}, {1, 1}); }) == at(CHIPFIRE_FAULT_VERTEX, 1));
+    EXPECT(fault_of([&] { pile.measure({0, 1}, {1}); }) == at(CHIPFIRE_FAULT_LENGTHS, 0));
 }
 
 /// The sandpile group of the triangle has 3 elements, and its identity is 1, 1: twice that is 2, 2, which fires 0 and 1.

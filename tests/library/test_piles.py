@@ -69,6 +69,17 @@ class Pile:
         status = LIBRARY.chipfire_pile_drops(self.at, *words, place.words()[0])
         return status, place.now()[0], list(zip(*(it.now() for it in rows)))
 
+    def measure(self, drops, timed=False, room=None):
+        """Returns the status, the place, and what is written: all rows, durations, ends, and what fired; room is for so many
+        vertices, and None if that is not asked."""
+        columns = [Slice(it) for it in zip(*drops)] if drops else [Slice([]), Slice([])]
+        many = [len(drops)] * 3 + [len(drops) * timed, 0 if room is None else len(drops)] + 2 * [room or 0]
+        written, place = [Slice([GUARD] * it) for it in many], Slice([7])
+        words = [word for it in (*columns, *written) for word in it.words()]
+        status = LIBRARY.chipfire_pile_measure(self.at, *words, place.words()[0])
+        rows, others = [it.now() for it in written[:3]], [it.now() for it in written[3:]]
+        return status, place.now()[0], list(zip(*rows)), *others
+
     def size(self):
         return LIBRARY.chipfire_pile_size(self.at)
 
@@ -88,6 +99,19 @@ class Pile:
     def answer(self, status, written, before):
         assert status == 0 or written == before, "a fault that has written"
         return (0, written) if status == 0 else (status, None)
+
+
+def rounds(graph, chips):
+    """Fires each legal vertex once, all together, until none is legal: how often."""
+    chips, count = list(chips), 0
+    degree = [sum(mult for tail, _, mult in graph.edges if tail == v) for v in range(graph.vertices)]
+    while legal := {v for v in range(graph.vertices) if v != graph.sink and chips[v] >= degree[v]}:
+        for tail, head, mult in graph.edges:
+            if tail in legal:
+                chips[tail] -= mult
+                chips[head] += mult
+        count += 1
+    return count
 
 
 class Piles(unittest.TestCase):
@@ -127,6 +151,39 @@ class Piles(unittest.TestCase):
         unwritten = [(GUARD,) * 3] * (len(drops) - len(rows))
         wanted = (13, len(rows), rows + unwritten) if stopped else (0, 0, rows)
         self.assertEqual(pile.drops(drops), wanted)
+        self.assertEqual(pile.now(), [chips, fired])
+
+    def expect_measures(self, pile, chips, drops, limit, timed=False, room=None):
+        """Looks that drops on a pile that was just begun are measured as firing one by one, and round by round, does it."""
+        graph = pile.graph
+        chips, fired, stopped, _ = stepped(graph, chips, limit)
+        rows, lengths, ends, where, times = [], [], [], [], []
+        for vertex, amount in drops:
+            if stopped or room is not None and room - len(where) < graph.vertices:
+                break
+            chips[vertex] += amount
+            lasts = rounds(graph, chips) if timed else 0
+            chips, after, stopped, lost = stepped(graph, chips, limit, fired)
+            many, fired = [now - then for now, then in zip(after, fired)], after
+            if not stopped:
+                rows.append((sum(many), sum(map(bool, many)), lost))
+                lengths.append(lasts)
+                where += [v for v, count in enumerate(many) if count]
+                times += filter(None, many)
+                ends.append(len(where))
+        status, place, *told, ends_told, where_told, times_told = pile.measure(drops, timed, room)
+        self.assertEqual((status, place), (13 if stopped else 0, len(rows)))
+        left = len(drops) - len(rows)
+        self.assertEqual(told, [rows + [(GUARD,) * 3] * left, (lengths + [GUARD] * left) * timed])
+        if room is None:
+            self.assertEqual((ends_told, where_told, times_told), ([], [], []))
+        else:
+            pairs = [*zip(where_told, times_told)]
+            begins = [0, *ends]
+            # (in a drop vertices stand in any order)
+            pairs = [it for begin, end in zip(begins, ends) for it in sorted(pairs[begin:end])] + pairs[begins[-1]:]
+            self.assertEqual(ends_told, ends + [GUARD] * left)
+            self.assertEqual(pairs, [*zip(where, times)] + [(GUARD, GUARD)] * (room - len(where)))
         self.assertEqual(pile.now(), [chips, fired])
 
     def expect_portions(self, pile, visits, ends, stopped):
@@ -169,6 +226,50 @@ class Small(Piles):
                     self.expect_drops(pile, list(chips), drops, limit)
                     self.assertEqual(pile.put(chips, limit), 0)
                     self.expect_one_call(pile, list(chips), drops, limit)
+
+    def test_all_measures_of_pairs_of_drops_on_the_triangle(self):
+        pile = self.pile(TRIANGLE)
+        pile.new([0, 0, 0])
+        asked = itertools.cycle([(False, 9), (True, None), (True, 4), (True, 9), (False, 2), (False, None), (True, 5)])
+        for limit in (0, 1, 3, LARGEST):
+            for chips in itertools.product(range(3), range(3), range(2)):
+                for drops in itertools.product(itertools.product(range(3), (0, 1, 2, 5)), repeat=2):
+                    self.assertEqual(pile.put(chips, limit), 0)
+                    self.expect_measures(pile, list(chips), drops, limit, *next(asked))
+
+    def test_measures_of_drops_on_a_grid_and_on_drawn_graphs(self):
+        draw = random.Random(20)
+        graphs = [grid(3), *(drawn(draw) for _ in range(60))]
+        for graph in graphs:
+            pile = self.pile(graph)
+            chips = [draw.randrange(4) for _ in range(graph.vertices)]
+            drops = [(draw.randrange(graph.vertices), draw.randrange(9)) for _ in range(20)]
+            for timed, room in itertools.product((False, True), (None, graph.vertices, 3 * graph.vertices, 1000)):
+                for limit in (LARGEST, draw.randrange(20)):
+                    self.assertEqual(pile.new(chips, limit), (0, 0))
+                    self.expect_measures(pile, chips, drops, limit, timed, room)
+
+    def test_what_is_no_measure(self):
+        pile = self.pile(TRIANGLE)
+        pile.new([1, 1, 0])
+        drops = [(0, 1), (1, 1)]
+        lengths = [2, 2, 2, 2, 2, 2, 2, 9, 9]
+        wrong = [{1: 1}, {2: 3}, {3: 1}, {4: 0}, {5: 1}, {5: 3}, {6: 1}, {6: 0}, {6: 0, 7: 0}, {7: 8}, {8: 10}]
+        for changes in wrong:
+            slices = [Slice(([0, 1], [1, 1])[it] * 2 if it < 2 else [GUARD] * 9) for it in range(9)]
+            before = [it.now() for it in slices]
+            place = Slice([7])
+            words = [w for it, s in enumerate(slices) for w in (s.words()[0], changes.get(it, lengths[it]))]
+            status = LIBRARY.chipfire_pile_measure(pile.at, *words, place.words()[0])
+            self.assertEqual((status, place.now(), [it.now() for it in slices]), (12, [0], before), changes)
+            self.assertEqual(pile.now(), [[1, 1, 0], [0, 0, 0]])
+        for drops, fault, place in ([(2, 0), (3, 1)], 26, 1), ([(2, LARGEST - 2), (0, 1)], 10, 1):
+            told = pile.measure(drops, True, 9)
+            self.assertEqual(told, (fault, place, [(GUARD,) * 3] * 2, [GUARD] * 2, [GUARD] * 2, [GUARD] * 9, [GUARD] * 9))
+            self.assertEqual(pile.now(), [[1, 1, 0], [0, 0, 0]])
+        self.assertEqual(pile.measure([], True, 9), (0, 0, [], [], [], [GUARD] * 9, [GUARD] * 9))
+        pile.free()
+        self.assertEqual(pile.measure([(9, 1)], True, 3), (14, 0, [(GUARD,) * 3], [GUARD], [GUARD], [GUARD] * 3, [GUARD] * 3))
 
     def test_all_plays_on_the_triangle_in_portions(self):
         pile = self.pile(TRIANGLE)

@@ -2,7 +2,7 @@
 use Rattle.std.specs.Prelude.{◌≡◌, ℕ, Bool, true, false, Result, Ok, Err}
 use Rattle.chip_fire.specs.declared.avalanche.Avalanche.{Avalanche}
 use Rattle.chip_library.specs.declared.fault.CallFault.{CallFault}
-use Rattle.chip_library.specs.CallFaults.{call_fault_number}
+use Rattle.chip_library.specs.CallFaults.{call_fault_number, place_of}
 
 -- the number of a fault, or 0
 abbrev pub call_status_of : {T : Type 0} → Result T CallFault → ℕ
@@ -23,3 +23,12 @@ left_of (Err fault) old = old
 abbrev pub written_of : Result Avalanche CallFault → ℕ × ℕ × ℕ → ℕ × ℕ × ℕ
 written_of (Ok a) old = (a.size, a.extent, a.lost)
 written_of (Err fault) old = old
+
+-- the number of a fault and its place, or 0 and how many drops were made
+abbrev pub made_of : Result ℕ CallFault → ℕ × ℕ
+made_of (Ok made) = (0, made)
+made_of (Err fault) = (call_fault_number fault, place_of fault)
+
+-- the status and the place are those of a result of which the promise holds
+abbrev pub TellsMade : (status place : ℕ) → (Result ℕ CallFault → Type 0) → Type 0
+TellsMade status place promise = (told : Result ℕ CallFault) × promise told × ((status, place) ≡ made_of told)

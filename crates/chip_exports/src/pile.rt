@@ -4,13 +4,14 @@ ghost use Rattle.std.specs.Prelude.{◌≡◌, None, Bool};
 ghost use Rattle.chip_fire.specs.declared.avalanche.Avalanche.{Avalanche};
 ghost use Rattle.chip_library.specs.declared.fault.CallFault.{CallFault};
 ghost use Rattle.chip_library.specs.KeptGames.{PutsChips, PlaysSome, Drops};
-ghost use Rattle.chip_handle.specs.Handles.{MakesNew, OnPile, DropsOn, CopiesOf, chips_on, firings_on, bytes_held};
+ghost use Rattle.chip_handle.specs.Handles.{MakesNew, OnPile, DropsOn, MeasuresOn, CopiesOf, chips_on, firings_on, bytes_held};
 ghost use Rattle.chip_exports.specs.Answers.{Answers, answer_of};
-ghost use Rattle.chip_exports.specs.Piles.{CallStatus, call_status_of, left_of, written_of};
+ghost use Rattle.chip_exports.specs.Piles.{CallStatus, call_status_of, left_of, written_of, TellsMade};
 
 use crate::answer;
 use chip_handle::{
-    Handle, bytes_of, chips_of, drop_on, drops_on, fired_of, make, play_on, put, release,
+    Handle, bytes_of, chips_of, drop_on, drops_on, fired_of, make, measure_on, play_on, put,
+    release,
 };
 use chip_library::{CallFault, EdgeLists};
 use std::alloc::Global;
@@ -122,6 +123,53 @@ pub extern "C" fn chipfire_pile_drops(
 {
     let done = drops_on(alloc, pile, at, amounts, sizes, extents, losts);
     answer(done, place)
+}
+
+/// Drops chips on a pile, and measures what they set off (`chip_handle::measure_on`).
+#[unsafe(no_mangle)]
+pub extern "C" fn chipfire_pile_measure(
+    alloc: Global,
+    pile: &mut Handle,
+    at: &[u64],
+    amounts: &[u64],
+    sizes: &mut [u64],
+    extents: &mut [u64],
+    losts: &mut [u64],
+    durations: &mut [u64],
+    ends: &mut [u64],
+    vertices: &mut [u64],
+    times: &mut [u64],
+    place: &mut u64,
+) -> u64
+    ensures { TellsMade result place.new (MeasuresOn pile.old.raw.value pile.new.raw.value at.now amounts.now
+        (record {
+          rows = record { sizes = sizes.old; extents = extents.old; losts = losts.old };
+          durations = durations.old;
+          ends = ends.old;
+          vertices = vertices.old;
+          times = times.old;
+        })
+        (record {
+          rows = record { sizes = sizes.new; extents = extents.new; losts = losts.new };
+          durations = durations.new;
+          ends = ends.new;
+          vertices = vertices.new;
+          times = times.new;
+        })) }
+{
+    let made = measure_on(
+        alloc, pile, at, amounts, sizes, extents, losts, durations, ends, vertices, times,
+    );
+    match made {
+        Ok(made) => {
+            *place = made;
+            0
+        }
+        Err(fault) => {
+            *place = fault.place();
+            fault.number()
+        }
+    }
 }
 
 /// Copies the chips of a pile (`chip_handle::chips_of`).

@@ -4,6 +4,7 @@ use Rattle.chip_library.specs.declared.edges.EdgeLists.{EdgeLists}
 use Rattle.chip_library.specs.declared.fault.CallFault.{CallFault}
 use Rattle.chip_library.specs.declared.fault.CallFault.TheVariants.{Lengths, NoPile}
 use Rattle.chip_library.specs.KeptGames.{KeptGame, MakesPile, Rows, DropsEach, bytes_on}
+use Rattle.chip_library.specs.Measures.{Measures, MeasuresEach}
 
 -- 1 if there is a pile
 abbrev pub number_of_piles : Option KeptGame → ℕ
@@ -22,12 +23,23 @@ abbrev pub OnPile : {T : Type 0} → (KeptGame → KeptGame → Result T CallFau
 OnPile does None new told = (new ≡ None) × (told ≡ Err NoPile)
 OnPile does (Some k) new told = (k' : KeptGame) × (new ≡ Some k') × does k k' told
 
--- what many drops on a pile return: that there is none, and nothing is written; or what they do to the pile that is there
+-- what a call that writes returns: that there is no pile, and nothing is written; or what it does to the pile that is there
+abbrev pub WritesOn : {T W : Type 0} → ((old new : KeptGame) → (before after : W) → Result T CallFault → Type 0)
+    → (old new : Option KeptGame) → (before after : W) → Result T CallFault → Type 0
+WritesOn does None new before after told = (new ≡ None) × (after ≡ before) × (told ≡ Err NoPile)
+WritesOn does (Some k) new before after told = (k' : KeptGame) × (new ≡ Some k') × does k k' before after told
+
+-- what many drops on a pile return
 abbrev pub DropsOn : (old new : Option KeptGame) → (at amounts : List ℕ) → (before after : Rows)
     → Result (Unit {0}) CallFault → Type 0
-DropsOn None new at amounts before after told = (new ≡ None) × (after ≡ before) × (told ≡ Err NoPile)
-DropsOn (Some k) new at amounts before after told =
-    (k' : KeptGame) × (new ≡ Some k') × DropsEach k k' at amounts before after told
+DropsOn old new at amounts =
+    WritesOn {T = Unit {0}} {W = Rows} (λ k k' before after told. DropsEach k k' at amounts before after told) old new
+
+-- what measuring many drops on a pile returns
+abbrev pub MeasuresOn : (old new : Option KeptGame) → (at amounts : List ℕ) → (before after : Measures)
+    → Result ℕ CallFault → Type 0
+MeasuresOn old new at amounts =
+    WritesOn {T = ℕ} {W = Measures} (λ k k' before after told. MeasuresEach k k' at amounts before after told) old new
 
 -- what a copy returns: these numbers, if there is room for just as many, and else nothing is written
 abbrev pub Copies : List ℕ → (old new : List ℕ) → Result (Unit {0}) CallFault → Type 0

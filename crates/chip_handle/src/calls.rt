@@ -2,7 +2,7 @@
 
 ghost use Rattle.std.specs.Prelude.{◌≡◌, None};
 ghost use Rattle.chip_library.specs.KeptGames.{PutsChips, PlaysSome, Drops};
-ghost use Rattle.chip_handle.specs.Handles.{MakesNew, OnPile, DropsOn, Copies, CopiesOf, chips_on, firings_on, bytes_held};
+ghost use Rattle.chip_handle.specs.Handles.{MakesNew, OnPile, DropsOn, MeasuresOn, Copies, CopiesOf, chips_on, firings_on, bytes_held};
 
 use crate::handle::Handle;
 use chip_fire::Avalanche;
@@ -119,6 +119,47 @@ pub fn drops_on(
     };
     let kept: &mut KeptPile = &mut boxed;
     let told = kept.drop_each(alloc, at, amounts, sizes, extents, losts);
+    *handle = Handle::of(boxed);
+    told
+}
+
+/// Drops chips on a pile, one drop after another, and measures what they set off (`KeptPile::measure_each`).
+pub fn measure_on(
+    alloc: Global,
+    handle: &mut Handle,
+    at: &[u64],
+    amounts: &[u64],
+    sizes: &mut [u64],
+    extents: &mut [u64],
+    losts: &mut [u64],
+    durations: &mut [u64],
+    ends: &mut [u64],
+    vertices: &mut [u64],
+    times: &mut [u64],
+) -> Result<u64, CallFault>
+    ensures { MeasuresOn handle.old.raw.value handle.new.raw.value at.now amounts.now
+        (record {
+          rows = record { sizes = sizes.old; extents = extents.old; losts = losts.old };
+          durations = durations.old;
+          ends = ends.old;
+          vertices = vertices.old;
+          times = times.old;
+        })
+        (record {
+          rows = record { sizes = sizes.new; extents = extents.new; losts = losts.new };
+          durations = durations.new;
+          ends = ends.new;
+          vertices = vertices.new;
+          times = times.new;
+        }) result }
+{
+    let Some(mut boxed) = handle.take(alloc) else {
+        return Err(CallFault::NoPile);
+    };
+    let kept: &mut KeptPile = &mut boxed;
+    let told = kept.measure_each(
+        alloc, at, amounts, sizes, extents, losts, durations, ends, vertices, times,
+    );
     *handle = Handle::of(boxed);
     told
 }

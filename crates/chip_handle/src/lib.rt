@@ -1,7 +1,9 @@
 //! A pile that C keeps from one call to the next: the only memory of the library that outlives a call.
 #![tactic(auto)]
 
-pub use calls::{bytes_of, chips_of, drop_on, drops_on, fired_of, make, play_on, put, release};
+pub use calls::{
+    bytes_of, chips_of, drop_on, drops_on, fired_of, make, measure_on, play_on, put, release,
+};
 pub use handle::Handle;
 pub use loose::Loose;
 pub use raw::Raw;

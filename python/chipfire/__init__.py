@@ -119,7 +119,8 @@ from chipfire.configurations.stabilization import add, is_stable, stabilize, sta
 from chipfire.divisors.divisor import Divisor, canonical_divisor, genus
 from chipfire.divisors.polynomials import avalanche_polynomial, level_polynomial, tutte_polynomial
 from chipfire.ensembles.avalanche import Avalanche, avalanche, avalanches, random_drops
-from chipfire.ensembles.chains import Chains, Firings, chains
+from chipfire.ensembles.chains import Chains, chains
+from chipfire.ensembles.firings import Firings
 from chipfire.ensembles.drops import Drops
 from chipfire.ensembles.histograms import Histograms
 from chipfire.ensembles.pile import Drop as Drop, Pile

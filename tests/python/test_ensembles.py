@@ -10,6 +10,7 @@ import pickle
 import random
 import subprocess
 import sys
+import tempfile
 import unittest
 from collections import Counter
 from concurrent.futures import ThreadPoolExecutor
@@ -295,6 +296,116 @@ class Chains(unittest.TestCase):
         found = chipfire.chains(TRIANGLE, 2, 0, 1, chips=[4, 0, 0])
         self.assertEqual(([len(row) for row in found.size], repr(found)), ([0, 0], "<Chains: 2 of up to 0 drops>"))
         self.assertEqual([it.tolist() for it in found.chips], [list(slow_report(TRIANGLE, [4, 0, 0]).chips)] * 2)
+
+
+def rounds(graph, chips):
+    """For how many rounds chips fire, in each of which each legal vertex fires once."""
+    chips, count, degrees = list(chips), 0, [0] * graph.vertices
+    for tail, _, mult in graph.edges:
+        degrees[tail] += mult
+    while legal := {it for it, degree in enumerate(degrees) if 0 < degree <= chips[it]}:
+        for tail, head, mult in graph.edges:
+            if tail in legal:
+                chips[tail] -= mult
+                chips[head] += mult
+        count += 1
+    return count
+
+
+@unittest.skipUnless(IS_HERE, "the library is not here")
+@unittest.skipUnless(has("numpy"), "NumPy is not here")
+class Measured(unittest.TestCase):
+    def test_drops_tell_what_fires_and_for_how_many_rounds(self):
+        draw = random.Random(5)
+        for graph in (chipfire.grid(4, 3), MULTIGRAPH, TRIANGLE):
+            start = [draw.randrange(9) for _ in range(graph.vertices)]
+            at = [draw.randrange(graph.vertices) for _ in range(40)]
+            amounts = [draw.choice([0, 1, 1, 7]) for _ in at]
+            names = [graph.names[it] for it in at]
+            found = chipfire.drops(graph, start, names, amounts=amounts, fired=True, durations=True)
+            with chipfire.Pile(graph, start) as pile:
+                same = pile.drops(names, amounts=amounts, fired=True, durations=True)
+            self.assertEqual(rows_of(found), list(slow_rows(graph, start, [*zip(at, amounts)])))
+            left = list(slow_report(graph, start).chips)
+            for drop, (vertex, amount) in enumerate(zip(at, amounts)):
+                left[vertex] += amount
+                report = slow_report(graph, left)
+                begin, end = found.fired.offsets[drop : drop + 2]
+                pairs = zip(found.fired.vertices[begin:end].tolist(), found.fired.counts[begin:end].tolist())
+                self.assertEqual(list(pairs), [it for it in zip(graph.names, report.fired) if it[1]])
+                self.assertEqual(found.duration[drop], rounds(graph, left))
+                left = list(report.chips)
+            self.assertEqual(found.report.chips, tuple(left))
+            self.assertEqual((rows_of(same), same.duration.tolist()), (rows_of(found), found.duration.tolist()))
+            self.assertEqual([it.tolist() for it in same.fired], [it.tolist() for it in found.fired])
+            self.assertEqual((same.report, found.report.closed), (found.report, True))
+
+    def test_a_chain_has_the_durations_of_its_drops(self):
+        grid = chipfire.grid(5, 4)
+        found = chipfire.chains(grid, 2, 30, 3, chips=2, durations=True)
+        for chain, seed in enumerate(found.seeds):
+            alone = chipfire.drops(grid, 2, chipfire.random_drops(grid, 30, seed), durations=True)
+            self.assertEqual(found.duration[chain].tolist(), alone.duration.tolist())
+        self.assertIsNone(chipfire.chains(grid, 2, 30, 3, chips=2).duration)
+
+    def test_little_room_is_filled_again_and_again(self):
+        grid = chipfire.grid(6, 6)
+        on = [*chipfire.random_drops(grid, 200, 2)]
+        whole = chipfire.drops(grid, 3, on, fired=True)
+        with mock.patch("chipfire.ensembles.firings._ROOM", 0):
+            found = chipfire.drops(grid, 3, on, fired=True)
+        self.assertEqual(rows_of(found), rows_of(whole))
+        self.assertEqual([it.tolist() for it in found.fired], [it.tolist() for it in whole.fired])
+
+    def test_the_limit_ends_what_is_measured(self):
+        with chipfire.Pile(TRIANGLE, [1, 1, 0], 1) as pile:
+            found = pile.drops([0, 2, 0], amounts=[1, 1, 5], fired=True, durations=True)
+            self.assertEqual((rows_of(found), found.duration.tolist(), pile.is_stopped), ([(2, 2, 2), (0, 0, 0)], [2, 0], True))
+            self.assertEqual([it.tolist() for it in found.fired], [[0, 2, 2], [0, 1], [1, 1]])
+
+    @unittest.skipUnless(has("scipy"), "SciPy is not here")
+    def test_rows_are_those_of_a_sparse_matrix(self):
+        found = chipfire.drops(MULTIGRAPH, 9, ["a", "c", "a"], fired=True)
+        matrix = found.fired.to_scipy(MULTIGRAPH)
+        self.assertEqual(matrix.shape, (3, MULTIGRAPH.vertices))
+        self.assertEqual(matrix.sum(1).tolist(), found.size.tolist())
+        self.assertEqual((matrix.toarray() > 0).sum(1).tolist(), found.extent.tolist())
+
+    def test_radii_of_avalanches_on_a_grid(self):
+        """Three full squares in a row: a drop on the middle fires all three. Then a drop on the end fires nothing."""
+        grid = chipfire.grid(1, 3)
+        found = chipfire.drops(grid, [3, 3, 3], [1, 0], fired=True)
+        self.assertEqual((found.extent.tolist(), found.fired.vertices.tolist()), ([3, 0], [0, 1, 2]))
+        radius, gyration = found.fired.radii(grid, [1, 0])
+        self.assertEqual(radius.tolist(), [1.0, 0.0])
+        self.assertAlmostEqual(gyration[0], (2 / 3) ** 0.5)
+        self.assertEqual(found.fired.radii(grid, [0, 0])[0].tolist(), [2.0, 0.0])
+        with self.assertRaisesRegex(ValueError, "no grid"):
+            found.fired.radii(chipfire.complete(4), [0, 0])
+        with self.assertRaisesRegex(ValueError, "2 drops, and 1"):
+            found.fired.radii(grid, [1])
+
+    def test_what_is_measured_is_saved(self):
+        for graph in (chipfire.grid(3, 3), MULTIGRAPH):
+            on = [*chipfire.random_drops(graph, 9, 1)]
+            found = chipfire.drops(graph, 3, on, fired=True, durations=True)
+            with tempfile.TemporaryDirectory() as folder:
+                found.save(f"{folder}/drops.npz")
+                read = chipfire.Drops.load(f"{folder}/drops.npz")
+            self.assertEqual((rows_of(read), read.duration.tolist()), (rows_of(found), found.duration.tolist()))
+            self.assertEqual([it.tolist() for it in read.fired], [it.tolist() for it in found.fired])
+            self.assertEqual(read.histogram("duration"), found.histogram("duration"))
+
+    def test_what_cannot_be_measured(self):
+        for given, words in ((CHIPS_FILE, "and not of a file"), ([9], "9")):
+            with self.assertRaisesRegex((ValueError, KeyError), words):
+                chipfire.drops(TRIANGLE, 0, given, fired=True)
+        with self.assertRaisesRegex(ValueError, "and not by a program"):
+            chipfire.drops(TRIANGLE, 0, [0], durations=True, program="another")
+        with self.assertRaisesRegex(ValueError, "no 'duration'"):
+            chipfire.drops(TRIANGLE, 0, [0]).histogram("duration")
+        with self.assertRaisesRegex(ValueError, "without durations"):
+            chipfire.chains(TRIANGLE, 1, 1, 1, durations=True, checkpoint="never made")
 
 
 class WithoutTheLibrary(unittest.TestCase):

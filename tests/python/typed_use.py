@@ -2,7 +2,7 @@
 from __future__ import annotations
 
 from collections.abc import Iterator
-from typing import Any, Dict, List, Tuple, TYPE_CHECKING
+from typing import Any, Dict, List, Optional, Tuple, TYPE_CHECKING
 
 import chipfire
 
@@ -73,6 +73,7 @@ def results(grid: chipfire.Graph) -> None:
     assert_type((report.chips, report.closed, report.odometer[0]), Tuple[Row, bool, int])
     found = assert_type(chipfire.drops(grid, 3, chipfire.random_drops(grid, 9, 1)), chipfire.Drops)
     assert_type(found.histogram("lost"), Dict[int, int])
+    assert_type(found.fired, Optional[chipfire.Firings])
     assert_type(chipfire.verify(grid, 5, report), bool)
     assert_type(chipfire.power_law([1, 2, 2, 7]).exponent, float)
     assert_type(chipfire.avalanche(grid, 3, (0, 1)).size, int)

@@ -27,6 +27,7 @@ from chipfire.ensembles.drops import (
     columns_of,
     dropped_on,
     Drops,
+    measured_drops,
     parts_of,
     played_drops,
     ROWS_HEADER,
@@ -392,6 +393,8 @@ def drops(
     vertices: Iterable[Hashable] | FileName,
     *,
     amounts: Iterable[int] | None = None,
+    fired: bool = False,
+    durations: bool = False,
     progress: bool = False,
     program: AnyProgram = None,
 ) -> Drops:
@@ -410,6 +413,11 @@ def drops(
         rows ``vertex,chips``.
     amounts : iterable of int, optional
         The number of chips of each drop. By default one.
+    fired : bool, optional
+        Whether to return which vertices each drop fires, and how often. This takes the library and NumPy.
+    durations : bool, optional
+        Whether to return for how many rounds each drop lasts, in each of which each legal vertex fires once. This takes
+        the library. A vertex with many chips fires one time after another then.
     progress : bool, optional
         Whether `sys.stderr` gets a line about once a second that says how far the play is.
     program : path, optional
@@ -418,7 +426,7 @@ def drops(
     Returns
     -------
     Drops
-        The columns `size`, `area` and `lost`, and the report of all together.
+        The columns `size`, `area` and `lost`, what was asked for, and the report of all together.
 
     Raises
     ------
@@ -444,10 +452,19 @@ def drops(
     if isinstance(graph, Graph) and graph.loops:
         less = graph.without_loops(known_chips(graph, chips, program))
         free = drops(
-            graph.loop_free, less, vertices, amounts=amounts, progress=progress, program=program
+            graph.loop_free,
+            less,
+            vertices,
+            amounts=amounts,
+            fired=fired,
+            durations=durations,
+            progress=progress,
+            program=program,
         )
         left = tuple(graph.with_loops(free.report.chips))
         return replace(free, report=replace(free.report, chips=left, graph=graph))
+    if fired or durations:
+        return _measured(graph, chips, vertices, amounts, fired, durations, program)
     question = _Question(graph, program)
     rows = cast(Any, vertices)
     start: Any = question.numbers(chips)
@@ -465,6 +482,28 @@ def drops(
         question.ask("avalanches", files, ROWS_HEADER, progress=progress)
     )
     return Drops(size, extent, lost, Report.parse(report.text(), question.graph))
+
+
+def _measured(
+    graph: AnyGraph,
+    chips: Chips,
+    vertices: Any,
+    amounts: Iterable[int] | None,
+    fired: bool,
+    durations: bool,
+    program: AnyProgram,
+) -> Drops:
+    """Drops by the library, with what is asked of them."""
+    if isinstance(vertices, FILE):
+        raise ValueError("what drops fire is told of vertices, and not of a file of them")
+    if program is not None:
+        raise ValueError("what drops fire is told by the library, and not by a program")
+    known = known_graph(graph, program)
+    at, many = dropped_on(known, vertices, amounts)
+    if isinstance(chips, FILE):
+        chips = read_chips(chips, known)
+    numbers = known.column(chips, 0)
+    return measured_drops(known, in_words(numbers), at, many, bool(fired), bool(durations))
 
 
 def run(

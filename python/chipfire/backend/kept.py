@@ -8,6 +8,7 @@ import os
 import time
 import weakref
 from array import array
+from collections.abc import Sequence
 from typing import Any, TYPE_CHECKING
 
 from chipfire.backend import library
@@ -23,6 +24,7 @@ STOPPED, NO_MEMORY = 13, 90
 _MOST_BYTES = 2**26
 
 _NO_NUMBERS = array("Q")
+_NO_ROOM = (_NO_NUMBERS, _NO_NUMBERS, _NO_NUMBERS)
 
 #: About how many seconds a portion of a play takes; how many visits the first one makes, and each at most.
 _PORTION, _FIRST_VISITS, _MOST_VISITS = 0.1, 2**22, 2**40
@@ -108,6 +110,18 @@ class KeptPile:
         """Many drops, whose numbers go into the columns; and how many were made, if the limit has stopped one."""
         words = [word for it in (at, amounts, *columns) for word in library.slice_of("drops", it)]
         number = self._found.chipfire_pile_drops(self._at, *words, self._words[3])
+        return int(number), self._told[3]
+
+    def measure(
+        self, at: Any, amounts: Any, columns: Sequence[Any], room: Sequence[Any] = _NO_ROOM
+    ) -> tuple[int, int]:
+        """Many drops, whose numbers go into the columns: size, extent and loss, and a duration if there is a fourth. What
+        they fire goes into the room, if there is some: the ends of each drop, and vertices and counts. How many were made
+        is fewer where the limit has stopped one, or there is no more room for all vertices."""
+        *three, duration = columns if len(columns) > 3 else (*columns, _NO_NUMBERS)
+        slices = (at, amounts, *three, duration, *room)
+        words = [word for it in slices for word in library.slice_of("drops", it)]
+        number = self._found.chipfire_pile_measure(self._at, *words, self._words[3])
         return int(number), self._told[3]
 
     def chips(self) -> array[int]:

@@ -7,7 +7,7 @@ from array import array
 from collections.abc import Sequence
 from concurrent.futures import Executor
 from dataclasses import dataclass
-from typing import Any, Literal, NamedTuple, overload
+from typing import Any, Literal, overload
 
 from chipfire.backend import library
 from chipfire.backend.commands import AnyGraph, known_graph, read_chips
@@ -15,6 +15,7 @@ from chipfire.backend.finding import ProgramNotFound
 from chipfire.configurations.configuration import Chips
 from chipfire.ensembles import archive
 from chipfire.ensembles.checkpoint import opened
+from chipfire.ensembles.firings import Firings, firings, firings_of, stored
 from chipfire.ensembles.histograms import following, Histograms, joined, sums_by_name
 from chipfire.ensembles.player import COLUMNS, places_of, Plan, spanning, stabilize, table_of
 from chipfire.ensembles.power_law import sizes_figure
@@ -39,44 +40,6 @@ from chipfire.utils import (
 
 #: The arrays of all chains beside those of `COLUMNS`.
 _OTHERS = ("made", "chips")
-
-
-class Firings(NamedTuple):
-    """Which vertices each drop fired, as the rows of a sparse matrix.
-
-    The entries of drop d of chain k, with ``at = k * drops + d``, are those from ``offsets[at]`` to ``offsets[at +
-    1]``.
-
-    Attributes
-    ----------
-    offsets : array of shape (n * drops + 1,)
-        Where the entries of each drop begin.
-    vertices : array
-        The names of the vertices that fired, of each drop in the order of their numbers. Names that are no whole
-        numbers stand in an array of objects.
-    counts : array
-        How often they fired.
-
-    See Also
-    --------
-    chains
-
-    Notes
-    -----
-    A vertex that fires takes 12 bytes, or 16 in a graph with names, and up to 60 before all are in order.
-
-    Proved: the counts. Not proved: that Python passes them on.
-
-    Examples
-    --------
-    >>> found = chipfire.chains(chipfire.path(2), 1, 3, seed=1, chips={0: 1, 1: 1}, fired=True)
-    >>> int(found.fired.counts.sum()) == int(found.size.sum())
-    True
-    """
-
-    offsets: Any
-    vertices: Any
-    counts: Any
 
 
 @dataclass(frozen=True, repr=False, eq=False)
@@ -106,6 +69,8 @@ class Chains(WithArea):
         The seed from which `chains` plays the same again; None of chains of several seeds.
     first : int
         The number of the first chain of that seed.
+    duration : array of shape (n, drops) or None
+        For how many rounds each drop lasts, in each of which each legal vertex fires once, if that was asked for.
 
     See Also
     --------
@@ -113,8 +78,8 @@ class Chains(WithArea):
 
     Notes
     -----
-    Proved: sizes, areas, dissipated chips and the chips at the end. Not proved: that Python passes them on, and adds
-    results.
+    Proved: sizes, areas, dissipated chips, durations, what fired, and the chips at the end. Not proved: that Python
+    passes them on, and adds results.
 
     Examples
     --------
@@ -132,6 +97,7 @@ class Chains(WithArea):
     fired: Firings | None = None
     seed: int | float | str | bytes | None = None
     first: int = 0
+    duration: Any = None
 
     def __repr__(self) -> str:
         return f"<Chains: {self._title()}>"
@@ -155,12 +121,13 @@ class Chains(WithArea):
         return sizes_figure(self.size, f"Chains: {self._title()}")
 
     def to_dataframe(self) -> Any:
-        """The columns `size`, `extent` and `lost` as a DataFrame of pandas, of 64 bits, with a row for each drop that was
-        made. Its index has the numbers of the `chain` and of the `drop` there, from 0 on. Without pandas that is an
+        """The columns `size`, `extent`, `lost` and, if it is there, `duration` as a DataFrame of pandas, of 64 bits, with
+        a row for each drop that was made. Its index has the numbers of the `chain` and of the `drop` there, from 0 on. Without pandas that is an
         ImportError."""
         pandas = import_optional("pandas", "a table is one of pandas")
         numpy = import_optional("numpy", "a table of pandas takes NumPy")
-        columns = {name: numpy.asarray(getattr(self, name), "i8") for name in COLUMNS}
+        names = [*COLUMNS] + ["duration"] * (self.duration is not None)
+        columns = {name: numpy.asarray(getattr(self, name), "i8") for name in names}
         drops = numpy.arange(columns["size"].shape[1])
         is_made = drops < numpy.asarray(self.made, "i8")[:, None]
         index = pandas.MultiIndex.from_arrays(numpy.nonzero(is_made), names=["chain", "drop"])
@@ -172,13 +139,11 @@ class Chains(WithArea):
         seed = archive.plain(self.seed, "the seed")
         said = {"seeds": self.seeds, "seed": seed, "first": self.first, "names": None}
         arrays = {name: numpy.array(getattr(self, name), "i8") for name in (*COLUMNS, *_OTHERS)}
+        if self.duration is not None:
+            arrays["duration"] = numpy.array(self.duration, "i8")
         if self.fired is not None:
-            vertices = numpy.asarray(self.fired.vertices)
-            if vertices.dtype == object:
-                numbers = {name: it for it, name in enumerate(dict.fromkeys(vertices.tolist()))}
-                said["names"] = archive.plain_names(numbers)
-                vertices = numpy.array([numbers[it] for it in vertices.tolist()], "i8")
-            arrays |= self.fired._replace(vertices=vertices)._asdict()
+            said["names"], columns = stored(self.fired)
+            arrays |= columns
         archive.save(file, "Chains", said, arrays)
 
     @classmethod
@@ -189,7 +154,6 @@ class Chains(WithArea):
 
 def _chains_of(said: dict[str, Any], arrays: dict[str, Any]) -> Chains:
     """The chains of what `Chains.save` wrote."""
-    numpy = archive.numpy_of_files()
     seeds = tuple(said["seeds"])
     size, extent, lost, chips = (archive.whole(arrays[name], 2) for name in (*COLUMNS, "chips"))
     made = archive.whole(arrays["made"])
@@ -197,31 +161,23 @@ def _chains_of(said: dict[str, Any], arrays: dict[str, Any]) -> Chains:
         raise ValueError("the columns differ in their shapes")
     if {len(chips), len(made)} != {len(seeds)} or ((made < 0) | (made > size.shape[1])).any():
         raise ValueError("the chains differ in their numbers")
-    fired = None
-    if "vertices" in arrays:
-        offsets, counts = (archive.whole(arrays[name]) for name in ("offsets", "counts"))
-        vertices = arrays["vertices"]
-        if len(offsets) != size.size + 1 or not len(counts) == len(vertices) == offsets[-1]:
-            raise ValueError("what fired is not that of these drops")
-        if said["names"] is not None:
-            names = numpy.empty(len(said["names"]), object)
-            for place, name in enumerate(said["names"]):
-                names[place] = archive.value_of(name)
-            vertices = names[archive.whole(vertices)]
-        fired = Firings(offsets, vertices, counts)
+    fired = firings_of(said["names"], arrays, size.size)
     seed = archive.value_of(said["seed"])
     first = as_int(said.get("first", 0), "the number of the first chain")
-    return Chains(seeds, size, extent, lost, made, chips, fired, seed, first)
+    duration = archive.whole(arrays["duration"], 2) if "duration" in arrays else None
+    if duration is not None and duration.shape != size.shape:
+        raise ValueError("the columns differ in their shapes")
+    return Chains(seeds, size, extent, lost, made, chips, fired, seed, first, duration)
 
 
 def _sum(one: Chains, other: Chains) -> Chains:
     """The chains of two results."""
     widths = [[len(rows[0]) for rows in (it.size, it.chips)] for it in (one, other)]
-    if widths[0] != widths[1] or (one.fired is None) != (other.fired is None):
+    told = [(it.fired is None, it.duration is None) for it in (one, other)]
+    if widths[0] != widths[1] or told[0] != told[1]:
         raise ValueError("chains add up that have as many drops and vertices, and are told alike")
-    columns = {
-        name: joined(getattr(one, name), getattr(other, name)) for name in (*COLUMNS, *_OTHERS)
-    }
+    names = [*COLUMNS, *_OTHERS] + ["duration"] * (one.duration is not None)
+    columns = {name: joined(getattr(one, name), getattr(other, name)) for name in names}
     fired = None
     if one.fired is not None and other.fired is not None:
         offsets = joined(one.fired.offsets, other.fired.offsets[1:] + one.fired.offsets[-1])
@@ -244,6 +200,7 @@ def chains(
     workers: int | None = ...,
     executor: Executor | None = ...,
     fired: bool = ...,
+    durations: bool = ...,
     until: str | None = ...,
     collect: Literal["columns"] = ...,
     progress: AnyProgress = ...,
@@ -286,6 +243,7 @@ def chains(
     workers: int | None = None,
     executor: Executor | None = None,
     fired: bool = False,
+    durations: bool = False,
     until: str | None = None,
     collect: Literal["columns", "histogram"] = "columns",
     progress: AnyProgress = None,
@@ -324,24 +282,29 @@ def chains(
         package and its library.
     fired : bool, optional
         Whether to return which vertices each drop fires. This takes NumPy.
+    durations : bool, optional
+        Whether to return for how many rounds each drop lasts. It is played in rounds then, in which a vertex with many
+        chips fires one time after another.
     until : {"loss", "spans"}, optional
         Ends a chain with the first drop that loses a chip to the sink, or whose firings touch two opposite borders of
         a grid. This takes NumPy. "spans" does not know which borders are joined.
     collect : {"columns", "histogram"}, optional
         Whether to return a number for each drop, or histograms alone, which take no memory for drops but their
-        amounts. Histograms go with none of `fired`, `until` and `checkpoint`.
+        amounts. Histograms go with none of `fired`, `durations`, `until` and `checkpoint`.
     progress : bool or callable, optional
         True shows progress by tqdm or in lines. A function is called with the number of drops made and of all.
     checkpoint : path, optional
         A file to which parts are written as they are done. Another call with the same arguments, or with more chains,
-        goes on from it. Its numbers are believed, so nobody else should be able to write to it.
+        goes on from it. Its numbers are believed, so nobody else should be able to write to it. It goes without
+        `durations`.
     partial : bool, optional
         Whether an interrupt returns what was made until then, in place of KeyboardInterrupt.
 
     Returns
     -------
     Chains or Histograms
-        The results, with a row for each chain. A drop takes 24 bytes, and a vertex 16 bytes in each chain.
+        The results, with a row for each chain. A drop takes 24 bytes, or 32 with its duration, and a vertex 16 bytes in
+        each chain.
 
     Raises
     ------
@@ -358,8 +321,8 @@ def chains(
 
     Notes
     -----
-    Proved: sizes, areas, dissipated chips and counts of the drops. Not proved: that vertices are evenly drawn, and
-    which drop ends a chain.
+    Proved: sizes, areas, dissipated chips, durations and counts of the drops. Not proved: that vertices are evenly
+    drawn, and which drop ends a chain.
 
     Examples
     --------
@@ -370,12 +333,14 @@ def chains(
     known = known_graph(graph)
     n = as_int(n, "the number of chains", 1)
     drops = as_int(drops, "the number of drops")
-    is_counted = _is_counted(collect, until or fired or checkpoint)
-    of_drops = 0 if is_counted else 24 * drops
+    is_counted = _is_counted(collect, until or fired or durations or checkpoint)
+    of_drops = 0 if is_counted else (32 if durations else 24) * drops
     require_memory(n * (of_drops + 16 * known.vertices), f"{n:,} chains of {drops:,} drops")
     _refuse_options(until, fired, workers, executor)
     if checkpoint is not None and (seed is None or hasattr(seed, "bit_generator")):
         raise ValueError("a checkpoint takes a seed that is the same in the next call")
+    if checkpoint is not None and durations:
+        raise ValueError("a checkpoint goes without durations")
     known.require()
     if known.vertices < 2 and drops:
         raise ValueError("the graph has only its sink, and so no vertex to drop on")
@@ -392,6 +357,7 @@ def chains(
         starts=None if chips is None else _starts(known, chips, n),
         until=until,
         fired=bool(fired),
+        timed=bool(durations),
         counted=is_counted,
     )
     threads = _threads(n, workers)
@@ -406,7 +372,7 @@ def _is_counted(collect: str, others: Any) -> bool:
     if collect not in ("columns", "histogram"):
         raise ValueError(f"chains collect 'columns' or a 'histogram', and no {collect!r}")
     if collect == "histogram" and others:
-        raise ValueError("a histogram goes with none of fired, until and checkpoint")
+        raise ValueError("a histogram goes with none of fired, durations, until and checkpoint")
     return collect == "histogram"
 
 
@@ -486,9 +452,11 @@ def _result(plan: Plan, table: Any) -> Chains | Histograms:
         sums = sums_by_name(table.sums)
         told = (plan.seed, plan.first)
         return Histograms(plan.seeds, size, extent, lost, sums, made, chips, *told)
-    size, extent, lost = (_by_rows(numpy, it, plan.n) for it in table.columns)
-    fired = _in_order(plan.graph, table.fired, plan.n * plan.drops) if plan.fired else None
-    return Chains(plan.seeds, size, extent, lost, made, chips, fired, plan.seed, plan.first)
+    size, extent, lost, *timed = (_by_rows(numpy, it, plan.n) for it in table.columns)
+    fired = firings(plan.graph, plan.n * plan.drops, table.fired) if plan.fired else None
+    duration = timed[0] if timed else None
+    rows = (size, extent, lost, made, chips, fired)
+    return Chains(plan.seeds, *rows, plan.seed, plan.first, duration)
 
 
 def _are_rows(graph: Graph, chips: Any) -> bool:
@@ -518,26 +486,3 @@ def _by_rows(numpy: Any, numbers: array[int], n: int) -> Any:
         return numpy.frombuffer(numbers, "q").reshape(n, -1)
     width = len(numbers) // n
     return [array("q", numbers[it * width : (it + 1) * width]) for it in range(n)]
-
-
-def _in_order(graph: Graph, pieces: Sequence[Any], count: int) -> Firings:
-    """The pieces of what fired, sorted by the numbers of `count` drops."""
-    numpy = import_optional("numpy")
-    found = pieces or [[numpy.zeros(0, "i8")] * 3]
-    drops, vertices, counts = map(numpy.concatenate, zip(*found))
-    order = numpy.argsort(drops, kind="stable")
-    fired_by_drop = numpy.bincount(drops, minlength=count)
-    offsets = numpy.concatenate([[0], numpy.cumsum(fired_by_drop)])
-    return Firings(offsets, _named(numpy, graph, vertices[order]), counts[order])
-
-
-def _named(numpy: Any, graph: Graph, vertices: Any) -> Any:
-    """The names of vertices that fired."""
-    if isinstance(graph.names, range):
-        return vertices
-    names = numpy.empty(graph.vertices, object)
-    for vertex, name in enumerate(graph.names):
-        names[vertex] = name
-    names[graph.sink] = 0  # (it never fires)
-    is_whole = all(type(name) is int and abs(name) < 2**63 for name in names)
-    return (names.astype("i8") if is_whole else names)[vertices]

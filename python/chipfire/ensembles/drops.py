@@ -6,15 +6,17 @@ import operator
 import time
 from array import array
 from collections import Counter
-from collections.abc import Callable, Iterable, Iterator, Sequence
+from collections.abc import Callable, Iterable, Iterator, Mapping, Sequence
 from dataclasses import dataclass
 from typing import Any
 
 from chipfire.backend import kept, library
+from chipfire.backend.finding import ProgramNotFound
 from chipfire.backend.process import refused
 from chipfire.backend.report import Report
 from chipfire.configurations.configuration import CHIPS_HEADER, Configuration, in_words
 from chipfire.ensembles import archive
+from chipfire.ensembles.firings import fall, Firings, firings, firings_of, numbers_of, Room, stored
 from chipfire.ensembles.power_law import sizes_figure
 from chipfire.graphs.graph import Graph
 from chipfire.utils import (
@@ -54,6 +56,10 @@ class Drops(WithArea):
         The number of chips that firings brought to the sink: the dissipated ones.
     report : Report
         The report of a play from all chips together, those at the start and those that were dropped.
+    fired : Firings or None
+        Which vertices each drop fired, if that was asked for.
+    duration : array of shape (n,) or None
+        For how many rounds each drop lasts, in each of which each legal vertex fires once, if that was asked for.
 
     See Also
     --------
@@ -76,12 +82,14 @@ class Drops(WithArea):
     extent: Any
     lost: Any
     report: Report
+    fired: Firings | None = None
+    duration: Any = None
 
     @classmethod
-    def with_report_later(cls, columns: Iterable[Any], make: Callable[[], Report]) -> Drops:
+    def with_report_later(cls, columns: Mapping[str, Any], make: Callable[[], Report]) -> Drops:
         """Drops whose report is made when it is asked for."""
         found = cls.__new__(cls)
-        vars(found).update(zip(COLUMNS, columns), _make=make)
+        vars(found).update(columns, _make=make)
         return found
 
     def __getattr__(self, name: str) -> Any:
@@ -91,7 +99,7 @@ class Drops(WithArea):
         return vars(self).setdefault("report", self._make())
 
     def __getstate__(self) -> dict[str, Any]:
-        return {name: getattr(self, name) for name in (*COLUMNS, "report")}
+        return {name: getattr(self, name) for name in (*COLUMNS, "report", "fired", "duration")}
 
     def __setstate__(self, state: dict[str, Any]) -> None:
         vars(self).update(state)
@@ -116,17 +124,21 @@ class Drops(WithArea):
         return self.report.configuration
 
     def histogram(self, of: str = "size") -> dict[int, int]:
-        """How many drops have each size that occurs, ascending; or each `extent`, or `lost`."""
-        if of not in COLUMNS:
+        """How many drops have each size that occurs, ascending; or each `extent`, `lost`, or `duration`."""
+        if of not in (*COLUMNS, "duration") or getattr(self, of) is None:
             raise ValueError(f"a drop has a 'size', an 'extent' and 'lost', and no {of!r}")
         return dict(sorted(Counter(getattr(self, of).tolist()).items()))
 
     def to_dataframe(self) -> Any:
-        """The columns `size`, `extent` and `lost` as a DataFrame of pandas, of 64 bits. Its index `drop` is the number of
-        each, from 0 on. Without pandas that is an ImportError."""
+        """The columns `size`, `extent`, `lost` and, if it is there, `duration` as a DataFrame of pandas, of 64 bits. Its
+        index `drop` is the number of each, from 0 on. Without pandas that is an ImportError."""
         pandas = import_optional("pandas", "a table is one of pandas")
-        columns = {name: getattr(self, name) for name in COLUMNS}
+        columns = {name: getattr(self, name) for name in self._names()}
         return pandas.DataFrame(columns, pandas.RangeIndex(len(self), name="drop"), dtype="int64")
+
+    def _names(self) -> list[str]:
+        """The names of the columns that are there."""
+        return [*COLUMNS] + ["duration"] * (self.duration is not None)
 
     def save(self, file: FileName) -> None:
         """Writes all of it, the graph too, to a file of arrays (`.npz`) of NumPy, which `Drops.load` reads. A file that is
@@ -135,11 +147,14 @@ class Drops(WithArea):
         """
         numpy = archive.numpy_of_files()
         report = self.report
-        said: dict[str, Any] = {"graph": None}
-        arrays = {name: numpy.array(getattr(self, name), "i8") for name in COLUMNS}
+        said: dict[str, Any] = {"graph": None, "names": None}
+        arrays = {name: numpy.array(getattr(self, name), "i8") for name in self._names()}
         for name in ("chips", "fired", "over", "sealed", "prior"):
             if getattr(report, name) is not None:
                 arrays[name] = numpy.array(getattr(report, name), "i8")
+        if self.fired is not None:
+            said["names"], columns = stored(self.fired)
+            arrays |= columns
         if report.graph is not None:
             said["graph"], columns = archive.graph_parts(report.graph)
             arrays |= columns
@@ -155,14 +170,17 @@ class Drops(WithArea):
 def _drops_of(said: dict[str, Any], arrays: dict[str, Any]) -> Drops:
     """The drops of what `Drops.save` wrote."""
     size, extent, lost = (archive.whole(arrays[name]) for name in COLUMNS)
-    if {len(extent), len(lost)} != {len(size)}:
+    duration = archive.whole(arrays["duration"]) if "duration" in arrays else None
+    if {len(extent), len(lost), len(size if duration is None else duration)} != {len(size)}:
         raise ValueError("the columns differ in their lengths")
     graph = None if said["graph"] is None else archive.graph_of(said["graph"], arrays)
     chips, fired, over, sealed = (
         tuple(archive.whole(arrays[name]).tolist()) for name in ("chips", "fired", "over", "sealed")
     )
     prior = tuple(archive.whole(arrays["prior"]).tolist()) if "prior" in arrays else None
-    return Drops(size, extent, lost, Report(chips, fired, over, sealed, prior, graph))
+    report = Report(chips, fired, over, sealed, prior, graph)
+    row_ends = firings_of(said.get("names"), arrays, len(size))
+    return Drops(size, extent, lost, report, row_ends, duration)
 
 
 def names_of(vertices: Any, what: str) -> Iterable[Any]:
@@ -227,8 +245,75 @@ def played_drops(
         return None
     counts = fired
     return Drops.with_report_later(
-        shown(columns), lambda: Report(tuple(left), tuple(counts), (), graph=graph)
+        dict(zip(COLUMNS, shown(columns))),
+        lambda: Report(tuple(left), tuple(counts), (), graph=graph),
     )
+
+
+class Measured:
+    """Drops on a pile that the library keeps, with what is asked of them beside their columns."""
+
+    def __init__(self, graph: Graph, count: int, fired: bool, durations: bool) -> None:
+        self._graph = graph
+        self._columns = [array("Q", bytes(8 * count)) for _ in range(3 + durations)]
+        self._room = Room(graph.vertices) if fired else None
+        #: How many drops were made, and the number of a fault that came of the last one, or 0.
+        self.made = 0
+        self.number = 0
+
+    def play(self, pile: kept.KeptPile, at: array[int], amounts: array[int]) -> None:
+        """Makes the drops, until the limit stops one. Another fault is raised."""
+
+        def call(where: Any, many: Any, rows: list[Any]) -> bool:
+            self.number, place = fall(pile, self._room, where, many, rows)
+            if self.number not in (0, kept.STOPPED):
+                raise refused(self.number, self.made + place, self._graph)
+            self.made += place if self.number else len(where)
+            return self.number == 0
+
+        in_calls(call, at, amounts, self._columns)
+
+    def told(self) -> dict[str, Any]:
+        """The columns of the drops that were made, and what they fired, by their names."""
+        size, extent, lost, *duration = shown([column[: self.made] for column in self._columns])
+        found = {"size": size, "extent": extent, "lost": lost, "fired": None, "duration": None}
+        if duration:
+            found["duration"] = duration[0]
+        if self._room:
+            piece = (numbers_of(extent), *self._room.taken())
+            found["fired"] = firings(self._graph, self.made, [piece])
+        return found
+
+
+def without_library() -> ProgramNotFound:
+    """The error where the library is missing that measures drops."""
+    why = "the library tells what drops fire, and for how many rounds, and is not here"
+    return ProgramNotFound(2, why, "chipfire")
+
+
+def measured_drops(
+    graph: Graph,
+    chips: array[int],
+    at: array[int],
+    amounts: array[int],
+    fired: bool,
+    durations: bool,
+) -> Drops:
+    """Drops by the library, with what is asked of them."""
+    pile = kept.take(graph, chips, MAX_LIMIT)
+    if pile is None:
+        raise without_library()
+    try:
+        measured = Measured(graph, len(at), fired, durations)
+        number = pile.play()
+        if not number:
+            measured.play(pile, at, amounts)
+        left, counts = pile.chips(), pile.fired()
+    finally:
+        kept.give_back(graph, pile)
+    over = [it for it, degree in enumerate(graph.degrees()) if 0 < degree <= left[it]]
+    report = Report(tuple(left), tuple(counts), tuple(over), graph=graph)
+    return Drops(report=report, **measured.told())
 
 
 def _counts_of(

@@ -15,7 +15,7 @@ from chipfire.backend.commands import AnyGraph, AnyProgram, drops, known_graph, 
 from chipfire.backend.process import refused
 from chipfire.backend.report import Report
 from chipfire.configurations.configuration import Chips, Configuration, in_words
-from chipfire.ensembles.drops import dropped_on, Drops, in_calls, shown
+from chipfire.ensembles.drops import dropped_on, Drops, Measured, shown, without_library
 from chipfire.graphs.graph import Graph
 from chipfire.utils import as_int, FILE, MAX_CHIPS, MAX_LIMIT
 
@@ -183,15 +183,25 @@ class Pile:
                 raise refused(kept.STOPPED, 0, self.graph)
             return Drop(*(int(column[0]) for column in (found.size, found.extent, found.lost)))
 
-    def drops(self, vertices: Any, *, amounts: Iterable[int] | None = None) -> Drops:
-        """Drops one chip after another on these vertices, or as many at a time as `amounts` say, as `chipfire.drops` does.
-        If the limit stops a play, the drop is the last, and has no row; `report.closed` is false then.
+    def drops(
+        self,
+        vertices: Any,
+        *,
+        amounts: Iterable[int] | None = None,
+        fired: bool = False,
+        durations: bool = False,
+    ) -> Drops:
+        """Drops one chip after another on these vertices, or as many at a time as `amounts` say, as `chipfire.drops` does,
+        with what fired and durations if that is asked for, which takes the library. If the limit stops a play, the drop
+        is the last, and has no row; `report.closed` is false then.
         """
         at, many = dropped_on(self.graph, vertices, amounts)
         with self._alone():
             pile = self._before(many)
-            if pile and self._is_short(many):
-                return self._by_library(pile, at, many)
+            if pile and (fired or durations or self._is_short(many)):
+                return self._by_library(pile, at, many, fired, durations)
+            if fired or durations:
+                raise without_library()
             return self._by_program(at, many)
 
     def close(self) -> None:
@@ -343,24 +353,21 @@ class Pile:
             if pile.is_own:
                 self._end_of(pile)
 
-    def _by_library(self, pile: kept.KeptPile, at: array[int], amounts: array[int]) -> Drops:
+    def _by_library(
+        self,
+        pile: kept.KeptPile,
+        at: array[int],
+        amounts: array[int],
+        fired: bool,
+        durations: bool,
+    ) -> Drops:
         """Drops on the library's pile."""
-        columns = [array("Q", bytes(8 * len(at))) for _ in range(3)]
-        made = 0
-        number = 0
-
-        def call(where: Any, many: Any, rows: list[Any]) -> bool:
-            nonlocal made, number
-            number, drop = pile.drops(where, many, rows)
-            made += drop if number else len(where)
-            return number == 0
-
-        in_calls(call, at, amounts, columns)
-        self._is_stopped = self._stops(number)
-        fallen = made + self._is_stopped
+        measured = Measured(self.graph, len(at), fired, durations)
+        measured.play(pile, at, amounts)
+        self._is_stopped = self._stops(measured.number)
+        fallen = measured.made + self._is_stopped
         self._add_all(at[:fallen], amounts[:fallen])
-        size, extent, lost = shown([column[:made] for column in columns])
-        return Drops(size, extent, lost, self._report())
+        return Drops(report=self._report(), **measured.told())
 
     def _by_program(self, at: array[int], amounts: array[int]) -> Drops:
         """Drops that the program plays."""

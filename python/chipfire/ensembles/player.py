@@ -16,6 +16,7 @@ from typing import Any, Union
 from chipfire.backend import kept, library
 from chipfire.backend.process import refused
 from chipfire.ensembles.drops import in_calls, names_of, PART
+from chipfire.ensembles.firings import fall, numbers_of, Room
 from chipfire.ensembles.wilson import recurrent_rows
 from chipfire.graphs.graph import Graph
 from chipfire.utils import import_optional, MAX_LIMIT
@@ -80,6 +81,7 @@ class Plan:
              None if each begins with a random recurrent configuration
     until    after which drop a chain ends: "loss", "spans" or None
     fired    whether it is asked what fired
+    timed    whether it is asked for durations
     counted  whether it is asked for histograms alone
     """
 
@@ -93,6 +95,7 @@ class Plan:
     starts: array[int] | None = None
     until: str | None = None
     fired: bool = False
+    timed: bool = False
     counted: bool = False
 
     @property
@@ -119,7 +122,7 @@ class Plan:
 class Table:
     """The numbers of chains, flat and of 64 bits, those of one chain behind those of another.
 
-    columns  the size, extent and loss of each drop
+    columns  the size, extent and loss of each drop, and its duration if that is asked for
     made     how many drops each chain made
     chips    what lies on each vertex, without the chips of loops
     fired    pieces of what fired, each with three arrays: the numbers of drops, the vertices, and how often they fired
@@ -135,7 +138,8 @@ class Table:
     @classmethod
     def of(cls, plan: Plan) -> Table:
         """A table for a plan, in which no drop is made."""
-        counts = [plan.n * plan.drops] * 3 + [plan.n, plan.n * plan.graph.vertices]
+        width = 3 + plan.timed
+        counts = [plan.n * plan.drops] * width + [plan.n, plan.n * plan.graph.vertices]
         *columns, made, chips = map(_zeros, counts)
         return cls(plan.drops, plan.graph.vertices, columns, made, chips)
 
@@ -273,8 +277,7 @@ def table_of(plan: Plan) -> AnyTable:
 def play(plan: Plan, table: AnyTable, watch: Watch) -> AnyTable:
     """Plays chains, which all have their starts, into a table."""
     _copy(table.chips, plan.starts)
-    player = _InStep if plan.until or plan.fired else _OneByOne
-    player(plan, table, watch).play()
+    _Player(plan, table, watch).play()
     return table
 
 
@@ -287,7 +290,7 @@ def played(plan: Plan) -> AnyTable:
 
 
 class _Player:
-    """Chains of a plan, and their table."""
+    """Plays one chain of a plan after another into their table, each on a pile that the library keeps."""
 
     def __init__(self, plan: Plan, table: Any, watch: Watch) -> None:
         self.plan = plan
@@ -297,31 +300,15 @@ class _Player:
         self.seeds = plan.seeds
         self.draw = random.Random(0)
         self.twister: Any = None
+        is_asked = plan.fired or plan.until == "spans"
+        self.room = Room(self.graph.vertices) if is_asked else None
+        self.ends = _ends(self.graph, plan.until)
+        #: The number of the next drop among those of all chains, and whether the chain has ended.
+        self.next = 0
+        self.is_over = False
 
     def play(self) -> None:
         """Plays all chains to their ends, or until they are to stop."""
-        raise NotImplementedError
-
-    def begin(self, chain: int) -> None:
-        """Has `drawn` begin with the first drop of a chain, by NumPy's twister, which is Python's."""
-        self.draw = random.Random(self.seeds[chain])
-        numpy = import_optional("numpy")
-        if numpy:
-            self.twister = self.twister or numpy.random.RandomState(0)
-            state = self.draw.getstate()[1]
-            self.twister.set_state(("MT19937", state[:-1], state[-1]))
-
-    def drawn(self, count: int) -> Any:
-        """The vertices of the next drops, as `random_drops` draws them."""
-        if self.twister is None:
-            return array("Q", self.plan.places.drawn(self.draw, count))
-        return self.plan.places.at(self.twister.random_sample(count))
-
-
-class _OneByOne(_Player):
-    """Plays one chain after another, each on a pile that the library keeps."""
-
-    def play(self) -> None:
         width = self.graph.vertices
         pile = None
         for chain in range(self.plan.n):
@@ -330,8 +317,8 @@ class _OneByOne(_Player):
             if pile is None:
                 found = library.loaded()
                 pile = kept.KeptPile(found, self.graph, start, MAX_LIMIT)
-            elif number := pile.put(start, MAX_LIMIT):
-                raise refused(number, 0, self.graph)
+            else:
+                self._put(pile, start)
             self._play_on(pile, chain)
             _copy(chips, pile.chips())
             if self.watch.is_stopped:
@@ -339,16 +326,37 @@ class _OneByOne(_Player):
         if pile is not None:
             pile.free()
 
+    def _put(self, pile: kept.KeptPile, chips: array[int]) -> None:
+        if number := pile.put(chips, MAX_LIMIT):
+            raise refused(number, 0, self.graph)
+
+    def _begin(self, chain: int) -> None:
+        """Has `_drawn` begin with the first drop of a chain, by NumPy's twister, which is Python's."""
+        self.next = chain * self.plan.drops
+        self.is_over = False
+        self.draw = random.Random(self.seeds[chain])
+        numpy = import_optional("numpy")
+        if numpy:
+            self.twister = self.twister or numpy.random.RandomState(0)
+            state = self.draw.getstate()[1]
+            self.twister.set_state(("MT19937", state[:-1], state[-1]))
+
+    def _drawn(self, count: int) -> Any:
+        """The vertices of the next drops, as `random_drops` draws them."""
+        if self.twister is None:
+            return array("Q", self.plan.places.drawn(self.draw, count))
+        return self.plan.places.at(self.twister.random_sample(count))
+
     def _play_on(self, pile: kept.KeptPile, chain: int) -> None:
         """Plays a chain, some drops at a time."""
-        self.begin(chain)
+        self._begin(chain)
         drops = self.plan.drops
         for start in range(0, drops, PART):
             stop = min(start + PART, drops)
             rows = self.table.rows(chain, start, stop)
             made = self._drops(pile, self.plan.amounts[start:stop], rows)
             self.table.add(chain, rows, made)
-            if made < stop - start:
+            if made < stop - start or self.is_over:
                 break
 
     def _drops(self, pile: kept.KeptPile, amounts: array[int], rows: list[Any]) -> int:
@@ -360,61 +368,47 @@ class _OneByOne(_Player):
             nonlocal made
             if self.watch.is_stopped:
                 return False
-            number, told = pile.drops(where, many, columns)
-            if number:
-                raise refused(number, told, self.graph)
-            made += len(where)
-            self.watch.add(len(where))
-            return True
+            more = self._call(pile, where, many, columns)
+            made += more
+            self.watch.add(more)
+            return not self.is_over
 
-        at = self.drawn(len(amounts))
-        of_call = in_calls(call, at, amounts, rows, self.watch.drops_of_call)
+        at = self._drawn(len(amounts))
+        first = 1 if self.plan.until else self.watch.drops_of_call
+        of_call = in_calls(call, at, amounts, rows, first)
         self.watch.drops_of_call = of_call or self.watch.drops_of_call
         return made
 
+    def _call(self, pile: kept.KeptPile, at: Any, amounts: Any, columns: list[Any]) -> int:
+        """Makes drops up to the one with which the chain ends; how many. If more were made, they are taken back."""
+        before = pile.chips() if self.plan.until else None
+        number, told = fall(pile, self.room, at, amounts, columns)
+        if number:
+            raise refused(number, told, self.graph)
+        fired = self.room.taken() if self.room else ()
+        last = self.ends(columns, fired)
+        made = len(at) if last is None else last + 1
+        self.is_over = last is not None
+        self._note(columns, fired, made)
+        if before is not None and made < len(at):
+            self._put(pile, before)
+            pile.drops(at[:made], amounts[:made], [column[:made] for column in columns[:3]])
+            for column in columns:
+                _copy(column[made:], array("Q", bytes(8 * (len(at) - made))))
+        return made
 
-class _InStep(_Player):
-    """Plays a drop on each chain that goes on, and then the next, by NumPy."""
-
-    def play(self) -> None:
-        numpy = import_optional("numpy")
-        plan = self.plan
-        self.chips = numpy.frombuffer(self.table.chips, "u8").reshape(-1, self.graph.vertices)
-        self.made = numpy.frombuffer(self.table.made, "u8")
-        self.columns = [numpy.frombuffer(column, "u8") for column in self.table.columns]
-        ends = _ends(self.graph, plan.until)
-        drawn = numpy.array([self._drawn_of(chain) for chain in range(plan.n)])
-        live = numpy.arange(plan.n)
-        for drop in range(plan.drops):
-            if not len(live) or self.watch.is_stopped:
-                break
-            ended = ends(*self._drop(live, drop, drawn[live, drop]))
-            self.made[live] = drop + 1
-            self.watch.add(len(live))
-            live = live[~ended]
-
-    def _drawn_of(self, chain: int) -> Any:
-        self.begin(chain)
-        return self.drawn(self.plan.drops)
-
-    def _drop(self, live: Any, drop: int, vertices: Any) -> tuple[Any, Any]:
-        """Makes a drop on each of these chains; what fired, and how many chips each lost."""
-        numpy = import_optional("numpy")
-        sink = self.graph.sink
-        numbers = live * self.plan.drops + drop
-        after = self.chips[live]
-        after[numpy.arange(len(live)), vertices] += numpy.uint64(self.plan.amounts[drop])
-        fired = numpy.zeros_like(after)
-        stabilize(self.graph, after, fired, numpy.zeros(len(live), "u8"))
-        lost = after[:, sink] - self.chips[live, sink]
-        for column, values in zip(self.columns, (fired.sum(1), (fired > 0).sum(1), lost)):
-            column[numbers] = values
-        self.chips[live] = after
+    def _note(self, columns: list[Any], fired: Any, made: int) -> None:
+        """Takes what the first drops fired, if that is asked for."""
         if self.plan.fired:
-            row, vertex = numpy.nonzero(fired)
-            counts = fired[row, vertex].astype("i8")
-            self.table.fired.append((numbers[row], vertex.astype("i4"), counts))
-        return fired, lost
+            numbers = numbers_of(_numbers(columns[1])[:made], self.next)
+            self.table.fired.append((numbers, *(it[: len(numbers)] for it in fired)))
+        self.next += made
+
+
+def _numbers(column: Any) -> Any:
+    """A column as NumPy has it."""
+    numpy = import_optional("numpy")
+    return numpy.frombuffer(column, "i8")
 
 
 def stabilize(graph: Graph, chips: Any, fired: Any, stopped: Any) -> None:
@@ -424,26 +418,38 @@ def stabilize(graph: Graph, chips: Any, fired: Any, stopped: Any) -> None:
         raise ValueError("a vertex fired 2^40 times, and the chips are not stable then")
 
 
-def _ends(graph: Graph, until: str | None) -> Callable[[Any, Any], Any]:
-    """What tells of each chain, by what fired and what it lost, whether the drop was its last."""
+def _ends(graph: Graph, until: str | None) -> Callable[[list[Any], Any], int | None]:
+    """What tells of the columns of drops, and of what they fired, with which of them the chain ends."""
     if until is None:
-        return lambda fired, lost: lost != lost
+        return lambda columns, fired: None
     if until == "loss":
-        return lambda fired, lost: lost > 0
+        return lambda columns, fired: _first(_numbers(columns[2]) > 0)
     spans = spanning(graph)
-    return lambda fired, lost: spans(fired)
+    return lambda columns, fired: _first(spans(_numbers(columns[1]), fired[0]))
 
 
-def spanning(graph: Graph) -> Callable[[Any], Any]:
-    """What tells of each game whether the vertices that fired touch two opposite borders of the grid."""
+def _first(test: Any) -> int | None:
+    """The place of the first that is true."""
+    places = test.nonzero()[0]
+    return int(places[0]) if len(places) else None
+
+
+def spanning(graph: Graph) -> Callable[[Any, Any], Any]:
+    """What tells of each drop whether the vertices that fired touch two opposite borders of the grid: of drops that fired
+    so many, and these vertices."""
     if graph.shape is None:
         raise ValueError("the graph is no grid, so nothing spans it")
+    numpy = import_optional("numpy")
     height, width = graph.shape
     places = [divmod(square, width) for square in graph.squares]
-    borders = [_border(places, graph.sink, way, end) for way, end in _ends_of(height, width)]
+    is_there = numpy.zeros((4, graph.vertices))
+    for row, (way, end) in zip(is_there, _ends_of(height, width)):
+        row[_border(places, graph.sink, way, end)] = 1
 
-    def by(fired: Any) -> Any:
-        top, bottom, left, right = (fired[:, border].any(1) for border in borders)
+    def by(lengths: Any, vertices: Any) -> Any:
+        drop = numbers_of(lengths)
+        touched = [numpy.bincount(drop, row[vertices], len(lengths)) > 0 for row in is_there]
+        top, bottom, left, right = touched
         return top & bottom | left & right
 
     return by

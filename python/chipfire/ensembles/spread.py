@@ -64,13 +64,11 @@ class Spread:
                 raise
 
     def _by_threads(self, gaps: Sequence[Place], progress: Progress) -> None:
-        is_in_step = bool(self.plan.until or self.plan.fired)
-        of_thread = 1 if is_in_step and self.checkpoint is None else _OF_THREAD
         futures: Futures = {}
         with ThreadPoolExecutor(self.workers) as pool:
             for start, stop in gaps:
                 plan = self.plan.part(start, stop).begun()
-                for place in _parts(start, stop, of_thread * self.workers):
+                for place in _parts(start, stop, _OF_THREAD * self.workers):
                     part = plan.part(place[0] - start, place[1] - start)
                     rows = self.table.part(*place)
                     futures[pool.submit(play, part, rows, self.watch)] = place

@@ -1,0 +1,209 @@
+"""Which vertices drops fire, how often, and for how many rounds."""
+
+from __future__ import annotations
+
+from collections.abc import Sequence
+from typing import Any, NamedTuple
+
+from chipfire.backend import kept
+from chipfire.ensembles import archive
+from chipfire.graphs.graph import Graph
+from chipfire.utils import import_optional
+
+#: How many vertices that fire a call has room for at least.
+_ROOM = 2**17
+
+
+class Firings(NamedTuple):
+    """Which vertices each drop fired, as the rows of a sparse matrix.
+
+    The entries of drop d are those from ``offsets[d]`` to ``offsets[d + 1]``. Those of drop d of chain k have the number
+    ``k * drops + d`` in place of d.
+
+    Attributes
+    ----------
+    offsets : array of shape (n + 1,)
+        Where the entries of each of n drops begin.
+    vertices : array
+        The names of the vertices that fired, of each drop in the order of their numbers. Names that are no whole
+        numbers stand in an array of objects.
+    counts : array
+        How often they fired.
+
+    See Also
+    --------
+    chains, drops
+
+    Notes
+    -----
+    A vertex that fires takes 12 bytes, or 16 in a graph with names, and up to 60 before all are in order.
+
+    Proved: which vertices fired, and the counts. Not proved: that Python passes them on, and puts them in order.
+
+    Examples
+    --------
+    >>> found = chipfire.drops(chipfire.path(2), {0: 1, 1: 1}, [0, 1], fired=True).fired
+    >>> found.offsets.tolist(), found.vertices.tolist(), found.counts.tolist()
+    ([0, 2, 2], [0, 1], [1, 1])
+    """
+
+    offsets: Any
+    vertices: Any
+    counts: Any
+
+    def to_scipy(self, graph: Graph) -> Any:
+        """The counts as a sparse matrix of SciPy (`csr_array`), with a row for each drop and a column for each vertex, by
+        its number. Without SciPy that is an ImportError."""
+        sparse = import_optional("scipy.sparse", "a sparse matrix is one of SciPy")
+        shape = (len(self.offsets) - 1, graph.vertices)
+        return sparse.csr_array((self.counts, self._numbers(graph), self.offsets), shape)
+
+    def radii(self, graph: Graph, vertices: Any) -> tuple[Any, Any]:
+        """Two radii of each drop on a grid, in the lengths of an edge, and 0 if nothing fired. The radius is the greatest
+        distance of a vertex that fired from that on which the drop fell; `vertices` are those. The gyration radius is the
+        root of the mean square distance of the vertices that fired from their centre."""
+        numpy = import_optional("numpy")
+        places = _places(numpy, graph)
+        origins = places[[graph.number(name) for name in vertices]]
+        if len(origins) != len(self.offsets) - 1:
+            raise ValueError(
+                f"there are {len(self.offsets) - 1} drops, and {len(origins)} vertices"
+            )
+        lengths = numpy.diff(self.offsets)
+        drop = numpy.repeat(numpy.arange(len(lengths)), lengths)
+        fired = places[self._numbers(graph)]
+        squares = ((fired - origins[drop]) ** 2).sum(1)
+        farthest = numpy.zeros(len(lengths), "i8")
+        numpy.maximum.at(farthest, drop, squares)
+        area = numpy.maximum(lengths, 1)
+        sums = [numpy.bincount(drop, fired[:, way], len(lengths)) for way in (0, 1)]
+        moment = numpy.bincount(drop, (fired**2).sum(1), len(lengths))
+        about_centre = moment / area - sum((it / area) ** 2 for it in sums)
+        return numpy.sqrt(farthest), numpy.sqrt(numpy.maximum(about_centre, 0))
+
+    def _numbers(self, graph: Graph) -> Any:
+        """The numbers of the vertices that fired."""
+        if isinstance(graph.names, range):
+            return self.vertices
+        numpy = import_optional("numpy")
+        numbers = {name: number for number, name in enumerate(graph.names)}
+        return numpy.array([numbers[name] for name in self.vertices.tolist()], "i8")
+
+
+def _places(numpy: Any, graph: Graph) -> Any:
+    """The row and the column of each vertex of a grid, by its number."""
+    if graph.shape is None:
+        raise ValueError("the graph is no grid, so nothing in it has a radius")
+    squares = numpy.array([*graph.squares], "i8")
+    places = numpy.zeros((graph.vertices, 2), "i8")
+    places[: len(squares)] = numpy.stack(numpy.divmod(squares, graph.shape[1]), 1)
+    return places
+
+
+class Room:
+    """Memory in which the library writes what drops fire, and what it wrote: vertices, and how often each fired."""
+
+    def __init__(self, vertices: int) -> None:
+        numpy = import_optional("numpy", "what fired is told by NumPy")
+        size = max(_ROOM, 2 * vertices)
+        self._vertices, self._times = numpy.empty(size, "u8"), numpy.empty(size, "u8")
+        self._pieces: list[tuple[Any, Any]] = []
+
+    def drops(
+        self, pile: kept.KeptPile, at: Any, amounts: Any, columns: Sequence[Any]
+    ) -> tuple[int, int]:
+        """Drops as `KeptPile.measure` makes them, in as many calls as there is room for."""
+        numpy = import_optional("numpy")
+        made = 0
+        while True:
+            ends = numpy.zeros(len(at) - made, "u8")
+            where, many, *rest = (it[made:] for it in (at, amounts, *columns))
+            number, place = pile.measure(where, many, rest, (ends, self._vertices, self._times))
+            if number not in (0, kept.STOPPED):
+                return number, made + place
+            if place:
+                self._take(int(ends[place - 1]))
+            made += place
+            if number or made == len(at):
+                return number, made
+
+    def _take(self, written: int) -> None:
+        vertices, times = self._vertices[:written], self._times[:written]
+        self._pieces.append((vertices.astype("i4"), times.astype("i8")))
+
+    def taken(self) -> tuple[Any, Any]:
+        """What was written since it was taken the last time."""
+        numpy = import_optional("numpy")
+        empty = (numpy.zeros(0, "i4"), numpy.zeros(0, "i8"))
+        vertices, times = map(numpy.concatenate, zip(empty, *self._pieces))
+        self._pieces.clear()
+        return vertices, times
+
+
+def fall(
+    pile: kept.KeptPile, room: Room | None, at: Any, amounts: Any, columns: Sequence[Any]
+) -> tuple[int, int]:
+    """Drops on a pile, whose numbers go into the columns, the durations too if there is a fourth, and what they fire into the
+    room, if there is one: the number of a fault, or 0, and how many were made, or the place of the fault.
+    """
+    if room:
+        return room.drops(pile, at, amounts, columns)
+    if len(columns) == 3:
+        return pile.drops(at, amounts, [*columns])
+    return pile.measure(at, amounts, columns)
+
+
+def numbers_of(lengths: Any, first: int = 0) -> Any:
+    """The number of its drop beside each vertex that fires, of drops that fire so many, by their numbers from `first` on."""
+    numpy = import_optional("numpy")
+    return numpy.repeat(numpy.arange(first, first + len(lengths)), lengths)
+
+
+def firings(graph: Graph, count: int, pieces: Sequence[Any]) -> Firings:
+    """What `count` drops fire, of pieces with the numbers of drops, vertices, and how often each fired, in any order."""
+    numpy = import_optional("numpy")
+    drops, vertices, counts = map(numpy.concatenate, zip(*(pieces or [[numpy.zeros(0, "i8")] * 3])))
+    order = numpy.lexsort((vertices, drops))
+    fired_by_drop = numpy.bincount(drops, minlength=count)
+    offsets = numpy.concatenate([[0], numpy.cumsum(fired_by_drop)])
+    return Firings(offsets, _named(numpy, graph, vertices[order]), counts[order])
+
+
+def _named(numpy: Any, graph: Graph, vertices: Any) -> Any:
+    """The names of vertices that fired."""
+    if isinstance(graph.names, range):
+        return vertices
+    names = numpy.empty(graph.vertices, object)
+    for vertex, name in enumerate(graph.names):
+        names[vertex] = name
+    names[graph.sink] = 0  # (it never fires)
+    is_whole = all(type(name) is int and abs(name) < 2**63 for name in names)
+    return (names.astype("i8") if is_whole else names)[vertices]
+
+
+def stored(fired: Firings) -> tuple[list[Any] | None, dict[str, Any]]:
+    """What fired as a file has it: names of vertices, if they are no whole numbers, and arrays."""
+    numpy = archive.numpy_of_files()
+    vertices = numpy.asarray(fired.vertices)
+    if vertices.dtype != object:
+        return None, fired._replace(vertices=vertices)._asdict()
+    numbers = {name: it for it, name in enumerate(dict.fromkeys(vertices.tolist()))}
+    places = numpy.array([numbers[it] for it in vertices.tolist()], "i8")
+    return archive.plain_names(numbers), fired._replace(vertices=places)._asdict()
+
+
+def firings_of(names: Sequence[Any] | None, arrays: dict[str, Any], count: int) -> Firings | None:
+    """What `count` drops fired, of which `stored` made these names and arrays; None if there is nothing of it."""
+    if "vertices" not in arrays:
+        return None
+    numpy = archive.numpy_of_files()
+    offsets, counts = (archive.whole(arrays[name]) for name in ("offsets", "counts"))
+    vertices = arrays["vertices"]
+    if len(offsets) != count + 1 or not len(counts) == len(vertices) == offsets[-1]:
+        raise ValueError("what fired is not that of these drops")
+    if names is not None:
+        found = numpy.empty(len(names), object)
+        for place, name in enumerate(names):
+            found[place] = archive.value_of(name)
+        vertices = found[archive.whole(vertices)]
+    return Firings(offsets, vertices, counts)

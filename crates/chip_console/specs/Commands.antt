@@ -1,13 +1,14 @@
 -- What a command answers to its arguments: that one of its files could not be opened, or what its engine answers, by the
 -- limits and options that are asked for, of the bytes that the files of these arguments give.
 use Rattle.std.specs.Prelude.{◌≡◌, ◌⊎◌, ◌∷◌, [], ℕ, List, Contains, IsErr, IsOk, IsSome, Option, Some}
-use Rattle.std.specs.Prelude.{None, MatchOption, Result, Err, is_some}
+use Rattle.std.specs.Prelude.{None, MatchOption, Result, Err, is_some, option_map}
 use Rattle.chip_arguments.specs.declared.arguments.FileArgument.{FileArgument}
 use Rattle.chip_arguments.specs.declared.arguments.GameArguments.{GameArguments}
 use Rattle.chip_arguments.specs.declared.arguments.GraphArguments.{GraphArguments}
 use Rattle.chip_arguments.specs.declared.arguments.PlainArguments.{PlainArguments}
 use Rattle.chip_arguments.specs.declared.arguments.AvalancheArguments.{AvalancheArguments}
 use Rattle.chip_arguments.specs.declared.arguments.SimulationArguments.{SimulationArguments}
+use Rattle.chip_arguments.specs.declared.arguments.RunArguments.{RunArguments}
 use Rattle.chip_arguments.specs.declared.arguments.ReplayArguments.{ReplayArguments}
 use Rattle.chip_arguments.specs.declared.arguments.VerifyArguments.{VerifyArguments}
 use Rattle.chip_arguments.specs.declared.arguments.JudgeArguments.{JudgeArguments}
@@ -24,7 +25,8 @@ use Rattle.chip_engine.specs.ResumeCommand.{ResumeAnswers}
 use Rattle.chip_engine.specs.SimulateCommand.{SimulateAnswers}
 use Rattle.chip_engine.specs.VerifyCommand.{VerifyAnswers}
 use Rattle.chip_engine.specs.JudgeCommand.{JudgeAnswers}
-use Rattle.chip_console.specs.Options.{limits_of, judge_options, replay_options, simulate_options}
+use Rattle.chip_run.specs.RunCommand.{RunReads}
+use Rattle.chip_console.specs.Options.{limits_of, judge_options, replay_options, run_options, simulate_options}
 
 -- the bytes that a file of an argument gives, where they are known
 abbrev pub Known : Type 0
@@ -85,6 +87,30 @@ SimulatesFiles known asked old new result = MatchOption (simulate_options asked)
     (λ options.
     IsUnopened (asked.game.graph.number ∷ asked.game.start.number ∷ asked.schedule.number ∷ []) old new result
     ⊎ SimulateAnswers (known asked.game.graph) (known asked.game.start) (known asked.schedule) options old new result)
+
+-- the file of an option could not be opened
+abbrev pub IsUnopenedOption : Option FileArgument → Fault → Type 0
+IsUnopenedOption None fault = ⊥
+IsUnopenedOption (Some file) fault = fault ≡ Open file.number
+
+-- a file could not be opened, that of the trace too, and nothing is written
+abbrev pub RunsNothing : RunArguments → Option (List ℕ) → Option (List ℕ) → Result Ended Fault → Type 0
+RunsNothing asked old new result =
+    IsUnopened (asked.game.graph.number ∷ asked.game.start.number ∷ []) old new result
+    ⊎ ((fault : Fault) × (IsUnopenedOption asked.feed fault ⊎ IsUnopenedOption asked.trace fault)
+    × (result ≡ Err fault) × (new ≡ old))
+
+-- the engine answers, with a trace if one is asked for
+abbrev pub RunsAll : Known → RunArguments → Option (List ℕ) → Option (List ℕ) → Result Ended Fault → Type 0
+RunsAll known asked old new result =
+    let options = run_options asked in
+    (before : Option (Option (List ℕ))) × (after : Option (Option (List ℕ))) × (is_some before ≡ is_some asked.trace)
+    × RunReads options.limits options.sharing (known asked.game.graph) (known asked.game.start)
+    (option_map known asked.feed) options.limit options.plan (record { report = old; trace = before })
+    (record { report = new; trace = after }) result
+
+abbrev pub RunsFiles : Known → RunArguments → Option (List ℕ) → Option (List ℕ) → Result Ended Fault → Type 0
+RunsFiles known asked old new result = RunsNothing asked old new result ⊎ RunsAll known asked old new result
 
 abbrev pub ReplaysFiles : Known → ReplayArguments → Option (List ℕ) → Option (List ℕ) → Result Ended Fault → Type 0
 ReplaysFiles known asked old new result =

@@ -1,15 +1,18 @@
 -- What the arguments of a command ask of its engine.
-use Rattle.std.specs.Prelude.{Bool, if◌then◌else◌, Option, option_map}
+use Rattle.std.specs.Prelude.{Bool, if◌then◌else◌, Option, None, option_map}
 use Rattle.chip_graph.specs.Limits.{SizeLimits, standard, large}
 use Rattle.chip_link.specs.Rings.{ring_of}
 use Rattle.chip_arguments.specs.declared.arguments.GameArguments.{GameArguments}
 use Rattle.chip_arguments.specs.declared.arguments.SimulationArguments.{SimulationArguments}
+use Rattle.chip_arguments.specs.declared.arguments.RunArguments.{RunArguments}
 use Rattle.chip_arguments.specs.declared.arguments.ReplayArguments.{ReplayArguments}
 use Rattle.chip_arguments.specs.declared.arguments.JudgeArguments.{JudgeArguments}
 use Rattle.chip_engine.specs.declared.judge.JudgeOptions.{JudgeOptions}
 use Rattle.chip_command.specs.declared.options.PlayOptions.{PlayOptions}
 use Rattle.chip_engine.specs.declared.replay.ReplayOptions.{ReplayOptions}
 use Rattle.chip_engine.specs.declared.simulate.SimulateOptions.{SimulateOptions}
+use Rattle.chip_crew.specs.declared.plan.Sharing.TheVariants.{Dealt, Queue}
+use Rattle.chip_run.specs.declared.running.RunOptions.{RunOptions}
 
 -- how large a graph and the files of its game may be
 abbrev pub limits_of : Bool → SizeLimits
@@ -41,3 +44,18 @@ simulate_options asked = option_map (λ ring. record {
   books = asked.books;
   fed = asked.fed;
 }) (ring_of asked.ring)
+
+-- how threads play a game
+abbrev pub run_options : RunArguments → RunOptions
+run_options asked = record {
+  limits = limits_of asked.game.large;
+  limit = asked.game.limit;
+  plan = record {
+    workers = asked.workers;
+    ring = asked.ring;
+    turns = asked.turns;
+    trace_rows = asked.trace_rows;
+    seal = None;
+  };
+  sharing = if asked.dealt then Dealt else Queue;
+}

@@ -246,7 +246,7 @@ impl<R: Files<File = File> + Input + Clock + Eprint + AllocGlobal> Console<'_, R
 }
 
 /// Opens the graph of a game, and then what the game starts with.
-pub fn open_game<O: Opener>(
+pub(crate) fn open_game<O: Opener>(
     files: &O,
     game: &GameArguments<'_>,
 ) -> Result<(O::File, O::File), Fault>
@@ -304,7 +304,7 @@ fn play_options(game: &GameArguments<'_>) -> PlayOptions
 }
 
 /// How large a graph and the files of its game may be.
-pub fn limits_of(is_large: bool) -> Limits
+pub(crate) fn limits_of(is_large: bool) -> Limits
     ensures { result ≡ limits_of is_large }
 {
     if is_large {

@@ -5,6 +5,7 @@
 
 use crate::console::Console;
 use crate::terminal::say_waits;
+use chip_crew::Gate;
 use chip_engine::{ClaimWatch, Waits};
 use chip_fire::{GivenUse, Play, Search, Watch};
 use chip_graph::Game;
@@ -122,6 +123,39 @@ impl<R: Clock + Eprint> ClaimWatch for ClaimProgress<'_, R> {
     fn waits(&mut self, waits: &Waits) {
         if say_waits(&mut self.waits, waits).is_err() {
             self.waits.clear();
+        }
+    }
+}
+
+/// Lets every worker pass, and writes how many turns worker 0 has made and how many of the root's messages are not
+/// acknowledged.
+#[derive(Drop)]
+pub struct TurnProgress<'a, R: Clock + Eprint> {
+    console: &'a Console<'a, R>,
+}
+
+impl<'a, R: Clock + Eprint> TurnProgress<'a, R> {
+    /// Before the first turn.
+    pub fn start(console: &'a Console<'a, R>) -> TurnProgress<'a, R> {
+        TurnProgress { console }
+    }
+}
+
+impl<R: Clock + Eprint> Gate for TurnProgress<'_, R> {
+    ghost use Rattle.std.specs.Prelude.{◌≡◌, true};
+
+    ghost may_answer = { λ _ _ _ answer. answer ≡ true };
+
+    fn pass(&self, _worker: u64, _turn: u64) -> bool {
+        true
+    }
+
+    fn polled(&self, turn: u64, deficit: u64) {
+        if self.console.is_due() {
+            let turns = turn.saturating_add(1);
+            let _ = eprintln!(self.console.rt;
+                "chipfire: progress: {turns} turns of worker 0, the root's deficit is {deficit}"
+            );
         }
     }
 }

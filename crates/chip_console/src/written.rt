@@ -1,7 +1,8 @@
 //! The files of options into which a command writes.
 
-ghost use Rattle.std.specs.Prelude.{◌≡◌, IfOk, IsSome, OnErr, is_some};
-ghost use Rattle.chip_console.specs.Commands.{IsPut};
+ghost use Rattle.std.specs.Prelude.{◌≡◌, IfErr, IfOk, IsSome, OnErr, is_some};
+ghost use Rattle.chip_command.specs.declared.fault.Fault.TheVariants.{Open};
+ghost use Rattle.chip_console.specs.Commands.{IsPut, IsUnopenedOption};
 
 use crate::console::{Console, Opened, above_streams, is_same};
 use chip_arguments::FileArgument;
@@ -155,11 +156,14 @@ impl<R: Files<File = File>> ReportFile<'_, R> {
 
 impl<R: Files<File = File> + Input + Clock + Eprint + AllocGlobal> Console<'_, R> {
     /// Creates the file of `--trace`, if there is one, or empties it.
-    pub fn create<I: Opened>(
+    pub(crate) fn create<I: Opened>(
         &self,
         file: &Option<FileArgument<'_>>,
         inputs: &[&I],
-    ) -> Result<Option<File>, Fault> {
+    ) -> Result<Option<File>, Fault>
+        ensures opened { IfOk result (λ opened. is_some opened ≡ is_some file.now) }
+        ensures refused { IfErr result (IsUnopenedOption file.now) }
+    {
         let Some(file) = file else {
             return Ok(None);
         };
@@ -184,7 +188,9 @@ impl<R: Files<File = File> + Input + Clock + Eprint + AllocGlobal> Console<'_, R
     }
 
     /// Refuses a file to be written that is one of these inputs, or a file into which a standard stream goes.
-    fn refuse_used<I: Opened>(&self, file: &FileArgument<'_>, inputs: &[&I]) -> Result<(), Fault> {
+    fn refuse_used<I: Opened>(&self, file: &FileArgument<'_>, inputs: &[&I]) -> Result<(), Fault>
+        ensures { IfErr result (λ fault. fault ≡ Open file.now.number) }
+    {
         self.note(file);
         let Ok(found) = fs::metadata(self.rt, file.path) else {
             return Ok(());
@@ -203,10 +209,13 @@ impl<R: Files<File = File> + Input + Clock + Eprint + AllocGlobal> Console<'_, R
     }
 
     /// Creates a file, or empties it.
-    fn empty(&self, file: &FileArgument<'_>) -> Result<File, Fault> {
-        fs::create(self.rt, file.path)
-            .and_then(above_streams)
-            .map_err(|_| Fault::Open(file.number))
+    fn empty(&self, file: &FileArgument<'_>) -> Result<File, Fault>
+        ensures { IfErr result (λ fault. fault ≡ Open file.now.number) }
+    {
+        match fs::create(self.rt, file.path).and_then(above_streams) {
+            Ok(created) => Ok(created),
+            Err(_) => Err(Fault::Open(file.number)),
+        }
     }
 }
 

@@ -1,23 +1,21 @@
 //! chipfire: a chip-firing machine that is proved right.
 //!
 //! Each command is an engine, of `chip_engine` or of `chip_run`, whose contract goes from the bytes that it reads to the
-//! bytes that it writes. The program reads the arguments, opens the files that they name and calls the engine.
+//! bytes that it writes. The program reads the arguments, and `chip_console` opens the files that they name and calls the
+//! engine.
 #![tactic(auto)]
 
-ghost use Rattle.std.specs.Prelude.{◌≡◌, if◌then◌else◌, None};
+ghost use Rattle.std.specs.Prelude.{◌≡◌};
 ghost use Rattle.std.specs.Process.{exit_status};
-ghost use Rattle.chip_console.specs.Options.{limits_of};
-ghost use Rattle.chip_crew.specs.declared.plan.Sharing.TheVariants.{Dealt, Queue};
 ghost use Rattle.chipfire.specs.ExitStatus.{exit_status_of};
 
-use chip_arguments::{ArgumentsFault, Request, RunArguments, limits, parse};
+use chip_arguments::{ArgumentsFault, Request, limits, parse};
 use chip_command::{Ended, Fault, Status, conclude, explanations, rules};
-use chip_console::{Console, Opener, limits_of, open_game, say_no_text, say_unexpected, tell_more};
-use chip_crew::{MAX_TRACE_ROWS, MAX_TURNS, MAX_WORKERS, Plan, Sharing};
+use chip_console::{Console, say_no_text, say_unexpected, tell_more};
+use chip_crew::{MAX_TRACE_ROWS, MAX_TURNS, MAX_WORKERS};
 use chip_engine::{explain_engine, plain_engine};
 use chip_graph::MAX_LIMIT;
 use chip_link::MAX_RING;
-use chip_run::{RunOptions, run_engine_with};
 use std::fs::File;
 use std::io::{Input, IsTerminal};
 use std::process::ExitCode;
@@ -25,9 +23,6 @@ use std::rt::{Clock, Env, Files};
 use std::sync::Wait;
 use std::thread::Threads;
 use std::{env, io};
-use turns::TurnProgress;
-
-mod turns;
 
 // What the arguments may ask for is what the engines take.
 const _: () = prove!(limits::MAX_LIMIT == MAX_LIMIT);
@@ -147,7 +142,7 @@ fn serve<
         Request::Recurrent(asked) => console.represent(&console, asked, output),
         Request::Identity(asked) => console.identify(&console, asked, output),
         Request::Simulate(asked) => console.simulate(&console, asked, output),
-        Request::Run(asked) => play_on_threads(console, asked, output),
+        Request::Run(asked) => console.run(&console, asked, output),
         Request::Replay(asked) => console.replay(&console, asked, output),
         Request::Resume(asked) => console.resume(&console, asked, output),
         Request::Verify(asked) => console.verify(&console, asked, output),
@@ -160,66 +155,6 @@ fn serve<
             output,
         ),
         Request::ExplainRule(number) => explain_engine(alloc, "rule", &rules(), *number, output),
-    }
-}
-
-/// Plays a game on threads.
-fn play_on_threads<
-    R: Files<File = File> + Input + Clock + Eprint + AllocGlobal + Threads + Wait + Sync,
-    W: io::Write,
->(console: &Console<'_, R>, asked: &RunArguments<'_>, output: &mut W) -> Result<Ended, Fault> {
-    let (mut graph, mut chips) = open_game(&console, &asked.game)?;
-    let mut feed = match &asked.feed {
-        Some(file) => Some((&console).open(file)?),
-        None => None,
-    };
-    let mut trace = match &feed {
-        Some(feed) => console.create(&asked.trace, &[&graph, &chips, feed])?,
-        None => console.create(&asked.trace, &[&graph, &chips])?,
-    };
-    run_engine_with(
-        console.rt,
-        console.rt.alloc(),
-        &mut graph,
-        &mut chips,
-        feed.as_mut(),
-        options_of(asked),
-        &TurnProgress::start(console),
-        &mut trace,
-        output,
-    )
-}
-
-/// How the threads play.
-fn options_of(asked: &RunArguments<'_>) -> RunOptions
-    ensures { result ≡ record {
-      limits = limits_of asked.now.game.large;
-      limit = asked.now.game.limit;
-      plan = record {
-        workers = asked.now.workers;
-        ring = asked.now.ring;
-        turns = asked.now.turns;
-        trace_rows = asked.now.trace_rows;
-        seal = None;
-      };
-      sharing = if asked.now.dealt then Dealt else Queue;
-    } }
-{
-    RunOptions {
-        limits: limits_of(asked.game.large),
-        limit: asked.game.limit,
-        plan: Plan {
-            workers: asked.workers,
-            ring: asked.ring,
-            turns: asked.turns,
-            trace_rows: asked.trace_rows,
-            seal: None,
-        },
-        sharing: if asked.dealt {
-            Sharing::Dealt
-        } else {
-            Sharing::Queue
-        },
     }
 }
 

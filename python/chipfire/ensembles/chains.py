@@ -334,7 +334,7 @@ def chains(
     n = as_int(n, "the number of chains", 1)
     drops = as_int(drops, "the number of drops")
     is_counted = _is_counted(collect, until or fired or durations or checkpoint)
-    of_drops = 0 if is_counted else (32 if durations else 24) * drops
+    of_drops = 0 if is_counted else (24 + 8 * bool(durations)) * drops
     require_memory(n * (of_drops + 16 * known.vertices), f"{n:,} chains of {drops:,} drops")
     _refuse_options(until, fired, workers, executor)
     if checkpoint is not None and (seed is None or hasattr(seed, "bit_generator")):

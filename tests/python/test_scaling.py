@@ -42,7 +42,7 @@ class Moments(unittest.TestCase):
     def test_the_means_are_those_of_all_drops(self):
         rows, made = [[1, 2, 3, 0], [4, 0, 0, 0], [7, 7, 1, 2]], [3, 2, 4]
         there = [value for row, count in zip(rows, made) for value in row[:count]]
-        for of, part in [("size", lambda it: it), ("extent", lambda it: it // 2), ("lost", lambda it: 0)]:
+        for of, part in [("size", lambda it: it), ("area", lambda it: it // 2), ("lost", lambda it: 0)]:
             found = chipfire.moments(made_chains(rows, made), of, orders=(1, 2, 0.5))
             for order, mean in zip(found.orders.tolist(), found.means.tolist()):
                 self.assertAlmostEqual(mean, sum(part(it) ** order for it in there) / len(there), 12)
@@ -59,6 +59,7 @@ class Moments(unittest.TestCase):
 
     def test_what_is_refused(self):
         for words, given, options in [("two chains", made_chains([[1]]), {}), ("no 'radius'", made_chains([[1], [2]]), {"of": "radius"}),
+                                      ("no 'duration'", made_chains([[1], [2]]), {"of": "duration"}),
                                       ("below 2", made_chains([[1], [2]]), {"resamples": 1}),
                                       ("no drop", made_chains([[1], [2]], [0, 0]), {})]:
             self.assertRaisesRegex(ValueError, words, chipfire.moments, given, **options)

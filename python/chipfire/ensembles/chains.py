@@ -15,9 +15,10 @@ from chipfire.backend.finding import ProgramNotFound
 from chipfire.configurations.configuration import Chips
 from chipfire.ensembles import archive
 from chipfire.ensembles.checkpoint import opened
+from chipfire.ensembles.drops import COLUMNS
 from chipfire.ensembles.firings import Firings, firings, firings_of, stored
 from chipfire.ensembles.histograms import following, Histograms, joined, sums_by_name
-from chipfire.ensembles.player import COLUMNS, places_of, Plan, spanning, stabilize, table_of
+from chipfire.ensembles.player import places_of, Plan, spanning, stabilize, table_of
 from chipfire.ensembles.power_law import sizes_figure
 from chipfire.ensembles.spread import Spread
 from chipfire.graphs.graph import Graph

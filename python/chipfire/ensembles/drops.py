@@ -124,10 +124,8 @@ class Drops(WithArea):
         return self.report.configuration
 
     def histogram(self, of: str = "size") -> dict[int, int]:
-        """How many drops have each size that occurs, ascending; or each `extent`, `lost`, or `duration`."""
-        if of not in (*COLUMNS, "duration") or getattr(self, of) is None:
-            raise ValueError(f"a drop has a 'size', an 'extent' and 'lost', and no {of!r}")
-        return dict(sorted(Counter(getattr(self, of).tolist()).items()))
+        """How many drops have each size that occurs, ascending; or each `area`, `lost`, or `duration`."""
+        return dict(sorted(Counter(column_of(self, of).tolist()).items()))
 
     def to_dataframe(self) -> Any:
         """The columns `size`, `extent`, `lost` and, if it is there, `duration` as a DataFrame of pandas, of 64 bits. Its
@@ -181,6 +179,14 @@ def _drops_of(said: dict[str, Any], arrays: dict[str, Any]) -> Drops:
     report = Report(chips, fired, over, sealed, prior, graph)
     row_ends = firings_of(said.get("names"), arrays, len(size))
     return Drops(size, extent, lost, report, row_ends, duration)
+
+
+def column_of(found: Any, of: str) -> Any:
+    """A column of what drops, chains or histograms found. A `duration` is there if it was asked for."""
+    column = getattr(found, of, None) if of in (*COLUMNS, "area", "duration") else None
+    if column is None:
+        raise ValueError(f"a drop has a 'size', an 'area' ('extent') and 'lost', and no {of!r}")
+    return column
 
 
 def names_of(vertices: Any, what: str) -> Iterable[Any]:

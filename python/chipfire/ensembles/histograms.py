@@ -9,7 +9,8 @@ from dataclasses import dataclass
 from typing import Any
 
 from chipfire.ensembles import archive
-from chipfire.ensembles.player import COLUMNS, PAIRS
+from chipfire.ensembles.drops import COLUMNS, column_of
+from chipfire.ensembles.player import PAIRS
 from chipfire.utils import as_int, FileName, import_optional, WithArea
 
 
@@ -99,11 +100,9 @@ class Histograms(WithArea):
         return archive.load(file, "Histograms", _histograms_of)
 
     def total(self, of: str = "size") -> dict[int, int]:
-        """How many drops of all chains have each size that occurs, ascending; or each `extent`, or `lost`."""
-        if of not in COLUMNS:
-            raise ValueError(f"a drop has a 'size', an 'extent' and 'lost', and no {of!r}")
+        """How many drops of all chains have each size that occurs, ascending; or each `area`, or `lost`."""
         counts: Counter[int] = Counter()
-        for its in getattr(self, of):
+        for its in column_of(self, of):
             counts.update(its)
         return dict(sorted(counts.items()))
 

@@ -15,14 +15,11 @@ from typing import Any, Union
 
 from chipfire.backend import kept, library
 from chipfire.backend.process import refused
-from chipfire.ensembles.drops import in_calls, names_of, PART
+from chipfire.ensembles.drops import COLUMNS, in_calls, names_of, PART
 from chipfire.ensembles.firings import fall, numbers_of, Room
 from chipfire.ensembles.wilson import recurrent_rows
 from chipfire.graphs.graph import Graph
 from chipfire.utils import import_optional, MAX_LIMIT
-
-#: The columns that have a number for each drop.
-COLUMNS = ("size", "extent", "lost")
 
 
 @dataclass(frozen=True)

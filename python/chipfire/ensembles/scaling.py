@@ -8,8 +8,8 @@ from dataclasses import dataclass
 from typing import Any, NamedTuple
 
 from chipfire.ensembles.chains import Chains
+from chipfire.ensembles.drops import column_of
 from chipfire.ensembles.histograms import Histograms
-from chipfire.ensembles.player import COLUMNS
 from chipfire.ensembles.power_law import counted
 from chipfire.utils import as_int, import_optional
 
@@ -62,7 +62,7 @@ def moments(
     ----------
     chains : Chains or Histograms
         The chains, two or more.
-    of : {"size", "extent", "lost"}, optional
+    of : {"size", "area", "lost", "duration"}, optional
         The column.
     orders : sequence of float, optional
         The powers whose means are taken.
@@ -105,15 +105,14 @@ def moments(
     [1.0]
     """
     numpy = import_optional("numpy", "moments are found by NumPy")
-    if of not in COLUMNS:
-        raise ValueError(f"a drop has a 'size', an 'extent' and 'lost', and no {of!r}")
+    rows = column_of(chains, of)
     if len(chains.seeds) < 2:
         raise ValueError("errors by the bootstrap take two chains at least")
     resamples = as_int(resamples, "the number of resamples", 2)
     made = numpy.asarray(chains.made, "f8")
     if not made.sum():
         raise ValueError("no drop was made")
-    sums = numpy.array([_sums(numpy, chains, of, made, order) for order in orders])
+    sums = numpy.array([_sums(numpy, rows, made, order) for order in orders])
     draw = numpy.random.default_rng(seed)
     times = draw.multinomial(len(made), [1 / len(made)] * len(made), resamples)
     weights = times @ made
@@ -121,10 +120,9 @@ def moments(
     return Moments(numpy.array(orders), sums.sum(1) / made.sum(), drawn.std(1, ddof=1))
 
 
-def _sums(numpy: Any, chains: Chains | Histograms, of: str, made: Any, order: float) -> Any:
+def _sums(numpy: Any, rows: Any, made: Any, order: float) -> Any:
     """The sum of a power of a column over the drops of each chain."""
-    rows = getattr(chains, of)
-    if isinstance(chains, Histograms):
+    if isinstance(rows, list):  # (of histograms)
         return [math.fsum(count * size**order for size, count in its.items()) for its in rows]
     rows = numpy.asarray(rows, "f8")
     is_made = numpy.arange(rows.shape[1]) < made[:, None]

@@ -133,8 +133,9 @@ class NotMade(made.Test):
 
     def test_where_the_program_for_aarch64_does_not_start(self):
         top = clone()
-        script = made.read(f"{top}/tools/aarch64.py").decode().replace("bytes(1)", "bytes(1) * file.truncate(99)")
-        made.write(f"{top}/tools/aarch64.py", script.encode())
+        script = made.read(f"{top}/tools/aarch64.py").decode()
+        self.assertEqual(script.count("file.write("), 1)
+        made.write(f"{top}/tools/aarch64.py", script.replace("file.write(", "file.truncate(99) and file.write(").encode())
         made.commit(top)
         self.refuses(top, "the program for aarch64 does not start by qemu-aarch64")
 

@@ -2,14 +2,12 @@
 -- Drops on a pile: how they are played, and their avalanches.
 use Rattle.std.proofs.Common.{◌≡◌, ℕ, ◌+◌, ◌-◌, ◌<◌, ◌≤◌, cond, eqb, min, List, [], ◌∷◌, ◌++◌, length, map, sum, get_or, set}
 use Rattle.std.proofs.Common.{slice_index, refl, sym, ap, ◌∙◌, subst, arith, get_or-set_same, get_or-set_other, ◌≢◌}
-use Rattle.std.proofs.Common.{length-set, mul-zero, zero, suc, ◌^◌, Bool, true, false, take, mul-le-mul_right}
-use Rattle.std.proofs.Common.{true≢false, Contains}
+use Rattle.std.proofs.Common.{length-set, mul-zero, zero, suc, ◌^◌, true, take, mul-le-mul_right}
+use Rattle.std.proofs.Common.{Contains}
 use Rattle.std.proofs.lemmas.Bool.Decides.{nat_tests}
 use Rattle.std.proofs.lemmas.List.Sums.{sum_by-cons}
-use Rattle.std.proofs.lemmas.List.{get_or_past, get_or_read, take_more_set, take_all, ext_get_or}
-use Rattle.std.proofs.lemmas.List.Elements.{All-nil, All-cons, All-tail, All-from_get_or, Contains-get_or}
-use Rattle.std.proofs.lemmas.List.Elements.{Contains-push}
-use mir.Val.{bool_byte}
+use Rattle.std.proofs.lemmas.List.{get_or_past, get_or_read, take_all, ext_get_or}
+use Rattle.std.proofs.lemmas.List.Elements.{All-tail, All-from_get_or, Contains-get_or}
 use mathlib.Core.Logic.{dite}
 use native.Mathlib.Decide.{ℕ_discrete}
 use Rattle.chip_graph.specs.Limits.{max_total, max_vertices, max_limit}
@@ -18,7 +16,6 @@ use Rattle.chip_graph.specs.Multigraph.{Multigraph, IsGraph, degree}
 use Rattle.chip_graph.specs.ChipGame.{ChipGame, IsGame}
 use Rattle.chip_graph.specs.More.{HasMore}
 use Rattle.chip_graph.proofs.SumLemmas.{sum_below_add, sum_below_ext, sum_below_none, sum_below_move, sum_by_place}
-use Rattle.chip_sequence.specs.Firing.{IsLegal}
 use Rattle.chip_sequence.specs.Sequence.{position_after, IsFiringSequence, counts, HasEnded}
 use Rattle.chip_sequence.specs.Certificate.{IsOnTheWay}
 use Rattle.chip_sequence.specs.Play.{IsPlayed}
@@ -31,7 +28,7 @@ use Rattle.chip_sequence.proofs.CertificateLemmas.{end_of_the_way, same_way, pla
 use Rattle.chip_sequence.proofs.SittingLemmas.{leads_both, ends_alike, played_is_sitting}
 use Rattle.chip_sequence.proofs.AfterLemmas.{sum_small}
 use Rattle.chip_fire.specs.Rounds.{IsBegun, IsAtRest}
-use Rattle.chip_fire.specs.WorkList.{AreListed, HasSupport}
+use Rattle.chip_fire.specs.WorkList.{HasSupport}
 use Rattle.chip_fire.specs.declared.avalanche.Avalanche.{Avalanche}
 use Rattle.chip_fire.specs.declared.pile.BegunDrop.{BegunDrop}
 use Rattle.chip_fire.specs.declared.pile.Pile.{Pile}
@@ -41,20 +38,6 @@ use Rattle.chip_fire.specs.Measured.{IsRow, HasRow}
 use Rattle.chip_sequence.specs.Firing.{IsStable}
 
 -- ---- the work list of a drop, and the avalanche by it
-
--- a vertex that alone may be legal is listed if it is
-pub listed_if : (G : Multigraph) (chips list : List ℕ) (v : ℕ) (b : Bool) → (IsLegal G (slice_index chips) v → b ≡ true)
-    → 0 < length list → v < G.vertices → ((u : ℕ) → IsLegal G (slice_index chips) u → u ≡ v)
-    → AreListed G chips (take (bool_byte b) (set list 0 v))
-listed_if G chips list v true is room is_vertex alone =
-    subst (AreListed G chips) (sym (take_more_set list 0 v room)) (record {
-      vertices = All-cons (λ (u : ℕ). u < G.vertices) v [] is_vertex (All-nil (λ (u : ℕ). u < G.vertices));
-      legal = λ u can. subst (Contains (v ∷ [])) (sym (alone u can)) (Contains-push [] v);
-    })
-listed_if G chips list v false is room is_vertex alone = record {
-  vertices = All-nil (λ (u : ℕ). u < G.vertices);
-  legal = λ u can. absurd (true≢false (sym (is (subst (IsLegal G (slice_index chips)) (alone u can) can))));
-}
 
 -- if all vertices are listed, those that fired are
 pub all_supported : (n : ℕ) (fired fired' vs : List ℕ) (m : ℕ) → length vs ≡ n → length vs ≤ m

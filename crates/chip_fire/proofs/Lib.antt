@@ -3,6 +3,7 @@ pub mod PlayLemmas
 pub mod WorkLemmas
 pub mod ResumeLemmas
 pub mod DropLemmas
+pub mod ListedLemmas
 pub mod CourseLemmas
 pub mod MeasureLemmas
 pub mod DurationLemmas

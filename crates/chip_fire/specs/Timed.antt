@@ -1,16 +1,11 @@
 -- A play in rounds, in each of which each legal vertex fires once.
-use Rattle.std.specs.Prelude.{◌≡◌, ◌≢◌, ℕ, ◌+◌, ◌≤◌, min, List, length, take, slice_index, slice_set, Option, MatchOption}
+use Rattle.std.specs.Prelude.{◌≡◌, ℕ, ◌+◌, ◌≤◌, min, List, length, take, slice_index, slice_set, Option, MatchOption}
 use Rattle.chip_graph.specs.Multigraph.{Multigraph}
-use Rattle.chip_sequence.specs.Firing.{IsLegal, legal_vertices, fired_once}
-use Rattle.chip_sequence.specs.Sequence.{counts}
-use Rattle.chip_fire.specs.Rounds.{IsInRange, StaysOnTheWay, firings_left}
+use Rattle.chip_sequence.specs.Firing.{IsLegal, fired_once}
+use Rattle.chip_fire.specs.Rounds.{IsInRange, StaysOnTheWay, OnlyRise, firings_left}
 use Rattle.chip_fire.specs.Pile.{sum_between}
 use Rattle.chip_fire.specs.WorkList.{HasSupport}
 use Rattle.chip_fire.specs.Measured.{after_round, IsDuration}
-
--- the list has each legal vertex once, and no other
-pub record AreTheLegal (G : Multigraph) (chips work : List ℕ) : Type 0 where
-  pub each : (v : ℕ) → counts work v ≡ counts (legal_vertices G (slice_index chips)) v
 
 -- some legal vertex has fired as often as the limit allows
 abbrev pub IsHeld : Multigraph → ℕ → (chips fired : List ℕ) → Type 0
@@ -18,6 +13,7 @@ IsHeld G limit chips fired = (v : ℕ) × IsLegal G (slice_index chips) v × (sl
 
 -- the first vertices of the support are those that fired between these counts, and as many
 pub record AreFound (n : ℕ) (before fired support : List ℕ) (found : ℕ) : Type 0 where
+  pub rises : OnlyRise before fired
   pub fits : found ≤ length support
   pub has : HasSupport n before fired (take found support)
   pub many : found ≡ sum_between (λ k. min k 1) n before fired

@@ -12,6 +12,7 @@ ghost use Rattle.chip_fire.specs.Timed.{EndsInRounds};
 
 use crate::durations::rounds_from;
 use crate::play::Play;
+use crate::tuning::TURNS;
 use crate::watch::Watch;
 use crate::work_list::{is_legal, work_off};
 use chip_graph::{Game, Graph};
@@ -92,8 +93,15 @@ fn work_from(
         ..
     } = room;
     list[0] = vertex;
-    let listed = usize::from(is_legal(game.graph(), chips, vertex));
-    work_off(game, listed, before, support, list, chips, fired)
+    let graph = game.graph();
+    let listed = usize::from(is_legal(graph, chips, vertex));
+    let most = graph.vertices() * TURNS;
+    let worked = work_off(game, listed, most, before, support, list, chips, fired);
+    if worked.legal == 0 {
+        Some(worked.noted)
+    } else {
+        None
+    }
 }
 
 /// Plays on from these chips and counts, of which no vertex but this one is legal: if the play is timed in rounds, which

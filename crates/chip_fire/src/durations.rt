@@ -4,7 +4,8 @@ ghost use Rattle.std.specs.Prelude.{◌≡◌, ℕ, ◌+◌, ◌*◌, ◌<◌, �
 ghost use Rattle.chip_sequence.specs.Firing.{IsLegal, IsStable};
 ghost use Rattle.chip_fire.specs.Rounds.{IsBegun, IsInRange, StaysOnTheWay};
 ghost use Rattle.chip_fire.specs.Pile.{IsRoom, IsWorkedOff};
-ghost use Rattle.chip_fire.specs.Timed.{AreTheLegal, IsHeld, AreFound, FiresOnce, FiresAll, EndsInRounds};
+ghost use Rattle.chip_fire.specs.WorkList.{AreTheLegal};
+ghost use Rattle.chip_fire.specs.Timed.{IsHeld, AreFound, FiresOnce, FiresAll, EndsInRounds};
 
 use crate::avalanche::Room;
 use crate::work_list::is_legal;

@@ -1,16 +1,18 @@
-//! A play by a work list: it looks at the vertices that got chips, and at no others.
+//! A play by a work list: it visits the vertices that are legal and their edges, and no others.
 
-ghost use Rattle.std.specs.Prelude.{◌≡◌, ◌≢◌, ◌↔◌, ℕ, ◌+◌, ◌*◌, ◌<◌, ◌≤◌, ◌++◌, [], ◌∷◌, true, length, take, drop};
-ghost use Rattle.std.specs.Prelude.{slice_index, MatchOption};
+ghost use Rattle.std.specs.Prelude.{◌≡◌, ◌↔◌, ℕ, ◌+◌, ◌*◌, ◌/◌, ◌<◌, ◌≤◌, ◌⊎◌, ◌∷◌, true, false, length, take, drop};
+ghost use Rattle.std.specs.Prelude.{slice_index, slice_set, MatchOption, IfOk, IfErr, Ok};
+ghost use Rattle.chip_graph.specs.Multigraph.{degree, edges_out};
 ghost use Rattle.chip_fire.specs.Search.{FewLooks};
 ghost use Rattle.chip_sequence.specs.Firing.{IsLegal};
 ghost use Rattle.chip_fire.specs.Rounds.{IsBegun, IsInRange, StaysOnTheWay, OnlyRise, firings_left};
-ghost use Rattle.chip_fire.specs.WorkList.{AreListed, HasSupport};
+ghost use Rattle.chip_fire.specs.Timed.{AreFound};
+ghost use Rattle.chip_fire.specs.WorkList.{AreTheLegal, IsStuck, WorksOff, legal_in_all};
 
 use crate::play::{Play, legal_vertices};
 use crate::rounds::times_in;
 use crate::soon::looks_at_all;
-use crate::tuning::{LOOKS_OF_LISTED, TURNS, VERTICES_PER_PLACE};
+use crate::tuning::{LOOKS_OF_LISTED, VERTICES_PER_PLACE};
 use chip_graph::{Game, Graph};
 use std::alloc::{AllocError, Global};
 
@@ -28,6 +30,11 @@ impl Play<'_> {
         ensures rises { OnlyRise self.old.fired self.new.fired }
         ensures few { FewLooks self.old.game self.old.fired self.new.fired looks.old looks.new true }
         ensures at_most { looks.new ≤ looks.old + most }
+        ensures works { IfOk result (WorksOff self.old.game (self.old.game.graph.vertices / 8) most
+            self.new.chips self.new.fired looks.old looks.new) }
+        ensures no_memory { IfErr result (λ _. (self.new ≡ self.old) × (looks.new ≡ looks.old)) }
+        ensures many { self.old.game.graph.vertices / 8 < legal_in_all self.old.game.graph self.old.chips
+            → (result ≡ Ok false) × (self.new ≡ self.old) × (looks.new ≡ looks.old) }
     {
         let graph = self.game.graph();
         let vertices = graph.vertices();
@@ -43,22 +50,25 @@ impl Play<'_> {
             .saturating_mul(LOOKS_OF_LISTED)
             .min(looks_at_all(graph));
         let most = most / of_turn.max(1);
-        let turns = work_off_in_turn(
+        let worked = work_off(
             self.game,
             listed,
             most,
+            &[],
+            &mut [],
             &mut queue,
             &mut self.chips,
             &mut self.fired,
         );
-        *looks = looks.saturating_add(turns.saturating_mul(of_turn));
-        Ok(turns == most)
+        *looks = looks.saturating_add(worked.turns.saturating_mul(of_turn));
+        Ok(worked.turns == most)
     }
 }
 
 /// Whether at most `few` vertices are legal.
 fn are_few(graph: &Graph, chips: &[u64], few: usize) -> bool
     requires { length chips.now ≡ graph.now.vertices }
+    ensures { (result ≡ true) ↔ (legal_in_all graph.now chips.now ≤ few) }
 {
     let mut found = 0usize;
     for vertex in 0..graph.vertices() {
@@ -72,58 +82,108 @@ fn are_few(graph: &Graph, chips: &[u64], few: usize) -> bool
     true
 }
 
-/// Lets the first `listed` vertices of a queue fire in turn, among which are all that are legal, and those that get
-/// chips by it, first in, first out, for up to `most` turns; how many it made. It ends before if none is legal, if a
-/// vertex would have to fire more often than the limit allows, or if the queue is full.
-pub fn work_off_in_turn(
+/// What a work list has come to.
+#[derive(Clone, Copy)]
+pub struct Worked {
+    /// How many turns it made.
+    pub turns: u64,
+    /// How many vertices are legal.
+    pub legal: usize,
+    /// How many vertices fired, if these were noted and none is legal.
+    pub noted: usize,
+}
+
+/// Lets the first `listed` vertices of a queue fire in turn, which are all that are legal, and those that get legal by
+/// it, first in, first out, each as often as its chips allow, for up to `most` turns. It ends before if no vertex is
+/// legal, if one would have to fire more often than the limit allows, or if the queue is too short. The vertices that
+/// fire are noted at the front of `support`, if `before` has the counts with which it begins.
+pub fn work_off(
     game: &Game,
     mut listed: usize,
     most: u64,
+    before: &[u64],
+    support: &mut [u64],
     queue: &mut [u64],
     chips: &mut [u64],
     fired: &mut [u64],
-) -> u64
+) -> Worked
     requires begun { IsBegun game.now chips.old fired.old }
     requires room { listed ≤ length queue.old }
-    requires legal { AreListed game.now.graph chips.old (take listed queue.old) }
+    requires legal { AreTheLegal game.now.graph chips.old (take listed queue.old) }
+    requires before { 0 < length before.now
+        → (before.now ≡ fired.old) × (length support.old ≡ game.now.graph.vertices) }
     ensures begun { IsBegun game.now chips.new fired.new }
-    ensures at_most { result ≤ most }
+    ensures at_most { result.turns ≤ most }
     ensures rises { OnlyRise fired.old fired.new }
-    ensures each_fires { firings_left game.now.graph game.now.limit fired.new + result
+    ensures each_fires { firings_left game.now.graph game.now.limit fired.new + result.turns
         ≤ firings_left game.now.graph game.now.limit fired.old }
+    ensures legal { result.legal ≡ legal_in_all game.now.graph chips.new }
+    ensures over { result.turns < most → (result.legal ≡ 0)
+        ⊎ IsStuck game.now.graph game.now.limit chips.new fired.new (length queue.old / 2) }
+    ensures noted { 0 < length before.now → result.legal ≡ 0
+        → AreFound game.now.graph.vertices before.now fired.new support.new result.noted }
 {
     let (graph, limit) = (game.graph(), game.limit());
     let mut first = 0usize;
+    let mut noted = 0usize;
     for made in 0..most {
         if listed == 0 {
-            return made;
+            return Worked {
+                turns: made,
+                legal: listed,
+                noted,
+            };
         }
         first = make_room(first, listed, queue);
         let vertex = queue[first];
-        if !is_legal(graph, chips, vertex) {
-            return made;
+        let found = note(vertex, before, fired, support, noted);
+        let rest = &mut queue[first + 1..];
+        match turn(graph, limit, vertex, listed - 1, rest, chips, fired) {
+            Some(more) => listed = more,
+            None => {
+                return Worked {
+                    turns: made,
+                    legal: listed,
+                    noted,
+                };
+            }
         }
         first += 1;
-        match turn(
-            graph,
-            limit,
-            vertex,
-            listed - 1,
-            &mut queue[first..],
-            chips,
-            fired,
-        ) {
-            Some(more) => listed = more,
-            None => return made,
-        }
+        noted = found;
     }
-    most
+    Worked {
+        turns: most,
+        legal: listed,
+        noted,
+    }
+}
+
+/// Notes a vertex that fires next, if it has not fired since it had the count in `before` and that has any; how many are
+/// noted then.
+#[inline]
+fn note(vertex: u64, before: &[u64], fired: &[u64], support: &mut [u64], noted: usize) -> usize
+    requires is_vertex { vertex < length fired.now }
+    requires so_far { 0 < length before.now → (length before.now ≡ length fired.now)
+        × (length support.old ≡ length fired.now)
+        × AreFound (length fired.now) before.now fired.now support.old noted }
+    ensures { 0 < length before.now → (k : ℕ) → 0 < k → AreFound (length fired.now) before.now
+        (slice_set fired.now vertex (slice_index fired.now vertex + k)) support.new result }
+{
+    if vertex as usize >= before.len() {
+        return noted;
+    }
+    if fired[vertex as usize] != before[vertex as usize] {
+        return noted;
+    }
+    support[noted] = vertex;
+    noted + 1
 }
 
 /// Moves what a queue has to its front, if that is not in its first half; where it begins then.
 fn make_room(first: usize, listed: usize, queue: &mut [u64]) -> usize
     requires { first + listed ≤ length queue.old }
     ensures each { length queue.new ≡ length queue.old }
+    ensures low { result ≤ length queue.old / 2 }
     ensures room { result + listed ≤ length queue.new }
     ensures same { take listed (drop result queue.new) ≡ take listed (drop first queue.old) }
 {
@@ -132,46 +192,6 @@ fn make_room(first: usize, listed: usize, queue: &mut [u64]) -> usize
     }
     queue.copy_within(first..first + listed, 0);
     0
-}
-
-/// Lets the first `listed` vertices of a list fire, among which are all that are legal, and those that get chips by it,
-/// until none is legal. Then it answers how many at the front of `support` are all vertices that fired. It gives up
-/// after `TURNS` turns for each vertex, or if a vertex would have to fire more often than the limit allows, or if a
-/// list is full.
-pub fn work_off(
-    game: &Game,
-    mut listed: usize,
-    before: &[u64],
-    support: &mut [u64],
-    list: &mut [u64],
-    chips: &mut [u64],
-    fired: &mut [u64],
-) -> Option<usize>
-    requires begun { IsBegun game.now chips.old fired.old }
-    requires room { listed ≤ length list.old }
-    requires legal { AreListed game.now.graph chips.old (take listed list.old) }
-    requires before { before.now ≡ fired.old }
-    ensures begun { IsBegun game.now chips.new fired.new }
-    ensures done { MatchOption result (Unit {0}) (λ n. (n ≤ length support.new)
-        × ((v : ℕ) → IsLegal game.now.graph (slice_index chips.new) v → ⊥)
-        × HasSupport game.now.graph.vertices before.now fired.new (take n support.new)) }
-{
-    let (graph, limit) = (game.graph(), game.limit());
-    let mut found = 0;
-    'turns: for _ in 0..graph.vertices() * TURNS {
-        if listed == 0 {
-            return Some(found);
-        }
-        let top = listed - 1;
-        let vertex = list[top];
-        if found == support.len() || !is_legal(graph, chips, vertex) {
-            break;
-        }
-        support[found] = vertex;
-        found += usize::from(fired[vertex as usize] == before[vertex as usize]);
-        listed = turn(graph, limit, vertex, top, list, chips, fired)?;
-    }
-    None
 }
 
 /// Whether a vertex is legal.
@@ -184,8 +204,9 @@ pub fn is_legal(graph: &Graph, chips: &[u64], vertex: u64) -> bool
     vertex != graph.sink() && graph.out_degree(vertex) <= chips[vertex as usize]
 }
 
-/// Lets a legal vertex fire as often as its chips allow, and lists in its place those that had not the chips to fire
-/// and have them then; how many are listed then. `None` if the limit or the room of the list is too small.
+/// Lets a legal vertex fire as often as its chips allow, and lists in its place those that are legal by it, after the
+/// others, which are the first `listed`; how many are listed then. `None` if the limit or the room of the list is too
+/// small, and then nothing changes.
 #[tactic(auto, using(chip_sequence::proofs::BoundLemmas::some_degree))]
 #[inline]
 fn turn(
@@ -199,16 +220,21 @@ fn turn(
 ) -> Option<usize>
     requires in_range { IsInRange graph.now limit chips.old fired.old }
     requires legal { IsLegal graph.now (slice_index chips.old) vertex }
-    requires listed { AreListed graph.now chips.old (take listed list.old ++ vertex ∷ []) }
+    requires listed { AreTheLegal graph.now chips.old (vertex ∷ take listed list.old) }
     requires room { listed ≤ length list.old }
     ensures turned { IsInRange graph.now limit chips.new fired.new
         × StaysOnTheWay graph.now limit chips.old fired.old chips.new fired.new }
-    ensures others { (v : ℕ) → v ≢ vertex → slice_index fired.new v ≡ slice_index fired.old v }
     ensures rises { OnlyRise fired.old fired.new }
-    ensures fires { MatchOption result (fired.new ≡ fired.old)
+    ensures fires { MatchOption result (Unit {0})
         (λ n. firings_left graph.now limit fired.new < firings_left graph.now limit fired.old) }
+    ensures counted { MatchOption result
+        ((chips.new ≡ chips.old) × (fired.new ≡ fired.old)
+        × ((limit < slice_index fired.old vertex + slice_index chips.old vertex / degree graph.now vertex)
+        ⊎ (length list.old < listed + length (edges_out graph.now vertex))))
+        (λ n. fired.new ≡ slice_set fired.old vertex
+        (slice_index fired.old vertex + slice_index chips.old vertex / degree graph.now vertex)) }
     ensures listed { MatchOption result (Unit {0})
-        (λ n. (n ≤ length list.new) × AreListed graph.now chips.new (take n list.new)) }
+        (λ n. (n ≤ length list.new) × AreTheLegal graph.now chips.new (take n list.new)) }
 {
     let degree = graph.out_degree(vertex);
     let k = times_in(chips[vertex as usize], degree);

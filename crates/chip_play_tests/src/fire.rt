@@ -1,17 +1,11 @@
 //! Games worked out by hand, and each call once. What holds for all inputs stands in the contracts.
 
-ghost use Rattle.std.specs.Prelude.{◌≡◌, ◌≤◌, length, take};
-ghost use Rattle.chip_fire.specs.WorkList.{AreListed};
 ghost use Rattle.chip_sequence.specs.Sittings.{IsResumed};
 
 use crate::games::{Rows, TRIANGLE, game_of, graph_of, triangle};
-use chip_fire::{
-    Play, ResumeFault, Search, Watch, is_legal, plain, plain_watched, resume, resume_watched,
-    work_off,
-};
+use chip_fire::{Play, ResumeFault, Search, Watch, plain, plain_watched, resume, resume_watched};
 use chip_graph::{Game, Graph};
 use chip_sequence::{Outcome, Resumed};
-use std::alloc::{AllocError, Global};
 use std::process::Abort;
 
 /// A game, and where it ends.
@@ -37,78 +31,6 @@ fn plays(rt: &(impl AllocGlobal + Abort), played: &Played) {
         same,
         "{}: fired {:?}, chips {:?}, over {:?}",
         played.name, outcome.fired, outcome.chips, outcome.over
-    );
-}
-
-/// Lists the legal vertices; how many there are.
-fn list_legal(graph: &Graph, chips: &[u64], list: &mut [u64]) -> usize
-    requires one_each { length chips.now ≡ graph.now.vertices }
-    requires room { graph.now.vertices ≤ length list.old }
-    ensures room { result ≤ length list.new }
-    ensures listed { AreListed graph.now chips.now (take result list.new) }
-{
-    let mut listed = 0;
-    for vertex in 0..graph.vertices() {
-        if is_legal(graph, chips, vertex) {
-            list[listed] = vertex;
-            listed += 1;
-        }
-    }
-    listed
-}
-
-/// Plays a game by a work list with room for all: the counts, the chips and the vertices that fired, if it does not give
-/// up.
-fn play_all(
-    alloc: Global,
-    game: &Game,
-) -> Result<Option<(Vec<u64>, Vec<u64>, Vec<u64>)>, AllocError> {
-    let vertices = game.graph().vertices() as usize;
-    let Play {
-        game,
-        mut chips,
-        mut fired,
-    } = Play::new(alloc, game)?;
-    let before = Vec::from_slice(alloc, &fired)?;
-    let mut support = vec![in alloc; 0; vertices]?;
-    let mut list = vec![in alloc; 0; 2 * vertices]?;
-    let listed = list_legal(game.graph(), &chips, &mut list);
-    let found = work_off(
-        game,
-        listed,
-        &before,
-        &mut support,
-        &mut list,
-        &mut chips,
-        &mut fired,
-    );
-    let Some(found) = found else {
-        return Ok(None);
-    };
-    support.truncate(found);
-    support.sort_unstable();
-    Ok(Some((fired, chips, support)))
-}
-
-/// Plays a game by a work list, and compares how often each vertex fired, the chips at the end and the vertices that
-/// fired.
-fn works_off(rt: &(impl AllocGlobal + Abort), played: &Played) {
-    let game = game_of(rt, played.edges, played.start, played.limit);
-    let worked = play_all(rt.alloc(), &game).expect(rt, "memory");
-    let (fired, chips, support) = worked.expect(rt, played.name);
-    let mut fires = Vec::new(rt.alloc());
-    for (vertex, times) in played.fired.iter().enumerate() {
-        if *times > 0 {
-            fires.push(vertex as u64).expect(rt, "memory");
-        }
-    }
-    let same = fired.as_slice() == played.fired
-        && chips.as_slice() == played.chips
-        && support.as_slice() == fires.as_slice();
-    assert!(rt;
-        same,
-        "{}: fired {:?}, chips {:?}, support {:?}",
-        played.name, fired, chips, support
     );
 }
 
@@ -215,7 +137,6 @@ const PLAYED: &[&Played] = &[
 fn small_games(rt: HostRuntime) {
     for played in PLAYED {
         plays(&rt, played);
-        works_off(&rt, played);
     }
 }
 

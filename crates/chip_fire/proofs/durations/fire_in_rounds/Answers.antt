@@ -1,5 +1,6 @@
-use Rattle.std.proofs.Common.{◌≡◌, ◌<◌, ◌≤◌, ℕ, length, take, slice_index, arith, refl}
-use Rattle.chip_fire.proofs.DurationLemmas.{found_none, left_fits, round_more, going_more, rounds_over, none_legal}
+use Rattle.std.proofs.Common.{◌≡◌, slice_index, arith, refl}
+use Rattle.chip_fire.proofs.ListedLemmas.{found_none, none_legal}
+use Rattle.chip_fire.proofs.DurationLemmas.{left_fits, round_more, going_more, rounds_over}
 use Rattle.chip_fire.proofs.durations.fire_in_rounds.Goals as goal
 
 pub rounds-init : goal.rounds-init

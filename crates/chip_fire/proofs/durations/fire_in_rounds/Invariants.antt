@@ -2,7 +2,8 @@ use Rattle.std.proofs.Common.{◌≡◌, ℕ, ◌+◌, ◌<◌, ◌≤◌, lengt
 use Rattle.chip_sequence.specs.Certificate.{IsOnTheWay}
 use Rattle.chip_sequence.specs.Firing.{IsStable}
 use Rattle.chip_fire.specs.Rounds.{IsInRange, firings_left}
-use Rattle.chip_fire.specs.Timed.{AreTheLegal, AreFound}
+use Rattle.chip_fire.specs.WorkList.{AreTheLegal}
+use Rattle.chip_fire.specs.Timed.{AreFound}
 use Rattle.chip_fire.specs.Measured.{after_rounds}
 use Rattle.chip_fire.proofs.durations.fire_in_rounds.Given as goal
 

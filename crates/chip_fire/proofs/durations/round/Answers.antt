@@ -1,10 +1,8 @@
-use Rattle.std.proofs.Common.{◌≡◌, ◌+◌, ◌-◌, ◌<◌, ◌≤◌, ℕ, List, [], ◌∷◌, ◌++◌, get_or, set, length, take, drop, slice_index, sym, subst, ap, arith, refl, ◌∙◌}
+use Rattle.std.proofs.Common.{◌≡◌, ◌+◌, ◌-◌, get_or, length, take, slice_index, ap, arith, ◌∙◌}
 use Rattle.std.proofs.lemmas.List.{take_rest, take_all, length-take-le, length-drop}
-use borrow.Rule.Slice.PartMut.{put_mid}
-use Rattle.chip_fire.specs.Timed.{AreFound}
-use Rattle.chip_fire.proofs.WorkLemmas.{queue_put, queue_moved}
-use Rattle.chip_fire.proofs.DurationLemmas.{next_legal, next_turn, rest_after, position_next, queue_short, round_is}
-use Rattle.chip_fire.proofs.DurationLemmas.{found_room, found_new, found_old, fires_less}
+use Rattle.chip_fire.proofs.WorkLemmas.{queue_put}
+use Rattle.chip_fire.proofs.ListedLemmas.{next_legal, queue_next, queue_short, found_room, found_new, found_old}
+use Rattle.chip_fire.proofs.DurationLemmas.{rest_after, position_next, round_is, fires_less}
 use Rattle.chip_fire.proofs.durations.round.Goals as goal
 use Rattle.chip_fire.proofs.durations.round.Goals.{then-fired-vertex-2, else-fired-vertex-2}
 
@@ -53,7 +51,7 @@ pub bounds-support-found : goal.bounds-support-found
 bounds-support-found c =
     let so_far = c.loop-place.invariant in
     let can = next_legal _ _ _ _ _ so_far.legal (omega arith) so_far.fits in
-    let a = found_room _ _ _ _ _ _ so_far.found can.is_vertex so_far.in_range.fired_each c.if-fired-vertex-2.true in omega arith
+    let a = found_room _ _ _ _ _ _ so_far.found can.is_vertex so_far.in_range.fired_each 1 (omega arith) c.if-fired-vertex-2.true in omega arith
 
 pub fire_once-waiting-requires-clause-legal : goal.fire_once-waiting-requires-clause-legal
 fire_once-waiting-requires-clause-legal c =
@@ -68,9 +66,7 @@ fire_once-waiting-requires-clause-room c =
 pub fire_once-waiting-requires-clause-listed : goal.fire_once-waiting-requires-clause-listed
 fire_once-waiting-requires-clause-listed c =
     let so_far = c.loop-place.invariant in
-    let long = length-take-le c.args.listed c.args.queue.now c.requires.listed in
-    let turn = next_turn c.loop-place.queue (take c.args.listed c.args.queue.now) c.args.listed c.loop-place.place c.loop-place.waiting
-    c.loop-place-test.true so_far.fits so_far.enough long so_far.rest in
+    let turn = queue_next c.loop-place.queue c.loop-place.place c.loop-place.waiting (omega arith) so_far.fits in
     rw (take_rest c.loop-place.queue (c.loop-place.place + 1)) (rw turn at so_far.legal)
 
 pub loop-place-preserved : goal.loop-place-preserved
@@ -96,9 +92,9 @@ loop-place-preserved c =
       stays = λ x is. fires.stays x (so_far.stays x is);
       found = elim c.if-fired-vertex-2.branch [
         | then-fired-vertex-2 w ↦ rw (fires.counted, w.support-is, w.found-is)
-            (found_new _ _ _ _ _ _ so_far.found can.is_vertex so_far.in_range.fired_each (omega arith) w.if-fired-vertex-2.true)
+            (found_new _ _ _ _ _ _ so_far.found can.is_vertex so_far.in_range.fired_each 1 (omega arith) (omega arith) w.if-fired-vertex-2.true)
         | else-fired-vertex-2 w ↦ rw (fires.counted, w.support-is, w.found-is)
-            (found_old _ _ _ _ _ _ so_far.found can.is_vertex so_far.in_range.fired_each w.if-fired-vertex-2.false)
+            (found_old _ _ _ _ _ _ so_far.found can.is_vertex so_far.in_range.fired_each 1 (omega arith) w.if-fired-vertex-2.false)
       ];
       fits = put.1;
       enough = (let a = after.kept.0 in omega arith);

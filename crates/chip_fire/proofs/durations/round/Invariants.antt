@@ -1,7 +1,8 @@
 use Rattle.std.proofs.Common.{◌≡◌, ℕ, ◌+◌, ◌-◌, ◌≤◌, length, take, drop, slice_index}
 use Rattle.chip_sequence.specs.Sequence.{position_after}
 use Rattle.chip_fire.specs.Rounds.{IsInRange, StaysOnTheWay, firings_left}
-use Rattle.chip_fire.specs.Timed.{AreTheLegal, AreFound}
+use Rattle.chip_fire.specs.WorkList.{AreTheLegal}
+use Rattle.chip_fire.specs.Timed.{AreFound}
 use Rattle.chip_fire.proofs.durations.round.Given as goal
 
 abbrev pub invariant-loop-place : goal.invariant-loop-place

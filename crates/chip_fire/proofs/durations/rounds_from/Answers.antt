@@ -1,5 +1,5 @@
-use Rattle.std.proofs.Common.{◌<◌, length, arith}
-use Rattle.chip_fire.proofs.DurationLemmas.{the_legal_if}
+use Rattle.std.proofs.Common.{arith}
+use Rattle.chip_fire.proofs.ListedLemmas.{the_legal_if}
 use Rattle.chip_fire.proofs.durations.rounds_from.Goals as goal
 
 pub fire_in_rounds-requires-clause-legal : goal.fire_in_rounds-requires-clause-legal

@@ -1,5 +1,11 @@
-use Rattle.std.proofs.Common.{◌≤◌}
+use Rattle.std.proofs.Common.{◌≡◌, ◌≤◌, ◌==◌, nat_le, not, ◌&&◌, length, slice_index}
+use Rattle.chip_graph.specs.Sums.{filter_below}
+use Rattle.chip_graph.specs.Multigraph.{degree}
 use Rattle.chip_fire.proofs.work_list.are_few.Given as goal
 
 abbrev pub invariant-loop-vertex : goal.invariant-loop-vertex
-invariant-loop-vertex l = l.found ≤ l.few
+invariant-loop-vertex l = record {
+  few : l.found ≤ l.few;
+  many : l.found ≡ length
+      (filter_below (λ v. not (v == l.graph.sink) && nat_le (degree l.graph v) (slice_index l.chips v)) l.vertex);
+}

@@ -1,18 +1,19 @@
 use Rattle.std.proofs.Common.{◌≡◌, ℕ, ◌/◌, ◌++◌, ◌≤◌, mul-le-mul_left, mul-le-mul_right, List, take, drop, length, slice_index, ap, ◌∙◌, arith}
 use Rattle.std.proofs.Math.Nat.{div-mul-le_self}
 use Rattle.std.proofs.lemmas.Grind.{common_steps}
+use Rattle.chip_graph.specs.Multigraph.{Multigraph}
 use Rattle.chip_fire.specs.Search.{places}
 use Rattle.chip_fire.proofs.LooksLemmas.{few_turns}
-use Rattle.chip_fire.proofs.WorkLemmas.{listed_front}
+use Rattle.chip_fire.proofs.ListedLemmas.{front_legal, works_off}
 use Rattle.chip_fire.proofs.play.Play.work_off_few.Goals as goal
 
-pub work_off_in_turn-turns-requires-clause-legal : goal.work_off_in_turn-turns-requires-clause-legal
-work_off_in_turn-turns-requires-clause-legal c =
+pub work_off-worked-requires-clause-legal : goal.work_off-worked-requires-clause-legal
+work_off-worked-requires-clause-legal c =
     let play = c.self.inside in
     let legal = rw (c.graph-graph.ensures.value, c.deref-2.ensures.value) at c.in_ok-queue.ensures in
     let listed : c.len-listed.result ≡ length c.in_ok-queue.queue.items =
     (let a = c.in_ok-queue.queue.ok.0 in let b = c.len-listed.ensures in omega arith) in
-    rw c.deref_mut-2.ensures.value (listed_front play.game.now.graph play.chips.items _ _
+    rw c.deref_mut-2.ensures.value (front_legal play.game.now.graph play.chips.items _ _
     (listed ∙ ap length legal)
     (let a = c.deref_mut.ensures.len in let b = c.in_ok-resize.ensures.len in omega arith)
     (λ i l. ap (λ (xs : List ℕ). slice_index xs i) c.deref_mut.ensures.value
@@ -21,11 +22,11 @@ work_off_in_turn-turns-requires-clause-legal c =
 
 pub returns-clause-few : goal.returns-clause-few
 returns-clause-few c =
-    let fired = c.work_off_in_turn-turns.new.fired in
-    let fires = rw c.deref_mut-3.ensures.value at c.work_off_in_turn-turns.ensures.each_fires in
+    let fired = c.work_off-worked.new.fired in
+    let fires = rw c.deref_mut-3.ensures.value at c.work_off-worked.ensures.each_fires in
     let all = rw c.graph-graph.ensures.value at c.looks_at_all.ensures in
     let each : c.min-of_turn.result ≤ places c.self.inside.game.now = (let a = c.min-of_turn.ensures in omega arith) in
-    let few = few_turns c.self.inside.game.now c.self.inside.fired.items fired c.work_off_in_turn-turns.result
+    let few = few_turns c.self.inside.game.now c.self.inside.fired.items fired c.work_off-worked.result.turns
     c.min-of_turn.result c.args.looks.now c.saturating_add.result fires each (omega arith) (omega arith) in
     let same : take c.self.inside.fired.len (fired ++ drop (length fired) c.self.inside.fired.items) ≡ fired =
     grind (arith, common_steps) in
@@ -33,9 +34,31 @@ returns-clause-few c =
 
 pub returns-clause-at_most : goal.returns-clause-at_most
 returns-clause-at_most c =
-    let most = c.work_off_in_turn-turns.ensures.at_most in
+    let most = c.work_off-worked.ensures.at_most in
     let all = mul-le-mul_right c.min-of_turn.result most in
     let least : c.min-of_turn.result ≤ c.max-2.result = omega arith in
     let each = mul-le-mul_left (c.args.most / c.max-2.result) least in
     let part = div-mul-le_self c.args.most c.max-2.result in
     omega arith
+
+pub returns-clause-works : goal.returns-clause-works
+returns-clause-works c =
+    let play = c.self.inside in
+    let all = rw c.graph-graph.ensures.value at c.looks_at_all.ensures in
+    let some = c.vertices-vertices.ensures.graph.some_vertex in
+    let fits : c.min-of_turn.result ≤ places play.game.now = (let a = c.min-of_turn.ensures in omega arith) in
+    let same : take play.fired.len (c.work_off-worked.new.fired ++ drop (length c.work_off-worked.new.fired) play.fired.items)
+    ≡ c.work_off-worked.new.fired = grind (arith, common_steps) in
+    let same' : take play.chips.len (c.work_off-worked.new.chips ++ drop (length c.work_off-worked.new.chips) play.chips.items)
+    ≡ c.work_off-worked.new.chips = grind (arith, common_steps) in
+    let each : c.max-2.result ≡ c.min-of_turn.result = omega arith in
+    let vertices = ap (λ (G : Multigraph). G.vertices) c.graph-graph.ensures.value in
+    let room : play.game.now.graph.vertices / 8 ≤ length c.deref_mut.result.now / 2 =
+    (let a = c.deref_mut.ensures.len in let b = c.in_ok-resize.ensures.len in
+    let d = c.vertices-vertices.ensures.value in omega arith) in
+    let done = works_off play.game.now (play.game.now.graph.vertices / 8) c.args.most c.work_off-worked.new.chips
+    c.work_off-worked.new.fired c.args.looks.now c.saturating_add.result c.work_off-worked.result.turns
+    (c.args.most / c.max-2.result) c.min-of_turn.result (length c.deref_mut.result.now / 2) (omega arith) fits
+    (ap (λ (n : ℕ). c.args.most / n) each) room c.work_off-worked.ensures.at_most (λ small. omega arith)
+    (λ fewer. rw c.work_off-worked.ensures.legal at (c.work_off-worked.ensures.over fewer)) in
+    rw (← c.self.view_is, same, same') done

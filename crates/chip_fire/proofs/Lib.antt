@@ -1,4 +1,4 @@
-pub mod LooksLemmas
+pub mod VisitsLemmas
 pub mod PlayLemmas
 pub mod WorkLemmas
 pub mod ResumeLemmas

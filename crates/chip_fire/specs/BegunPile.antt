@@ -7,7 +7,7 @@ use Rattle.chip_fire.specs.Course.{IsCourse}
 use Rattle.chip_fire.specs.declared.pile.Pile.{Pile}
 use Rattle.chip_fire.specs.Pile.{IsRoom, IsPile}
 
--- the play of the game with all chips that were dropped has come to these chips and counts, and may go on
+-- the play of the game with all chips that were dropped has reached these chips and counts, and may go on
 pub record IsBegunPile (p : Pile) : Type 0 where
   pub game : IsGame p.game
   pub begun : IsBegun p.game p.chips.items p.fired.items
@@ -20,7 +20,7 @@ pub record IsAtStart (g : ChipGame) (p : Pile) : Type 0 where
   pub chips : p.chips.items ≡ g.start
   pub unfired : (v : ℕ) → slice_index p.fired.items v ≡ 0
 
--- the play of the game has gone on from p to p' by so many visits: it has ended within the limit, or some vertex fired.
+-- the play of the game has gone on from p to p' by these visits: it has ended within the limit, or some vertex fired.
 -- 2^64 - 1 visits end it
 pub record PlaysOn (p p' : Pile) (visits : ℕ) (goes_on : Bool) : Type 0 where
   pub same_game : p'.game ≡ p.game

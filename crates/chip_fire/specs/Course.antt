@@ -1,24 +1,24 @@
 -- What a play that goes on in portions keeps from one to the next.
 use Rattle.std.specs.Prelude.{ℕ, ◌+◌, ◌*◌, ◌/◌, ◌≤◌, List, [], true}
 use Rattle.chip_graph.specs.ChipGame.{ChipGame}
-use Rattle.chip_fire.specs.Search.{FewLooks, places}
+use Rattle.chip_fire.specs.Search.{FewVisits, places}
 use Rattle.chip_fire.specs.declared.course.Course.{Course}
 use Rattle.chip_fire.specs.declared.course.Course.TheVariants.{Begins, WorkList, FewChips, Doubles, Searches, Rounds}
 use Rattle.chip_fire.specs.declared.course.Searching.{Searching}
 
--- a search beside a play that has come to the counts fired: neither has passed its share by more than a turn
+-- a search beside a play that has reached the counts fired: neither has passed its share by more than a turn
 pub record IsSearching (g : ChipGame) (fired : List ℕ) (s : Searching) : Type 0 where
-  pub played_few : FewLooks g [] fired 0 (s.alone + s.beside) true
+  pub played_few : FewVisits g [] fired 0 (s.alone + s.beside) true
   pub begun : 16 * places g ≤ s.searched
   pub search_share : s.searched ≤ 160 * places g + 2 * s.alone + s.beside
   pub play_share : s.beside ≤ s.searched + 5 * places g + (s.alone + s.beside) / 4
   pub turn : s.turn_end ≤ s.searched + 4 * places g + (s.alone + s.beside) / 4
 
--- what a play is at that has come to the counts fired: the looks that it counts were few
+-- what a play is at that has reached the counts fired: the visits that it counts were few
 abbrev pub IsCourse : ChipGame → List ℕ → Course → Type 0
 IsCourse g fired Begins = Unit {0}
 IsCourse g fired (WorkList left) = Unit {0}
 IsCourse g fired (FewChips left) = Unit {0}
-IsCourse g fired (Doubles doubling) = FewLooks g [] fired 0 doubling.looks true
+IsCourse g fired (Doubles doubling) = FewVisits g [] fired 0 doubling.visits true
 IsCourse g fired (Searches boxed) = IsSearching g fired boxed.value
 IsCourse g fired Rounds = Unit {0}

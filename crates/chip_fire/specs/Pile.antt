@@ -29,7 +29,7 @@ abbrev pub IsWorkedOff : Multigraph → (chips fired : List ℕ) → Room → Op
 IsWorkedOff G chips fired r worked = IfSome worked (λ n. (n ≤ length r.support.items) × IsStable G (slice_index chips)
     × HasSupport G.vertices r.before.items fired (take n r.support.items))
 
--- the play of the game with all chips that were dropped has come to these chips and counts, and has ended within the
+-- the play of the game with all chips that were dropped has reached these chips and counts, and has ended within the
 -- limit
 pub record IsPile (p : Pile) : Type 0 where
   pub game : IsGame p.game
@@ -38,7 +38,7 @@ pub record IsPile (p : Pile) : Type 0 where
   pub room : IsRoom p.game.graph.vertices p.fired.items p.room
   pub course : IsCourse p.game p.fired.items p.course
 
--- the play of these drops on the game, which begins at x and the counts of the room, has come to these chips and counts
+-- the play of these drops on the game, which begins at x and the counts of the room, has reached these chips and counts
 pub record IsBegunDrop (g : ChipGame) (ds : List (ℕ × ℕ)) (x : ℕ → ℕ) (d : BegunDrop) : Type 0 where
   pub adds : HasMore g ds d.pile.game
   pub game : IsGame d.pile.game

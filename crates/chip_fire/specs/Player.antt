@@ -1,4 +1,4 @@
--- What the plain player answers.
+-- What the plain player returns.
 use Rattle.std.specs.Prelude.{◌≡◌, []}
 use Rattle.chip_graph.specs.ChipGame.{ChipGame}
 use Rattle.chip_sequence.specs.declared.outcome.Outcome.{Outcome}

@@ -40,7 +40,7 @@ abbrev pub HasWorkedOff : Multigraph → ℕ → ℕ → (chips fired : List ℕ
 HasWorkedOff G limit few chips fired =
     (legal_in_all G chips ≡ 0) ⊎ ((few < legal_in_all G chips) ⊎ IsStuck G limit chips fired few)
 
--- a work list that was given so many visits has made them all but for less than one at each vertex and edge, if it goes
+-- a work list that was given `most` visits has made them all but for less than one at each vertex and edge, if it goes
 -- on, and else has nothing to do
 pub record WorksOff (g : ChipGame) (few most : ℕ) (chips fired : List ℕ) (before after : ℕ) (goes_on : Bool) : Type 0
   where

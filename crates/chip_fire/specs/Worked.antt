@@ -8,7 +8,7 @@ use Rattle.chip_fire.specs.declared.avalanche.Avalanche.{Avalanche}
 use Rattle.chip_fire.specs.Avalanches.{dropped, Tells}
 use Rattle.chip_fire.specs.Measured.{after_rounds}
 
--- with these chips vertices fire in turn until these are left and none is legal, which these numbers tell
+-- with these chips vertices fire in turn until these are left and none is legal, with these numbers
 pub record SetsOff (x : ℕ → ℕ) (chips vs left : List ℕ) (a : Avalanche) : Type 0 where
   pub start : on_each x ≡ chips
   pub sequence : IsFiringSequence triangle x vs

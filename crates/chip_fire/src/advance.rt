@@ -1,35 +1,35 @@
-//! A search for counts beside a play: each has its turns, and both make as many looks.
+//! A search for counts beside a play: each has its turns, and both make as many visits.
 
 ghost use Rattle.std.specs.Prelude.{◌≡◌, ◌+◌, ◌*◌, ◌/◌, ◌≤◌, [], true, IfSome, IsTrue};
 ghost use Rattle.chip_fire.specs.Rounds.{OnlyRise, GoesRound};
-ghost use Rattle.chip_fire.specs.Search.{FewLooks, IsShort, places};
+ghost use Rattle.chip_fire.specs.Search.{FewVisits, IsShort, places};
 ghost use Rattle.chip_fire.specs.Course.{IsCourse, IsSearching};
 
 use crate::course::{Course, Searching};
 use crate::play::Play;
-use crate::soon::looks_at_all;
+use crate::soon::visits_at_all;
 use crate::tuning::{PART_OF_TURN, STRETCH, TURN};
 use crate::watch::Watch;
 use chip_guess::{AHEAD, Hierarchy, Search};
 use std::alloc::Global;
 
 impl Play<'_> {
-    /// Begins to search counts after so many looks of the play alone. If there is no memory, no counts are searched.
-    #[tactic(auto, using(crate::proofs::LooksLemmas::looks_at_end))]
+    /// Begins to search counts after `alone` visits of the play alone. If there is no memory, no counts are searched.
+    #[tactic(auto, using(crate::proofs::VisitsLemmas::visits_at_end))]
     pub(crate) fn begin_search<W: Watch>(
         &mut self,
         alloc: Global,
         alone: u64,
-        looks: &mut u64,
+        visits: &mut u64,
         watch: &mut W,
     ) -> Course
-        requires { FewLooks self.old.game [] self.old.fired 0 alone true }
+        requires { FewVisits self.old.game [] self.old.fired 0 alone true }
         ensures same { self.new ≡ self.old }
         ensures course { IsCourse self.old.game self.new.fired result }
     {
         let mut searched = 0u64;
         let made = self.make_search(alloc, alone, &mut searched);
-        *looks = looks.saturating_add(searched);
+        *visits = visits.saturating_add(searched);
         if let Some(searching) = made {
             return Course::Searches(searching);
         }
@@ -40,13 +40,13 @@ impl Play<'_> {
     /// A search for counts from those so far on, if there is memory.
     fn make_search(&self, alloc: Global, alone: u64, searched: &mut u64) -> Option<Box<Searching>>
         requires unsearched { searched.old ≡ 0 }
-        requires few { FewLooks self.now.game [] self.now.fired 0 alone true }
+        requires few { FewVisits self.now.game [] self.now.fired 0 alone true }
         ensures begun { 16 * places self.now.game ≤ searched.new }
         ensures ahead { searched.new ≤ 160 * places self.now.game }
         ensures made { IfSome result (λ boxed. IsSearching self.now.game self.now.fired boxed.value) }
     {
         let graph = self.game.graph();
-        let ahead = looks_at_all(graph).saturating_mul(AHEAD);
+        let ahead = visits_at_all(graph).saturating_mul(AHEAD);
         let hierarchy = Hierarchy::new(alloc, graph, searched, ahead)?;
         let before = Vec::from_slice(alloc, &self.fired).ok()?;
         let search = Search::new(alloc, hierarchy, self.game, &before).ok()?;
@@ -67,7 +67,7 @@ impl Play<'_> {
         &mut self,
         alloc: Global,
         searching: Box<Searching>,
-        looks: &mut u64,
+        visits: &mut u64,
         watch: &mut W,
     ) -> Course
         requires { IsSearching self.old.game self.old.fired searching.value }
@@ -78,9 +78,9 @@ impl Play<'_> {
         let mut boxed = searching;
         let searching: &mut Searching = &mut boxed;
         let goes_on = if searching.beside < searching.turn_end {
-            self.turn_beside(alloc, searching, looks, watch)
+            self.turn_beside(alloc, searching, visits, watch)
         } else {
-            self.search_turn(alloc, searching, looks, watch)
+            self.search_turn(alloc, searching, visits, watch)
         };
         if goes_on {
             Course::Searches(boxed)
@@ -90,12 +90,12 @@ impl Play<'_> {
     }
 
     /// Goes on by a part of the play's turn beside a search; whether that goes on.
-    #[tactic(auto, using(crate::proofs::LooksLemmas::looks_beside, crate::proofs::LooksLemmas::looks_at_end))]
+    #[tactic(auto, using(crate::proofs::VisitsLemmas::visits_beside, crate::proofs::VisitsLemmas::visits_at_end))]
     fn turn_beside<W: Watch>(
         &mut self,
         alloc: Global,
         searching: &mut Searching,
-        looks: &mut u64,
+        visits: &mut u64,
         watch: &mut W,
     ) -> bool
         requires searching { IsSearching self.old.game self.old.fired searching.old }
@@ -107,7 +107,7 @@ impl Play<'_> {
         let before = searching.beside;
         let part = (searching.turn_end - before).min(STRETCH);
         let goes_on = self.stretch(alloc, part, &mut searching.beside, watch);
-        *looks = looks.saturating_add(searching.beside - before);
+        *visits = visits.saturating_add(searching.beside - before);
         if !goes_on {
             self.end_search(searching, watch);
         }
@@ -115,12 +115,12 @@ impl Play<'_> {
     }
 
     /// Goes on by a part of the search's turn; whether that goes on.
-    #[tactic(auto, using(crate::proofs::LooksLemmas::looks_at_end))]
+    #[tactic(auto, using(crate::proofs::VisitsLemmas::visits_at_end))]
     fn search_turn<W: Watch>(
         &mut self,
         alloc: Global,
         searching: &mut Searching,
-        looks: &mut u64,
+        visits: &mut u64,
         watch: &mut W,
     ) -> bool
         requires searching { IsSearching self.old.game self.old.fired searching.old }
@@ -129,8 +129,8 @@ impl Play<'_> {
         ensures searching { IsTrue result → IsSearching self.old.game self.new.fired searching.new }
     {
         let before = searching.searched;
-        let due = share_of_search(looks_at_all(self.game.graph()), searching);
-        let next = searching.search.looks_of_next().max(STRETCH);
+        let due = share_of_search(visits_at_all(self.game.graph()), searching);
+        let next = searching.search.visits_of_next().max(STRETCH);
         let part = before.saturating_add(next).min(due);
         let is_over = searching.search.go_on(
             alloc,
@@ -139,7 +139,7 @@ impl Play<'_> {
             &mut searching.searched,
             part,
         );
-        *looks = looks.saturating_add(searching.searched - before);
+        *visits = visits.saturating_add(searching.searched - before);
         match is_over {
             Ok(false) if part < due && searching.searched > before => {
                 watch.searches(&searching.search);
@@ -157,8 +157,8 @@ impl Play<'_> {
         }
     }
 
-    /// Gives the play its turn, if the search has made as many looks as the play; whether both go on.
-    #[tactic(auto, using(crate::proofs::LooksLemmas::looks_at_end))]
+    /// Gives the play its turn, if the search has made as many visits as the play; whether both go on.
+    #[tactic(auto, using(crate::proofs::VisitsLemmas::visits_at_end))]
     fn grant_turn<W: Watch>(&mut self, searching: &mut Searching, watch: &mut W) -> bool
         requires searching { IsSearching self.old.game self.old.fired searching.old }
         ensures same { self.new ≡ self.old }
@@ -168,14 +168,14 @@ impl Play<'_> {
             self.end_search(searching, watch);
             return false;
         }
-        let turn = turn_of(looks_at_all(self.game.graph()), searching);
+        let turn = turn_of(visits_at_all(self.game.graph()), searching);
         searching.turn_end = searching.beside.saturating_add(turn);
         true
     }
 
     /// Makes a round beside a search; what the play is at then, and whether the round fired a vertex. A search that is
-    /// behind by more than a turn is given up.
-    #[tactic(auto, using(crate::proofs::LooksLemmas::looks_beside, crate::proofs::LooksLemmas::looks_at_end))]
+A search that is
+    #[tactic(auto, using(crate::proofs::VisitsLemmas::visits_beside, crate::proofs::VisitsLemmas::visits_at_end))]
     pub(crate) fn round_beside<W: Watch>(
         &mut self,
         searching: Box<Searching>,
@@ -188,7 +188,7 @@ impl Play<'_> {
     {
         let mut boxed = searching;
         let searching: &mut Searching = &mut boxed;
-        let turn = turn_of(looks_at_all(self.game.graph()), searching);
+        let turn = turn_of(visits_at_all(self.game.graph()), searching);
         if searching.beside > searching.searched.saturating_add(turn) {
             self.end_search(searching, watch);
             return (Course::Rounds, self.rounds(0, &mut 0, watch));
@@ -200,7 +200,7 @@ impl Play<'_> {
         (Course::Rounds, false)
     }
 
-    /// Tells of a search that is over.
+    /// Reports a search that is over.
     fn end_search<W: Watch>(&mut self, searching: &Searching, watch: &mut W)
         requires { IsShort self.old.game self.old.fired searching.now.alone searching.now.beside searching.now.searched }
         ensures { self.new ≡ self.old }
@@ -220,7 +220,7 @@ impl Play<'_> {
     }
 }
 
-/// How many looks a search may have made in all, on a game with so many vertices and edges.
+/// How many visits a search may have made in all, on a game with `all` vertices and edges.
 fn share_of_search(all: u64, searching: &Searching) -> u64
     requires { searching.now.searched ≤ 160 * all + 2 * searching.now.alone + searching.now.beside }
     ensures enough { searching.now.searched ≤ result }
@@ -232,7 +232,7 @@ fn share_of_search(all: u64, searching: &Searching) -> u64
         .max(searching.searched)
 }
 
-/// How many looks the play makes in a turn beside a search, on a game with so many vertices and edges.
+/// How many visits the play makes in a turn beside a search, on a game with `all` vertices and edges.
 fn turn_of(all: u64, searching: &Searching) -> u64
     ensures { result ≤ 4 * all + (searching.now.alone + searching.now.beside) / 4 }
 {

@@ -69,8 +69,8 @@ impl Room {
     }
 }
 
-/// Plays on by a work list from these chips and counts, of which no vertex but this one is legal. If it comes to the
-/// end, it answers how many at the front of the support are all vertices that fired.
+/// Plays on by a work list from these chips and counts, of which no vertex but this one is legal. If it reaches the
+/// end, it returns the number of vertices that fired, which are at the front of the support.
 fn work_from(
     game: &Game,
     vertex: u64,

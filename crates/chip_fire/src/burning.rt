@@ -6,7 +6,7 @@ use chip_graph::Graph;
 use std::alloc::{AllocError, Global};
 
 /// An order in which the vertices burn that fire more often by the counts than they have `fired`, by the chips that the
-/// counts leave: ranks from 1 on, and 0 for the others. It looks about once at each vertex, and each edge out of these.
+/// counts leave: ranks from 1 on, and 0 for the others. It visits each vertex about once, and each edge out of these.
 pub(crate) fn burning_order(
     alloc: Global,
     graph: &Graph,

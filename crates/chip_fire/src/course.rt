@@ -15,9 +15,9 @@ use std::alloc::Global;
 pub enum Course {
     /// Nothing was done yet.
     Begins,
-    /// Few chips wait to move: it goes on by a work list, for so many looks at most.
+    /// Few chips wait to move: it goes on by a work list, for at most this number of visits.
     WorkList(u64),
-    /// Few chips have set off many: it goes on by rounds, for so many looks at most.
+    /// Few chips have set off many: it goes on by rounds, for at most this number of visits.
     FewChips(u64),
     /// It goes on by rounds, as long as these take it soon to an end.
     Doubles(Doubling),
@@ -30,8 +30,8 @@ pub enum Course {
 /// Rounds that are judged each time that they have made twice the work.
 #[derive(Clone, Copy)]
 pub struct Doubling {
-    /// How many looks they have made.
-    pub(crate) looks: u64,
+    /// How many visits they have made.
+    pub(crate) visits: u64,
     /// At how many they are judged next.
     pub(crate) end: u64,
     /// How many they make after that.
@@ -46,20 +46,20 @@ pub struct Searching {
     pub(crate) search: Box<Search>,
     /// How often each vertex had fired when the search began.
     pub(crate) before: Vec<u64>,
-    /// How many looks the play had made then.
+    /// How many visits the play had made then.
     pub(crate) alone: u64,
     /// How many it has made since.
     pub(crate) beside: u64,
     /// At how many of these its turn ends.
     pub(crate) turn_end: u64,
-    /// How many looks the search has made.
+    /// How many visits the search has made.
     pub(crate) searched: u64,
 }
 
 impl Play<'_> {
-    /// Goes on by so many visits, looks at a vertex or an edge: what it is at then, and whether it goes on. One round is
+    /// Goes on by this number of visits to a vertex or an edge; what it is at then, and whether it goes on. One round is
     /// made at least, so it has ended, or some vertex has fired. 2^64 - 1 visits take it to the end within the limit.
-    #[tactic(auto, using(crate::proofs::LooksLemmas::goes_after))]
+    #[tactic(auto, using(crate::proofs::VisitsLemmas::goes_after))]
     pub fn go_on<W: Watch>(
         &mut self,
         alloc: Global,
@@ -73,8 +73,8 @@ impl Play<'_> {
         ensures round { GoesRound self.old.game self.old.fired self.new.chips self.new.fired result.1 }
         ensures whole { visits ≡ 2 ^ 64 - 1 → result.1 ≡ false }
     {
-        let mut looks = 0u64;
-        let course = self.steps(alloc, course, visits, &mut looks, watch);
+        let mut made = 0u64;
+        let course = self.steps(alloc, course, visits, &mut made, watch);
         match course {
             Course::Doubles(doubling) if visits != u64::MAX => self.round_of(doubling, watch),
             Course::Searches(searching) if visits != u64::MAX => {
@@ -82,19 +82,19 @@ impl Play<'_> {
             }
             _ => (
                 Course::Rounds,
-                self.last_rounds(alloc, visits, &mut looks, watch),
+                self.last_rounds(alloc, visits, &mut made, watch),
             ),
         }
     }
 
-    /// Takes the steps of a course until it is rounds, or so many visits are made.
+    /// Takes the steps of a course until it is rounds, or `visits` visits are made.
     #[tactic(auto, using(crate::proofs::PlayLemmas::rise_more))]
     fn steps<W: Watch>(
         &mut self,
         alloc: Global,
         course: Course,
         visits: u64,
-        looks: &mut u64,
+        made: &mut u64,
         watch: &mut W,
     ) -> Course
         requires { IsCourse self.old.game self.old.fired course }
@@ -104,40 +104,40 @@ impl Play<'_> {
     {
         let mut course = course;
         'steps: for _ in 0..u64::MAX {
-            if *looks >= visits {
+            if *made >= visits {
                 return course;
             }
             course = match course {
                 Course::Begins => self.begin(),
-                Course::WorkList(left) => self.work_off_part(alloc, left, looks),
-                Course::FewChips(left) => self.play_part(alloc, left, looks, watch),
-                Course::Doubles(doubling) => self.double(alloc, doubling, looks, watch),
-                Course::Searches(searching) => self.search_on(alloc, searching, looks, watch),
+                Course::WorkList(left) => self.work_off_part(alloc, left, made),
+                Course::FewChips(left) => self.play_part(alloc, left, made, watch),
+                Course::Doubles(doubling) => self.double(alloc, doubling, made, watch),
+                Course::Searches(searching) => self.search_on(alloc, searching, made, watch),
                 Course::Rounds => return Course::Rounds,
             };
         }
         course
     }
 
-    /// Makes rounds until one fires no vertex or so many visits are made, one round at least; whether each fired one.
-    #[tactic(auto, using(crate::proofs::LooksLemmas::goes_after))]
+    /// Makes rounds until one fires no vertex or `visits` visits are made, one round at least; whether each fired one.
+    #[tactic(auto, using(crate::proofs::VisitsLemmas::goes_after))]
     fn last_rounds<W: Watch>(
         &mut self,
         alloc: Global,
         visits: u64,
-        looks: &mut u64,
+        made: &mut u64,
         watch: &mut W,
     ) -> bool
         ensures same { self.new.game ≡ self.old.game }
         ensures round { GoesRound self.old.game self.old.fired self.new.chips self.new.fired result }
         ensures whole { visits ≡ 2 ^ 64 - 1 → result ≡ false }
     {
-        let part = visits.saturating_sub(*looks).min(STRETCH);
-        if !self.stretch(alloc, part, looks, watch) {
+        let part = visits.saturating_sub(*made).min(STRETCH);
+        if !self.stretch(alloc, part, made, watch) {
             return false;
         }
-        'stretches: while *looks < visits || visits == u64::MAX {
-            if !self.stretch(alloc, STRETCH, looks, watch) {
+        'stretches: while *made < visits || visits == u64::MAX {
+            if !self.stretch(alloc, STRETCH, made, watch) {
                 return false;
             }
         }

@@ -3,7 +3,7 @@
 ghost use Rattle.chip_fire.specs.Avalanches.{DropsAddUp};
 ghost use Rattle.chip_fire.specs.Worked.{MeasuredDrops, ThreeDrops};
 
-/// Three drops on the triangle, as the definitions tell them.
+/// Three drops on the triangle, by the definitions.
 pub fn three_drops()
     ensures { ThreeDrops }
 {}

@@ -110,7 +110,7 @@ impl Pile {
         is_stable(self.game.graph(), &self.chips)
     }
 
-    /// Plays on by so many visits (`Play::go_on`); whether the play goes on.
+    /// Plays on by `visits` visits (`Play::go_on`); whether the play goes on.
     #[tactic(auto, using(crate::proofs::CourseLemmas::plays_on))]
     pub fn go_on(self, alloc: Global, visits: u64) -> (Pile, bool)
         requires { IsBegunPile self }
@@ -155,7 +155,7 @@ impl Pile {
         self.begin_drop(vertex, count).finish(alloc, &mut Unwatched)
     }
 
-    /// `drop_chips`, which tells for how many rounds the avalanche lasts too if it is timed. Then it is played in rounds,
+    /// `drop_chips`, which counts the rounds of the avalanche too if it is timed. Then it is played in rounds,
     /// in each of which each legal vertex fires once: a vertex with many chips fires one time after another.
     pub fn drop_measured(
         self,
@@ -199,7 +199,7 @@ impl Pile {
         self.begin_with(vertex, count, false).0
     }
 
-    /// Drops `count` chips on a vertex, and plays on as `play_from`, which tells the rounds.
+    /// Drops `count` chips on a vertex, and plays on as `play_from`, which counts the rounds.
     fn begin_with(self, vertex: u64, count: u64, timed: bool) -> (BegunDrop, u64)
         requires pile { IsPile self }
         requires stable { IsStable self.game.graph (slice_index self.chips.items) }

@@ -1,4 +1,4 @@
-//! A play of a game: what it has come to, and its outcome once it has ended.
+//! A play of a game: its state, and its outcome once it has ended.
 
 ghost use Rattle.std.specs.Prelude.{◌≡◌, ℕ, ◌↔◌, IfOk, IsTrue, length, slice_index};
 ghost use Rattle.chip_sequence.specs.Firing.{legal_vertices};

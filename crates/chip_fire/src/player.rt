@@ -20,7 +20,7 @@ pub fn plain(alloc: Global, game: &Game) -> Result<Outcome, AllocError>
     plain_watched(alloc, game, &mut Unwatched)
 }
 
-/// Plays a game as `plain` does, and tells time and again how far it has come. The outcome is the same, whoever
+/// Plays a game as `plain` does, and reports its progress to `watch`. The outcome is the same, whoever
 /// watches.
 pub fn plain_watched<W: Watch>(
     alloc: Global,

@@ -5,7 +5,7 @@ ghost use Rattle.std.specs.Bool.{OnTrue, OnFalse};
 ghost use Rattle.chip_sequence.specs.Firing.{IsLegal};
 ghost use Rattle.chip_fire.specs.Rounds.{IsBegun, IsInRange, IsAtRest, StaysOnTheWay, OnlyRise, GoesRound, firings_left};
 ghost use Rattle.chip_fire.specs.Rounds.{IsSwept, IsRound, AreRounds};
-ghost use Rattle.chip_fire.specs.Search.{FewLooks, places};
+ghost use Rattle.chip_fire.specs.Search.{FewVisits, places};
 
 use crate::play::Play;
 use crate::watch::Watch;
@@ -14,36 +14,36 @@ use chip_sequence::fire_batch;
 use std::alloc::Global;
 
 impl Play<'_> {
-    /// Goes on by a queue while few vertices are legal, and by rounds for what is left of `most` looks, one round at
-    /// least; whether each round fired a vertex. The looks are added to `looks`, up to 2^64 - 1.
-    #[tactic(auto, using(crate::proofs::LooksLemmas::looks_more, crate::proofs::LooksLemmas::goes_after))]
+    /// Goes on by a queue while few vertices are legal, and by rounds for what is left of `most` visits, one round at
+    /// least; whether each round fired a vertex. The visits are added to `visits`, up to 2^64 - 1.
+    #[tactic(auto, using(crate::proofs::VisitsLemmas::visits_more, crate::proofs::VisitsLemmas::goes_after))]
     pub(crate) fn stretch<W: Watch>(
         &mut self,
         alloc: Global,
         most: u64,
-        looks: &mut u64,
+        visits: &mut u64,
         watch: &mut W,
     ) -> bool
         ensures same { self.new.game ≡ self.old.game }
         ensures round { GoesRound self.old.game self.old.fired self.new.chips self.new.fired result }
-        ensures few { FewLooks self.old.game self.old.fired self.new.fired looks.old looks.new result }
-        ensures at_most { looks.new ≤ looks.old + most + places self.old.game }
+        ensures few { FewVisits self.old.game self.old.fired self.new.fired visits.old visits.new result }
+        ensures at_most { visits.new ≤ visits.old + most + places self.old.game }
     {
-        let before = *looks;
-        let _ = self.work_off_few(alloc, most, looks);
-        let rest = most.saturating_sub(*looks - before);
-        self.rounds(rest, looks, watch)
+        let before = *visits;
+        let _ = self.work_off_few(alloc, most, visits);
+        let rest = most.saturating_sub(*visits - before);
+        self.rounds(rest, visits, watch)
     }
 
-    /// Makes rounds until one fires no vertex or `most` looks are made, one round at least, and tells `watch` how far
-    /// the play has come; whether each fired a vertex. The looks are added to `looks`, up to 2^64 - 1: one at each
+    /// Makes rounds until one fires no vertex or `most` visits are made, one round at least, and reports to `watch` how far
+    /// the play has come; whether each fired a vertex. The visits are added to `visits`, up to 2^64 - 1: one at each
     /// vertex in each round, and for each vertex that fires as many as vertices have edges out in the mean.
     #[inline(always)]
-    pub(crate) fn rounds<W: Watch>(&mut self, most: u64, looks: &mut u64, watch: &mut W) -> bool
+    pub(crate) fn rounds<W: Watch>(&mut self, most: u64, visits: &mut u64, watch: &mut W) -> bool
         ensures same { self.new.game ≡ self.old.game }
         ensures round { GoesRound self.old.game self.old.fired self.new.chips self.new.fired result }
-        ensures few { FewLooks self.old.game self.old.fired self.new.fired looks.old looks.new result }
-        ensures at_most { looks.new ≤ looks.old + most + places self.old.game }
+        ensures few { FewVisits self.old.game self.old.fired self.new.fired visits.old visits.new result }
+        ensures at_most { visits.new ≤ visits.old + most + places self.old.game }
     {
         let graph = self.game.graph();
         let vertices = graph.vertices().max(1);
@@ -60,7 +60,7 @@ impl Play<'_> {
         watch.rounds(made, self);
         let at_vertices = made.saturating_add(1).min(most).saturating_mul(vertices);
         let at_edges = turns.saturating_mul(edges) / vertices;
-        *looks = looks.saturating_add(at_vertices).saturating_add(at_edges);
+        *visits = visits.saturating_add(at_vertices).saturating_add(at_edges);
         made == most
     }
 }

@@ -10,9 +10,9 @@ use chip_graph::{Game, Graph};
 use chip_sequence::{MAX_PRIOR, ResumeFault, Resumed};
 use std::alloc::Global;
 
-/// Plays on from where an earlier sitting ended, on the same graph, with a firing limit of this sitting's own.
+/// Plays on from where an earlier stage ended, on the same graph, with a firing limit of this stage's own.
 ///
-/// The sitting is `plain`'s on the chips that lie there, and what was fired before it is what was fired in all so far.
+/// The stage is `plain`'s on the chips that lie there, and what was fired before it is what was fired in all so far.
 /// So the counts of all sittings add up, and if the last one ends with no vertex legal they are those of a play that
 /// was never stopped.
 pub fn resume(
@@ -29,7 +29,7 @@ pub fn resume(
     resume_watched(alloc, graph, earlier, limit, &mut Unwatched)
 }
 
-/// Plays on as `resume` does, and tells time and again how far the sitting has come. The answer is the same, whoever
+/// Plays on as `resume` does, and reports its progress to `watch`. The result is the same, whoever
 /// watches.
 pub fn resume_watched<W: Watch>(
     alloc: Global,

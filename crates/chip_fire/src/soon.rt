@@ -2,13 +2,13 @@
 
 ghost use Rattle.std.specs.Prelude.{◌≡◌, ◌+◌, [], true, length};
 ghost use Rattle.chip_fire.specs.Rounds.{OnlyRise, GoesRound};
-ghost use Rattle.chip_fire.specs.Search.{FewLooks};
+ghost use Rattle.chip_fire.specs.Search.{FewVisits};
 ghost use Rattle.chip_fire.specs.Course.{IsCourse};
 
 use crate::course::{Course, Doubling};
 use crate::play::Play;
 use crate::tuning::{
-    FEW_LOOKS, FIRST_LOOKS, LIST_STRETCH, LOOKS_OF_FEW, LOOKS_OF_LIST, STRETCH, VERTICES_PER_CHIP,
+    FEW_VISITS, FIRST_VISITS, LIST_STRETCH, VISITS_OF_FEW, VISITS_OF_LIST, STRETCH, VERTICES_PER_CHIP,
 };
 use crate::watch::Watch;
 use crate::work_list::is_legal;
@@ -24,20 +24,20 @@ impl Play<'_> {
         if waits == 0 || waits > self.few_chips() {
             return self.soon();
         }
-        let all = looks_at_all(self.game.graph());
-        Course::WorkList(all.saturating_mul(LOOKS_OF_LIST))
+        let all = visits_at_all(self.game.graph());
+        Course::WorkList(all.saturating_mul(VISITS_OF_LIST))
     }
 
     /// It goes on by rounds that are judged.
-    #[tactic(auto, using(crate::proofs::LooksLemmas::none_from_start))]
+    #[tactic(auto, using(crate::proofs::VisitsLemmas::none_from_start))]
     pub(crate) fn soon(&self) -> Course
         ensures { IsCourse self.now.game self.now.fired result }
     {
-        let all = looks_at_all(self.game.graph());
+        let all = visits_at_all(self.game.graph());
         Course::Doubles(Doubling {
-            looks: 0,
+            visits: 0,
             end: 0,
-            work: all.saturating_mul(FIRST_LOOKS),
+            work: all.saturating_mul(FIRST_VISITS),
             waited: u64::MAX,
         })
     }
@@ -47,41 +47,41 @@ impl Play<'_> {
         self.game.graph().vertices() / VERTICES_PER_CHIP
     }
 
-    /// Goes on by a work list for a part of so many looks, and then by rounds, if many chips wait by then.
-    pub(crate) fn work_off_part(&mut self, alloc: Global, left: u64, looks: &mut u64) -> Course
+    /// Goes on by a work list for a part of the `left` visits, and then by rounds, if many chips wait by then.
+    pub(crate) fn work_off_part(&mut self, alloc: Global, left: u64, visits: &mut u64) -> Course
         ensures same { self.new.game ≡ self.old.game }
         ensures rises { OnlyRise self.old.fired self.new.fired }
         ensures course { IsCourse self.old.game self.new.fired result }
     {
-        let all = looks_at_all(self.game.graph());
+        let all = visits_at_all(self.game.graph());
         let part = left.min(all.saturating_mul(LIST_STRETCH).max(STRETCH));
-        let goes_on = self.work_off_few(alloc, part, looks).unwrap_or(false);
+        let goes_on = self.work_off_few(alloc, part, visits).unwrap_or(false);
         if goes_on && part < left {
             return Course::WorkList(left - part);
         }
         if self.waiting_chips() > self.few_chips() {
-            return Course::FewChips(all.saturating_mul(LOOKS_OF_FEW));
+            return Course::FewChips(all.saturating_mul(VISITS_OF_FEW));
         }
         self.soon()
     }
 
-    /// Goes on by rounds for a part of so many looks.
+    /// Goes on by rounds for a part of the `left` visits.
     pub(crate) fn play_part<W: Watch>(
         &mut self,
         alloc: Global,
         left: u64,
-        looks: &mut u64,
+        visits: &mut u64,
         watch: &mut W,
     ) -> Course
         ensures same { self.new.game ≡ self.old.game }
         ensures rises { OnlyRise self.old.fired self.new.fired }
         ensures course { IsCourse self.old.game self.new.fired result }
     {
-        let before = *looks;
-        if !self.stretch(alloc, left.min(STRETCH), looks, watch) {
+        let before = *visits;
+        if !self.stretch(alloc, left.min(STRETCH), visits, watch) {
             return Course::Rounds;
         }
-        let left = left.saturating_sub(*looks - before);
+        let left = left.saturating_sub(*visits - before);
         if left > 0 {
             return Course::FewChips(left);
         }
@@ -90,36 +90,36 @@ impl Play<'_> {
 
     /// Goes on by rounds for as long as they take it soon to an end: each time with twice the work, while that halves the
     /// chips that wait to move or the limit leaves little to do. Then counts are searched.
-    #[tactic(auto, using(crate::proofs::LooksLemmas::looks_more))]
+    #[tactic(auto, using(crate::proofs::VisitsLemmas::visits_more))]
     pub(crate) fn double<W: Watch>(
         &mut self,
         alloc: Global,
         doubling: Doubling,
-        looks: &mut u64,
+        visits: &mut u64,
         watch: &mut W,
     ) -> Course
-        requires { FewLooks self.old.game [] self.old.fired 0 doubling.looks true }
+        requires { FewVisits self.old.game [] self.old.fired 0 doubling.visits true }
         ensures same { self.new.game ≡ self.old.game }
         ensures rises { OnlyRise self.old.fired self.new.fired }
         ensures course { IsCourse self.old.game self.new.fired result }
     {
         let mut next = doubling;
-        if next.looks >= next.end {
-            let few = looks_at_all(self.game.graph()).saturating_mul(FEW_LOOKS);
+        if next.visits >= next.end {
+            let few = visits_at_all(self.game.graph()).saturating_mul(FEW_VISITS);
             let waits = self.waiting_chips();
             if waits > next.waited / 2
-                && !leaves_little(self.game.limit(), &self.fired, next.looks, few)
+                && !leaves_little(self.game.limit(), &self.fired, next.visits, few)
             {
-                return self.begin_search(alloc, next.looks, looks, watch);
+                return self.begin_search(alloc, next.visits, visits, watch);
             }
             next.waited = waits;
-            next.end = next.looks.saturating_add(next.work);
+            next.end = next.visits.saturating_add(next.work);
             next.work = next.work.saturating_mul(2);
         }
-        let part = next.end.saturating_sub(next.looks).min(STRETCH);
-        let before = next.looks;
-        let goes_on = self.stretch(alloc, part, &mut next.looks, watch);
-        *looks = looks.saturating_add(next.looks - before);
+        let part = next.end.saturating_sub(next.visits).min(STRETCH);
+        let before = next.visits;
+        let goes_on = self.stretch(alloc, part, &mut next.visits, watch);
+        *visits = visits.saturating_add(next.visits - before);
         if goes_on {
             Course::Doubles(next)
         } else {
@@ -128,15 +128,15 @@ impl Play<'_> {
     }
 
     /// Makes a round; what the play is at then, and whether the round fired a vertex.
-    #[tactic(auto, using(crate::proofs::LooksLemmas::looks_more))]
+    #[tactic(auto, using(crate::proofs::VisitsLemmas::visits_more))]
     pub(crate) fn round_of<W: Watch>(&mut self, doubling: Doubling, watch: &mut W) -> (Course, bool)
-        requires { FewLooks self.old.game [] self.old.fired 0 doubling.looks true }
+        requires { FewVisits self.old.game [] self.old.fired 0 doubling.visits true }
         ensures same { self.new.game ≡ self.old.game }
         ensures course { IsCourse self.old.game self.new.fired result.0 }
         ensures round { GoesRound self.old.game self.old.fired self.new.chips self.new.fired result.1 }
     {
         let mut next = doubling;
-        if self.rounds(0, &mut next.looks, watch) {
+        if self.rounds(0, &mut next.visits, watch) {
             (Course::Doubles(next), true)
         } else {
             (Course::Rounds, false)
@@ -158,8 +158,8 @@ impl Play<'_> {
     }
 }
 
-/// The work of looking at each vertex and each edge out once.
-pub(crate) fn looks_at_all(graph: &Graph) -> u64
+/// The work of visiting each vertex and each edge out once.
+pub(crate) fn visits_at_all(graph: &Graph) -> u64
     ensures { result ≡ graph.now.vertices + length graph.now.edges }
 {
     graph.vertices().saturating_add(graph.edges().len() as u64)

@@ -1,36 +1,36 @@
-//! The numbers of the player that were tuned, on games of `bench/`. A look is one at a vertex or an edge.
+//! The numbers of the player that were tuned, on games of `bench/`. A visit is to a vertex or an edge.
 
-/// How many looks at each vertex and edge a play makes before it is judged whether it ends soon. Doubled each time.
-pub(crate) const FIRST_LOOKS: u64 = 16;
+/// How many visits to each vertex and edge a play makes before it is judged whether it ends soon. Doubled each time.
+pub(crate) const FIRST_VISITS: u64 = 16;
 
-/// How many looks at each vertex and edge are too few to search counts: grid-six and random-graph with limits.
-pub(crate) const FEW_LOOKS: u64 = 480;
+/// How many visits to each vertex and edge are too few to search counts: grid-six and random-graph with limits.
+pub(crate) const FEW_VISITS: u64 = 480;
 
-/// How many looks at each vertex and edge the play makes in each of its turns beside a search.
+/// How many visits to each vertex and edge the play makes in each of its turns beside a search.
 pub(crate) const TURN: u64 = 4;
 
-/// Which part of its looks the play makes at least in a turn, so that turns grow with the play: ring-one-way.
+/// Which part of its visits the play makes at least in a turn, so that turns grow with the play: ring-one-way.
 pub(crate) const PART_OF_TURN: u64 = 4;
 
-/// How many looks one in a work list counts for, since it lies anywhere: peak-511.
-pub(crate) const LOOKS_OF_LISTED: u64 = 4;
+/// How many visits one in a work list counts for, since it lies anywhere: peak-511.
+pub(crate) const VISITS_OF_LISTED: u64 = 4;
 
-/// How many looks at each vertex and edge are made by a work list, if few chips wait.
-pub(crate) const LOOKS_OF_LIST: u64 = 256;
+/// How many visits to each vertex and edge are made by a work list, if few chips wait.
+pub(crate) const VISITS_OF_LIST: u64 = 256;
 
-/// How many looks lie about between two times that it is told how far a play has come: some milliseconds.
+/// How many visits lie about between two reports of a play's progress: some milliseconds.
 pub(crate) const STRETCH: u64 = 1 << 20;
 
 /// Few chips wait if there is at most one for this number of vertices.
 pub(crate) const VERTICES_PER_CHIP: u64 = 64;
 
-/// How many looks at each vertex and edge are made by a work list before its turn may end: each beginning passes over all
+/// How many visits to each vertex and edge are made by a work list before its turn may end: each beginning passes over all
 /// vertices.
 pub(crate) const LIST_STRETCH: u64 = 16;
 
-/// How many looks at each vertex and edge are made by rounds, if few chips set off many: a search is slower than most
+/// How many visits to each vertex and edge are made by rounds, if few chips set off many: a search is slower than most
 /// such plays (full-1000, and some hundreds of chips on a full grid of 300 by 300).
-pub(crate) const LOOKS_OF_FEW: u64 = 1024;
+pub(crate) const VISITS_OF_FEW: u64 = 1024;
 
 /// How many turns at each vertex a play by a work list makes before it gives up.
 pub(crate) const TURNS: u64 = 64;

@@ -20,33 +20,33 @@ pub enum GivenUse {
     Dropped,
 }
 
-/// Told how a play goes on. It returns, and what it does changes nothing of the play.
+/// Gets the progress of a play. Each call returns, and none changes the play.
 pub trait Watch {
-    /// Told once the game is read, before it is played.
+    /// Gets the game once it is read, before it is played.
     fn plays(&mut self, _game: &Game) {}
 
-    /// Told once what became of counts that were given, with the play as it begins.
+    /// Gets the play as it begins, and how it used the counts that were given.
     fn used(&mut self, _play: &Play<'_>, _given: &[u64], _use: GivenUse)
         requires told { IsUse _play.now.game _given.now _play.now.chips _play.now.fired _use }
         requires below { IsBelow _given.now _play.now.fired }
     {}
 
-    /// Told of a search for counts, in which no vertex fires, while it goes on.
+    /// Gets a search for counts while it goes on. No vertex fires meanwhile.
     fn searches(&mut self, _search: &Search) {}
 
-    /// Told once a search for counts is over how many looks at a vertex or an edge it made, the making of what it stands
-    /// on too, and how many the play made before it and beside it.
+    /// Gets the visits to vertices and edges of a search that is over, those of its levels' making too, and the
+    /// visits of the play before it (`alone`) and beside it.
     fn searched(&mut self, _play: &Play<'_>, _alone: u64, _beside: u64, _searched: u64)
         requires { IsShort _play.now.game _play.now.fired _alone _beside _searched }
     {}
 
-    /// Told what the play has come to after `more` further rounds, in each of which some vertex fired.
+    /// Gets the play after `more` further rounds, in each of which some vertex fired.
     ///
     /// If counts were found and certified, the play went on from these, and they are among the firings. In any case
     /// every whole play of the game fires each vertex at least as often.
     fn rounds(&mut self, more: u64, play: &Play<'_>);
 
-    /// Told how many bytes the report has that is written next.
+    /// Gets the number of bytes of the report that is written next.
     fn writes(&mut self, _bytes: u64) {}
 }
 

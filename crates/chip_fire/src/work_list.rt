@@ -3,7 +3,7 @@
 ghost use Rattle.std.specs.Prelude.{◌≡◌, ◌↔◌, ℕ, ◌+◌, ◌*◌, ◌/◌, ◌<◌, ◌≤◌, ◌⊎◌, ◌∷◌, true, false, length, take, drop};
 ghost use Rattle.std.specs.Prelude.{slice_index, slice_set, MatchOption, IfOk, IfErr, Ok};
 ghost use Rattle.chip_graph.specs.Multigraph.{degree, edges_out};
-ghost use Rattle.chip_fire.specs.Search.{FewLooks};
+ghost use Rattle.chip_fire.specs.Search.{FewVisits};
 ghost use Rattle.chip_sequence.specs.Firing.{IsLegal};
 ghost use Rattle.chip_fire.specs.Rounds.{IsBegun, IsInRange, StaysOnTheWay, OnlyRise, firings_left};
 ghost use Rattle.chip_fire.specs.Timed.{AreFound};
@@ -11,30 +11,30 @@ ghost use Rattle.chip_fire.specs.WorkList.{AreTheLegal, IsStuck, WorksOff, legal
 
 use crate::play::{Play, legal_vertices};
 use crate::rounds::times_in;
-use crate::soon::looks_at_all;
-use crate::tuning::{LOOKS_OF_LISTED, VERTICES_PER_PLACE};
+use crate::soon::visits_at_all;
+use crate::tuning::{VERTICES_PER_PLACE, VISITS_OF_LISTED};
 use chip_graph::{Game, Graph};
 use std::alloc::{AllocError, Global};
 
 impl Play<'_> {
-    /// Goes on by a queue of legal vertices if these are few, until about `most` looks are made. The looks are added to
-    /// `looks`, up to 2^64 - 1: those at a vertex that fires and at its edges, of which it has as many as vertices
-    /// have in the mean, count `LOOKS_OF_LISTED` times, since they lie anywhere. Whether it may go on so.
+    /// Goes on by a queue of legal vertices if these are few, until about `most` visits are made. The visits are added to
+    /// `visits`, up to 2^64 - 1: those at a vertex that fires and at its edges, of which it has as many as vertices
+    /// have in the mean, count `VISITS_OF_LISTED` times, since they lie anywhere. Whether it may go on so.
     pub fn work_off_few(
         &mut self,
         alloc: Global,
         most: u64,
-        looks: &mut u64,
+        visits: &mut u64,
     ) -> Result<bool, AllocError>
         ensures same { self.new.game ≡ self.old.game }
         ensures rises { OnlyRise self.old.fired self.new.fired }
-        ensures few { FewLooks self.old.game self.old.fired self.new.fired looks.old looks.new true }
-        ensures at_most { looks.new ≤ looks.old + most }
+        ensures few { FewVisits self.old.game self.old.fired self.new.fired visits.old visits.new true }
+        ensures at_most { visits.new ≤ visits.old + most }
         ensures works { IfOk result (WorksOff self.old.game (self.old.game.graph.vertices / 8) most
-            self.new.chips self.new.fired looks.old looks.new) }
-        ensures no_memory { IfErr result (λ _. (self.new ≡ self.old) × (looks.new ≡ looks.old)) }
+            self.new.chips self.new.fired visits.old visits.new) }
+        ensures no_memory { IfErr result (λ _. (self.new ≡ self.old) × (visits.new ≡ visits.old)) }
         ensures many { self.old.game.graph.vertices / 8 < legal_in_all self.old.game.graph self.old.chips
-            → (result ≡ Ok false) × (self.new ≡ self.old) × (looks.new ≡ looks.old) }
+            → (result ≡ Ok false) × (self.new ≡ self.old) × (visits.new ≡ visits.old) }
     {
         let graph = self.game.graph();
         let vertices = graph.vertices();
@@ -47,8 +47,8 @@ impl Play<'_> {
         queue.resize(listed + 2 * few, 0)?;
         let at_each = (graph.edges().len() as u64 / vertices.max(1)).saturating_add(1);
         let of_turn = at_each
-            .saturating_mul(LOOKS_OF_LISTED)
-            .min(looks_at_all(graph));
+            .saturating_mul(VISITS_OF_LISTED)
+            .min(visits_at_all(graph));
         let most = most / of_turn.max(1);
         let worked = work_off(
             self.game,
@@ -60,7 +60,7 @@ impl Play<'_> {
             &mut self.chips,
             &mut self.fired,
         );
-        *looks = looks.saturating_add(worked.turns.saturating_mul(of_turn));
+        *visits = visits.saturating_add(worked.turns.saturating_mul(of_turn));
         Ok(worked.turns == most)
     }
 }
@@ -82,21 +82,21 @@ fn are_few(graph: &Graph, chips: &[u64], few: usize) -> bool
     true
 }
 
-/// What a work list has come to.
+/// Where a work list stopped.
 #[derive(Clone, Copy)]
 pub struct Worked {
-    /// How many turns it made.
+    /// The number of turns that it made.
     pub turns: u64,
-    /// How many vertices are legal.
+    /// The number of vertices that are legal.
     pub legal: usize,
-    /// How many vertices fired, if these were noted and none is legal.
+    /// The number of vertices that fired, if these were noted and none is legal.
     pub noted: usize,
 }
 
-/// Lets the first `listed` vertices of a queue fire in turn, which are all that are legal, and those that get legal by
-/// it, first in, first out, each as often as its chips allow, for up to `most` turns. It ends before if no vertex is
-/// legal, if one would have to fire more often than the limit allows, or if the queue is too short. The vertices that
-/// fire are noted at the front of `support`, if `before` has the counts with which it begins.
+/// Lets the legal vertices of a queue, its first `listed`, fire in turn, and those that become legal by it, first in,
+/// first out, each as often as its chips allow, for up to `most` turns. It ends earlier if no vertex is legal, if one
+/// would pass the limit, or if the queue is too short. If `before` has the counts with which it begins, the vertices
+/// that fire are noted at the front of `support`.
 pub fn work_off(
     game: &Game,
     mut listed: usize,

@@ -35,10 +35,10 @@ pub(crate) struct Burning {
     /// The first vertex that fires or into which something comes, and where such vertices end.
     first: usize,
     end: usize,
-    /// How many looks a step makes at most.
-    pub(crate) looks: u64,
+    /// How many visits a step makes at most.
+    pub(crate) visits: u64,
     /// How many the last one made, up to that.
-    pub(crate) looked: u64,
+    pub(crate) visited: u64,
     /// How many steps were made.
     pub(crate) steps: u64,
     /// In how many of them in a row no vertex burnt.
@@ -70,8 +70,8 @@ impl Burning {
             vertices: Vec::new(alloc),
             first: 0,
             end: 0,
-            looks: 0,
-            looked: 0,
+            visits: 0,
+            visited: 0,
             steps: 0,
             stalled: 0,
             unfired: 0,
@@ -115,8 +115,8 @@ impl Burning {
         self.steps = 0;
         self.stalled = 0;
         self.end = 0;
-        self.looks = 0;
-        let mut looks = 0u64;
+        self.visits = 0;
+        let mut visits = 0u64;
         for vertex in 0..self.vertices.len() {
             let mut comes = 0i64;
             for link in hierarchy.finest.links_of(vertex) {
@@ -130,13 +130,13 @@ impl Burning {
             let is_needed = comes > 0 || own.fires > 0;
             if self.end == 0 {
                 self.first = vertex;
-                looks = 0;
+                visits = 0;
             }
             let links = hierarchy.outs().links_of(vertex).len() as u64;
-            looks = looks.saturating_add(links).saturating_add(2);
+            visits = visits.saturating_add(links).saturating_add(2);
             if is_needed {
                 self.end = vertex.saturating_add(1);
-                self.looks = looks;
+                self.visits = visits;
             }
         }
     }
@@ -154,7 +154,7 @@ impl Burning {
     pub(crate) fn step(&mut self, hierarchy: &Hierarchy) -> Progress {
         self.steps = self.steps.saturating_add(1);
         if hierarchy.kind == Kind::General {
-            self.looked = self.looks;
+            self.visited = self.visits;
             return if self.earn_all(hierarchy) {
                 Progress::Going
             } else {
@@ -184,10 +184,10 @@ impl Burning {
         // (what is reached through `self` is read anew at each link)
         let vertices = self.vertices.as_mut_slice();
         let (mut unfired, mut unburnt) = (0u64, 0u64);
-        let mut looked = 0u64;
+        let mut visited = 0u64;
         let mut next = NONE;
         for vertex in self.first..self.end.min(vertices.len()) {
-            looked = looked.wrapping_add(1);
+            visited = visited.wrapping_add(1);
             let own = &mut vertices[vertex];
             if own.is_unburnt() {
                 own.slack = own.slack.wrapping_add(hierarchy.finest.degree(vertex));
@@ -213,7 +213,7 @@ impl Burning {
                 burns.is_burnt = true;
                 unburnt = unburnt.wrapping_sub(1);
                 let links = outs.links_of(next as usize);
-                looked = looked.wrapping_add(1).wrapping_add(links.len() as u64);
+                visited = visited.wrapping_add(1).wrapping_add(links.len() as u64);
                 next = burns.next;
                 for link in links {
                     bring(vertices, *link, vertex, &mut next);
@@ -222,7 +222,7 @@ impl Burning {
         }
         self.unfired = unfired;
         self.unburnt = unburnt;
-        self.looked = looked.min(self.looks);
+        self.visited = visited.min(self.visits);
     }
 
     /// Fires a vertex `k` times, or takes `-k` firings back if `k` is negative.

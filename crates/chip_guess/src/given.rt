@@ -51,7 +51,7 @@ fn lower_by(
     {
         return None;
     }
-    // A step looks about once at each vertex and edge.
+    // A step visits each vertex and edge about once.
     for _ in 0..AHEAD {
         match burning.step(hierarchy) {
             Progress::Converged => return burning.counts(alloc, fired, game.limit()).ok(),

@@ -2,7 +2,7 @@ ghost use Rattle.std.specs.Prelude.{◌≡◌, ◌+◌, ◌*◌, ◌≤◌, leng
 
 use crate::level::{Level, Link, NONE, Row, links_of, narrow};
 use crate::solver::TargetHeight::{self, Full, Margin, Middle, Stationary};
-use crate::tuning::{FREE_WEIGHT, LOOKS_OF_GRAPH, MOST_LEVELS};
+use crate::tuning::{FREE_WEIGHT, VISITS_OF_GRAPH, MOST_LEVELS};
 use chip_graph::Graph;
 use std::alloc::{AllocError, Global};
 
@@ -41,21 +41,21 @@ pub struct Hierarchy {
 }
 
 impl Hierarchy {
-    /// The hierarchy of a graph; `None` if memory runs out, or `most` looks in all are too few. Its looks at a vertex
-    /// or a link are added to `looks`.
-    pub fn new(alloc: Global, graph: &Graph, looks: &mut u64, most: u64) -> Option<Hierarchy>
-        requires { looks.old ≤ most }
-        ensures more { looks.old ≤ looks.new }
-        ensures at_most { looks.new ≤ most }
-        ensures begun { let end = looks.old + 16 * (graph.now.vertices + length graph.now.edges) in
-            end ≤ most → end ≤ looks.new }
+    /// The hierarchy of a graph; `None` if memory runs out, or `most` visits in all are too few. Its visits to a vertex
+    /// or a link are added to `visits`.
+    pub fn new(alloc: Global, graph: &Graph, visits: &mut u64, most: u64) -> Option<Hierarchy>
+        requires { visits.old ≤ most }
+        ensures more { visits.old ≤ visits.new }
+        ensures at_most { visits.new ≤ most }
+        ensures begun { let end = visits.old + 16 * (graph.now.vertices + length graph.now.edges) in
+            end ≤ most → end ≤ visits.new }
     {
         let size = graph.vertices().saturating_add(graph.edges().len() as u64);
-        if !spend(looks, size.saturating_mul(LOOKS_OF_GRAPH), most) {
+        if !spend(visits, size.saturating_mul(VISITS_OF_GRAPH), most) {
             return None;
         }
         let mut hierarchy = Hierarchy::flat(alloc, graph).ok()?;
-        hierarchy.coarsen(alloc, looks, most).ok()?;
+        hierarchy.coarsen(alloc, visits, most).ok()?;
         Some(hierarchy)
     }
 
@@ -72,12 +72,12 @@ impl Hierarchy {
         })
     }
 
-    /// Adds the coarser levels that `most` looks in all allow. A level is looked at four times: once for its
+    /// Adds the coarser levels that `most` visits in all allow. A level is visited four times: once for its
     /// aggregates, once for their members, and twice for their links.
-    fn coarsen(&mut self, alloc: Global, looks: &mut u64, most: u64) -> Result<(), AllocError>
-        requires { looks.old ≤ most }
-        ensures more { looks.old ≤ looks.new }
-        ensures at_most { looks.new ≤ most }
+    fn coarsen(&mut self, alloc: Global, visits: &mut u64, most: u64) -> Result<(), AllocError>
+        requires { visits.old ≤ most }
+        ensures more { visits.old ≤ visits.new }
+        ensures at_most { visits.new ≤ most }
     {
         let mut next = next_level(alloc, &mut self.finest)?;
         'levels: for _ in 0..MOST_LEVELS {
@@ -87,7 +87,7 @@ impl Hierarchy {
             next = None;
             self.coarser.push(level)?;
             if let Some(level) = self.coarser.last_mut() {
-                if spend(looks, level.size().saturating_mul(4), most) {
+                if spend(visits, level.size().saturating_mul(4), most) {
                     next = next_level(alloc, level)?;
                 }
             }
@@ -156,18 +156,18 @@ fn are_zero(numbers: &[i64], links: &[Link]) -> bool {
     true
 }
 
-/// Adds looks to others, unless these are more than `most` then; whether it did.
-pub(crate) fn spend(looks: &mut u64, more: u64, most: u64) -> bool
-    requires { looks.old ≤ most }
-    ensures more { looks.old ≤ looks.new }
-    ensures at_most { looks.new ≤ most }
-    ensures spent { looks.old + more ≤ most → looks.new ≡ looks.old + more }
+/// Adds visits to others, unless these are more than `most` then; whether it did.
+pub(crate) fn spend(visits: &mut u64, more: u64, most: u64) -> bool
+    requires { visits.old ≤ most }
+    ensures more { visits.old ≤ visits.new }
+    ensures at_most { visits.new ≤ most }
+    ensures spent { visits.old + more ≤ most → visits.new ≡ visits.old + more }
 {
-    let all = looks.saturating_add(more);
+    let all = visits.saturating_add(more);
     if all > most {
         return false;
     }
-    *looks = all;
+    *visits = all;
     true
 }
 

@@ -93,29 +93,29 @@ impl Search {
         Ok(search)
     }
 
-    /// Makes steps until the search is over or `most` looks in all may be too few for the next one; whether it is over.
-    /// It is given anew each time for what it was made. Its looks at a vertex or a link are added to `looks`.
+    /// Makes steps until the search is over or `most` visits in all may be too few for the next one; whether it is over.
+    /// It is given anew each time for what it was made. Its visits to a vertex or a link are added to `visits`.
     pub fn go_on(
         &mut self,
         alloc: Global,
         game: &Game,
         fired: &[u64],
-        looks: &mut u64,
+        visits: &mut u64,
         most: u64,
     ) -> Result<bool, AllocError>
-        requires { looks.old ≤ most }
-        ensures more { looks.old ≤ looks.new }
-        ensures at_most { looks.new ≤ most }
+        requires { visits.old ≤ most }
+        ensures more { visits.old ≤ visits.new }
+        ensures at_most { visits.new ≤ most }
     {
         let target = Target { game, fired };
         'steps: for _ in 0..u64::MAX {
             if self.stage == Stage::Found || self.stage == Stage::GivenUp {
                 return Ok(true);
             }
-            let phase = self.looks_of_phase();
-            let rest = most.saturating_sub(phase).max(*looks);
-            let before = *looks;
-            if !spend(looks, self.looks_of_step(), rest) {
+            let phase = self.visits_of_phase();
+            let rest = most.saturating_sub(phase).max(*visits);
+            let before = *visits;
+            if !spend(visits, self.visits_of_step(), rest) {
                 return Ok(false);
             }
             self.steps = self.steps.saturating_add(1);
@@ -126,10 +126,10 @@ impl Search {
                 _ => self.burn(alloc, target)?,
             };
             if is_burning {
-                *looks = before.saturating_add(self.burning.looked).min(*looks);
+                *visits = before.saturating_add(self.burning.visited).min(*visits);
             }
             if self.phases != phases {
-                spend(looks, phase, most);
+                spend(visits, phase, most);
             }
         }
         Ok(false)
@@ -148,13 +148,13 @@ impl Search {
         }
     }
 
-    /// How many looks the next step makes at most.
-    pub fn looks_of_next(&self) -> u64 {
-        self.looks_of_step().saturating_add(self.looks_of_phase())
+    /// How many visits the next step makes at most.
+    pub fn visits_of_next(&self) -> u64 {
+        self.visits_of_step().saturating_add(self.visits_of_phase())
     }
 
-    /// How many looks lie between two phases: the graph is looked at thrice, and its vertices ten times more.
-    fn looks_of_phase(&self) -> u64 {
+    /// How many visits lie between two phases: the graph is visited thrice, and its vertices ten times more.
+    fn visits_of_phase(&self) -> u64 {
         let finest = &self.hierarchy.finest;
         let vertices = (finest.rows.len() as u64).saturating_mul(10);
         finest.size().saturating_mul(3).saturating_add(vertices)
@@ -167,7 +167,7 @@ impl Search {
 
     /// About how many chips have still to move until the counts are those sought: from 1 to the chips of the game, and
     /// 0 once the search is over. While counts are solved for, those above or below the target heights; while they are
-    /// burnt, those that vertices lack to pass the test. It looks at the whole graph.
+    /// burnt, those that vertices lack to pass the test. It visits the whole graph.
     pub fn chips_to_move(&self) -> u64 {
         let chips = match self.stage {
             Stage::Solving => saturating_f64_to_u64(self.solver.norm(&self.hierarchy)),
@@ -177,11 +177,11 @@ impl Search {
         chips.min(self.chips).max(1)
     }
 
-    /// What a step looks at at most: a cycle goes over each level five times, over its vertices thrice more, and over
+    /// What a step visits at most: a cycle goes over each level five times, over its vertices thrice more, and over
     /// the finest level once or twice. All levels have at most twice the vertices of the finest.
-    fn looks_of_step(&self) -> u64 {
+    fn visits_of_step(&self) -> u64 {
         if self.stage != Stage::Solving {
-            return self.burning.looks;
+            return self.burning.visits;
         }
         let finest = &self.hierarchy.finest;
         let vertices = (finest.rows.len() as u64).saturating_mul(6);

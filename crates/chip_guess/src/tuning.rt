@@ -1,10 +1,10 @@
-//! The numbers of the search that were tuned, on games of `bench/`. A look is one at a vertex or an edge.
+//! The numbers of the search that were tuned, on games of `bench/`. A visit is to a vertex or an edge.
 
-/// How many looks at each vertex and edge a search may make beside two for each look of the play: as reading takes.
+/// How many visits to each vertex and edge a search may make beside two for each visit of the play: as reading takes.
 pub const AHEAD: u64 = 160;
 
-/// How many looks at each vertex and link at most are made before the levels are, and where a search begins.
-pub const LOOKS_OF_GRAPH: u64 = 16;
+/// How many visits to each vertex and link at most are made before the levels are, and where a search begins.
+pub const VISITS_OF_GRAPH: u64 = 16;
 
 /// How many levels there are at most: each has at most half as many vertices as the one before.
 pub const MOST_LEVELS: u32 = 64;

@@ -299,7 +299,7 @@ fn few_chips_more_on_a_full_grid(rt: HostRuntime) {
     }
 }
 
-/// The first sitting of a play.
+/// The first stage of a play.
 fn first_sitting(rt: &(impl AllocGlobal + Abort), game: &Game) -> Resumed
     ensures { IsResumed result }
 {
@@ -307,7 +307,7 @@ fn first_sitting(rt: &(impl AllocGlobal + Abort), game: &Game) -> Resumed
     Resumed::first(rt.alloc(), outcome).expect(rt, "memory")
 }
 
-/// At first each vertex may fire once, and then as often as it can: the counts add up to those of one sitting, and are
+/// At first each vertex may fire once, and then as often as it can: the counts add up to those of one stage, and are
 /// searched as in one.
 #[test]
 fn a_long_path_in_two_sittings(rt: HostRuntime) {
@@ -326,7 +326,7 @@ fn a_long_path_in_two_sittings(rt: HostRuntime) {
     assert!(rt; told.rounds < 10_000, "{} rounds", told.rounds);
 }
 
-/// How often it was told something, of how many plays, of how many rounds in all, how many firings there were after the
+/// How often it was called, of how many plays, of how many rounds in all, how many firings there were after the
 /// last of them, and of how many searches.
 #[derive(Drop)]
 pub(crate) struct Told {
@@ -400,7 +400,7 @@ pub(crate) fn is_same(outcome: &Outcome, other: &Outcome) -> bool {
         && outcome.sealed.as_slice() == other.sealed.as_slice()
 }
 
-/// Plays a game as `plain` does, and compares of how many rounds it was told in all, and of how many firings.
+/// Plays a game as `plain` does, and compares the numbers of rounds and firings that were reported in all.
 fn expect_rounds(rt: &(impl AllocGlobal + Abort), game: &Game, rounds: u64, firings: u64) {
     let mut told = Told::nothing();
     let outcome = plain_watched(rt.alloc(), game, &mut told).expect(rt, "memory");
@@ -445,7 +445,7 @@ fn rounds_before_and_after_a_judgement(rt: HostRuntime) {
 /// Vertices 0 and 1 fire by 2^20 chips, and vertex 1 sends one of them to the sink. Vertex 0 has less than twice that, so
 /// in each round both fire once and one chip is lost: after round 2^20 - 1 vertex 0 has a chip too few.
 ///
-/// The rounds halve nothing, so counts are searched, but no test is passed by more than the rounds have come to: not the
+/// The rounds halve nothing, so counts are searched, but no test is passed by more than the rounds have made: not the
 /// burning test, since by the edge from vertex 2, which never fires, the in-degree of vertex 0 is above its degree; and
 /// not the other, since vertex 0 would lack two chips or more. So the rounds go on as they were.
 #[test]
@@ -462,7 +462,7 @@ fn rounds_before_and_after_a_search(rt: HostRuntime) {
     expect_rounds(&rt, &game, most - 1, 2 * (most - 1));
 }
 
-/// Goes on with a play on the triangle, and compares what the sitting fired, the chips at its end and what was fired
+/// Goes on with a play on the triangle, and compares what the stage fired, the chips at its end and what was fired
 /// before.
 fn go_on(
     rt: &(impl AllocGlobal + Abort),
@@ -483,7 +483,7 @@ fn go_on(
     resumed
 }
 
-/// The first sitting of five chips on vertex 0 of the triangle, whose vertices fire up to twice.
+/// The first stage of five chips on vertex 0 of the triangle, whose vertices fire up to twice.
 fn five_chips(rt: &(impl AllocGlobal + Abort)) -> Resumed
     ensures { IsResumed result }
 {
@@ -499,7 +499,7 @@ fn three_sittings(rt: HostRuntime) {
     assert!(rt; third.outcome.over.is_empty());
 }
 
-/// The second sitting is told of once, and its one round, in which vertex 0 fires.
+/// The second stage is reported once, and its one round, in which vertex 0 fires.
 #[test]
 fn a_watched_sitting(rt: HostRuntime) {
     let first = five_chips(&rt);

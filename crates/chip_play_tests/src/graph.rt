@@ -1,4 +1,4 @@
-//! Worked refusals and answers, with values from outside.
+//! Worked refusals and results, with values from outside.
 
 use crate::games::{Rows, TRIANGLE, edges_of, game_of, triangle};
 use chip_graph::{AnyEdge, Edge, Game, GameFault, Graph, GraphFault, Limits};

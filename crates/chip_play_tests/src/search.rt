@@ -18,7 +18,7 @@ fn play(rt: &(impl AllocGlobal + Abort), game: &Game) -> Box<(Told, Outcome)> {
     Box::new(rt.alloc(), (told, outcome)).expect(rt, "memory")
 }
 
-/// On a path of 2,048 vertices a search makes more looks than lie between two times that it is told how it goes on.
+/// On a path of 2,048 vertices a search makes more visits than lie between two reports of its progress.
 #[test]
 fn a_search_is_told_of(rt: HostRuntime) {
     let game = heap(&rt, 2_047, 2_000, 1 << 40);

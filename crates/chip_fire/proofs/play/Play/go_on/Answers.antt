@@ -1,4 +1,4 @@
-use Rattle.chip_fire.proofs.LooksLemmas.{goes_after}
+use Rattle.chip_fire.proofs.VisitsLemmas.{goes_after}
 use Rattle.chip_fire.proofs.play.Play.go_on.Goals as goal
 
 pub returns-in_default-clause-round : goal.returns-in_default-clause-round

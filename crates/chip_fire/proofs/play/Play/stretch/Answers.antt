@@ -1,4 +1,4 @@
-use Rattle.chip_fire.proofs.LooksLemmas.{goes_after}
+use Rattle.chip_fire.proofs.VisitsLemmas.{goes_after}
 use Rattle.chip_fire.proofs.play.Play.stretch.Goals as goal
 
 pub returns-clause-round : goal.returns-clause-round

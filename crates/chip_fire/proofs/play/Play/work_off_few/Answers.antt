@@ -3,7 +3,7 @@ use Rattle.std.proofs.Math.Nat.{div-mul-le_self}
 use Rattle.std.proofs.lemmas.Grind.{common_steps}
 use Rattle.chip_graph.specs.Multigraph.{Multigraph}
 use Rattle.chip_fire.specs.Search.{places}
-use Rattle.chip_fire.proofs.LooksLemmas.{few_turns}
+use Rattle.chip_fire.proofs.VisitsLemmas.{few_turns}
 use Rattle.chip_fire.proofs.ListedLemmas.{front_legal, works_off}
 use Rattle.chip_fire.proofs.play.Play.work_off_few.Goals as goal
 
@@ -24,10 +24,10 @@ pub returns-clause-few : goal.returns-clause-few
 returns-clause-few c =
     let fired = c.work_off-worked.new.fired in
     let fires = rw c.deref_mut-3.ensures.value at c.work_off-worked.ensures.each_fires in
-    let all = rw c.graph-graph.ensures.value at c.looks_at_all.ensures in
+    let all = rw c.graph-graph.ensures.value at c.visits_at_all.ensures in
     let each : c.min-of_turn.result ≤ places c.self.inside.game.now = (let a = c.min-of_turn.ensures in omega arith) in
     let few = few_turns c.self.inside.game.now c.self.inside.fired.items fired c.work_off-worked.result.turns
-    c.min-of_turn.result c.args.looks.now c.saturating_add.result fires each (omega arith) (omega arith) in
+    c.min-of_turn.result c.args.visits.now c.saturating_add.result fires each (omega arith) (omega arith) in
     let same : take c.self.inside.fired.len (fired ++ drop (length fired) c.self.inside.fired.items) ≡ fired =
     grind (arith, common_steps) in
     rw (← c.self.view_is, same) few
@@ -44,7 +44,7 @@ returns-clause-at_most c =
 pub returns-clause-works : goal.returns-clause-works
 returns-clause-works c =
     let play = c.self.inside in
-    let all = rw c.graph-graph.ensures.value at c.looks_at_all.ensures in
+    let all = rw c.graph-graph.ensures.value at c.visits_at_all.ensures in
     let some = c.vertices-vertices.ensures.graph.some_vertex in
     let fits : c.min-of_turn.result ≤ places play.game.now = (let a = c.min-of_turn.ensures in omega arith) in
     let same : take play.fired.len (c.work_off-worked.new.fired ++ drop (length c.work_off-worked.new.fired) play.fired.items)
@@ -57,7 +57,7 @@ returns-clause-works c =
     (let a = c.deref_mut.ensures.len in let b = c.in_ok-resize.ensures.len in
     let d = c.vertices-vertices.ensures.value in omega arith) in
     let done = works_off play.game.now (play.game.now.graph.vertices / 8) c.args.most c.work_off-worked.new.chips
-    c.work_off-worked.new.fired c.args.looks.now c.saturating_add.result c.work_off-worked.result.turns
+    c.work_off-worked.new.fired c.args.visits.now c.saturating_add.result c.work_off-worked.result.turns
     (c.args.most / c.max-2.result) c.min-of_turn.result (length c.deref_mut.result.now / 2) (omega arith) fits
     (ap (λ (n : ℕ). c.args.most / n) each) room c.work_off-worked.ensures.at_most (λ small. omega arith)
     (λ fewer. rw c.work_off-worked.ensures.legal at (c.work_off-worked.ensures.over fewer)) in

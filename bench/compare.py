@@ -5,7 +5,7 @@
 
 The games are grids, paths, trees, unions of cycles, random graphs and weighted ones, each with one of the limits 0, 1,
 7, 100, 10,000 and none. Most are over before a search of counts would begin. To have it begin at once, build a copy in
-which FIRST_LOOKS and FEW_LOOKS of crates/chip_fire/src/tuning.rt are 0 and AHEAD of crates/chip_guess is 1 << 20, and
+which FIRST_VISITS and FEW_VISITS of crates/chip_fire/src/tuning.rt are 0 and AHEAD of crates/chip_guess is 1 << 20, and
 name its program. The status is 1 at the first report that differs, whose files stay in target/bench/compare.
 """
 import collections

@@ -10,7 +10,7 @@ the byte. A player that is not done in SECONDS (10 by default) is stopped, and p
 heaps in the middle of grids of several sides and sizes instead, and `--paths` those of 1,500 to 8,000 chips in the
 middle of two paths, of which it shows the three that take chipfire longest. What is printed is Markdown, for
 docs/BENCHMARKS.md; the files are made anew in target/bench. By default FILE is the program that ./chipfire built. The
-one of `--rounds` plays by rounds alone: a copy of the program in which FIRST_LOOKS of crates/chip_fire/src/tuning.rt is
+one of `--rounds` plays by rounds alone: a copy of the program in which FIRST_VISITS of crates/chip_fire/src/tuning.rt is
 u64::MAX. The status is 1 where a player failed or two reports differ.
 """
 import os

@@ -173,8 +173,8 @@ impl Play<'_> {
         true
     }
 
-    /// Makes a round beside a search; what the play is at then, and whether the round fired a vertex. A search that is
-A search that is
+    /// Makes a round beside a search; what the play is at then, and whether the round fired a vertex. A search that has
+    /// fallen behind by more than a turn is given up.
     #[tactic(auto, using(crate::proofs::VisitsLemmas::visits_beside, crate::proofs::VisitsLemmas::visits_at_end))]
     pub(crate) fn round_beside<W: Watch>(
         &mut self,

@@ -8,7 +8,8 @@ ghost use Rattle.chip_fire.specs.Course.{IsCourse};
 use crate::course::{Course, Doubling};
 use crate::play::Play;
 use crate::tuning::{
-    FEW_VISITS, FIRST_VISITS, LIST_STRETCH, VISITS_OF_FEW, VISITS_OF_LIST, STRETCH, VERTICES_PER_CHIP,
+    FEW_VISITS, FIRST_VISITS, LIST_STRETCH, STRETCH, VERTICES_PER_CHIP, VISITS_OF_FEW,
+    VISITS_OF_LIST,
 };
 use crate::watch::Watch;
 use crate::work_list::is_legal;

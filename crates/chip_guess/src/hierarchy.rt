@@ -2,7 +2,7 @@ ghost use Rattle.std.specs.Prelude.{◌≡◌, ◌+◌, ◌*◌, ◌≤◌, leng
 
 use crate::level::{Level, Link, NONE, Row, links_of, narrow};
 use crate::solver::TargetHeight::{self, Full, Margin, Middle, Stationary};
-use crate::tuning::{FREE_WEIGHT, VISITS_OF_GRAPH, MOST_LEVELS};
+use crate::tuning::{FREE_WEIGHT, MOST_LEVELS, VISITS_OF_GRAPH};
 use chip_graph::Graph;
 use std::alloc::{AllocError, Global};
 

@@ -114,7 +114,7 @@ pub fn may_ack(
 }
 
 /// Notes that `count` messages of the edge are acknowledged; the tail must not see this earlier. Refuses with `NotYet`
-/// if `may_ack` returns fewer.
+/// if `count` are owed but fewer may be acknowledged now (`may_ack`).
 pub fn acked(
     ins: &mut [Tally],
     outs: &[Tally],

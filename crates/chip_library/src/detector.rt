@@ -22,7 +22,7 @@ use chip_detect::{
     slot_of,
 };
 
-/// The parent of a neutral part. No edge has this number.
+/// The parent of a neutral process. No edge has this number.
 pub const NEUTRAL: u64 = u64::MAX;
 
 /// Why a call is refused.

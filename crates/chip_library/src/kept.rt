@@ -57,8 +57,8 @@ impl Model for KeptPile {
 }
 
 impl KeptPile {
-    /// Makes the pile at the start of a game, without playing. Returns the first fault: of the lengths, the graph or
-    /// the game.
+    /// Makes the pile at the start of a game, without playing. Chips and limit are at most 2^40. Returns the first
+    /// fault: of the lengths, the graph or the game.
     pub fn new(
         alloc: Global,
         edges: EdgeLists<'_>,

@@ -1,5 +1,5 @@
 //! The books of one process with two sums: what is owed on all edges, and the deficit. A step searches once for its
-//! edge, and `is_over` not at all. (The same calls in `crate::detector`, on slices, add up tallies.)
+//! edge, and `is_over` not at all. (Of the same calls on slices, in `crate::detector`, some add up all tallies.)
 //!
 //! `open` fills in the sums. If they are right, a call does what its namesake on slices does and keeps them right. If
 //! not, it is safe: a refusal changes nothing, and it refuses rather than let a sum pass below 0 or above 2^64 - 1.

@@ -2,7 +2,7 @@
 
 use chip_library::{CallFault, EdgeLists};
 
-/// The lists of a graph, or of none.
+/// Edge lists, of a graph or not.
 pub(crate) struct Lists {
     pub(crate) vertices: u64,
     pub(crate) sink: u64,

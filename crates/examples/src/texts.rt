@@ -120,8 +120,7 @@ pub fn rows_of_drops(
     Ok((text, ended))
 }
 
-/// A chips file with the recurrent configuration equivalent to that of two texts, and whether the given one is
-/// recurrent.
+/// A chips file with the recurrent configuration equivalent to a given one, and whether the given one is recurrent.
 pub fn recurrent_of_texts(
     alloc: Global,
     graph: &[u8],

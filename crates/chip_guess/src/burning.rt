@@ -270,8 +270,7 @@ impl Burning {
         self.begin_steps(hierarchy);
     }
 
-    /// The chips that firing vertices lack to pass the test, up to 2^64 - 1; before the first step, to have none below
-    /// 0.
+    /// The chips that firing vertices lack to pass the test, up to 2^64 - 1; before the first step, to be at least 0.
     pub(crate) fn lacking_chips(&self, hierarchy: &Hierarchy) -> u64 {
         let mut chips = 0u64;
         for (vertex, own) in self.vertices.iter().enumerate() {

@@ -44,8 +44,7 @@ pub record ArePlayed (G : Multigraph) (limit : ℕ) (chips : List ℕ) (n : ℕ)
   pub stopped_each : length ends.stopped ≡ n
   pub each : (i : ℕ) → i < n → IsPlayedAt G limit chips ends i
 
--- one of n games that begin with these chips is the first that is invalid, and this is its first fault; or memory ran
--- out
+-- the first invalid game of n that begin with these chips has this first fault; or memory ran out
 abbrev pub IsFaultOfGames : Multigraph → ℕ → List ℕ → ℕ → CallFault → Type 0
 IsFaultOfGames G limit chips n fault = (fault ≡ NoMemory)
     ⊎ ((i : ℕ) × (i < n) × ((j : ℕ) → j < i → IsGame (game_at G limit chips j))

@@ -14,8 +14,7 @@ pub enum CallFault {
     Vertex(u64),
     /// There are too many chips with this drop, or in a stabilization of this row.
     Total(u64),
-    /// The limit stopped the play of this drop, or a stabilization of this row. 0 also stands for the game before all
-    /// drops.
+    /// The limit stopped the play of this drop, or a stabilization of this row. 0 is also the game before all drops.
     Stopped(u64),
     /// The least vertex at which the claim and the outcome differ.
     Differs(u64),

@@ -79,8 +79,7 @@ impl KeptPile {
         })
     }
 
-    /// Replaces all chips and the limit, without playing: another game on the graph. On a fault of that game nothing
-    /// changes.
+    /// Replaces all chips and the limit, without playing: another game on the graph. On its fault nothing changes.
     pub fn put(self, alloc: Global, limit: u64, chips: &[u64]) -> (KeptPile, Result<(), CallFault>)
         ensures { PutsChips self result.0 limit chips.now result.1 }
     {
@@ -237,8 +236,7 @@ impl KeptPile {
         }
     }
 
-    /// Makes drops as `drop_each` does, and measures more in slices that may be empty. Returns the number of drops
-    /// made.
+    /// Makes drops as `drop_each` does, and measures more in slices that may be empty. Returns the number made.
     ///
     /// `durations` gets the number of rounds of each avalanche; in a round each legal vertex fires once. `vertices`
     /// gets the vertices that fired and `times` how often, drop after drop; `ends` gets where those of each drop end.

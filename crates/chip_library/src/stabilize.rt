@@ -46,8 +46,7 @@ pub fn stabilize_all(
     )
 }
 
-/// Does the same as `stabilize_all` and reports the progress of each play to `watch`. The results do not depend on
-/// `watch`.
+/// Does the same as `stabilize_all` and reports each play's progress to `watch`, which does not affect the results.
 pub fn stabilize_all_watched<W: Watch>(
     alloc: Global,
     edges: EdgeLists<'_>,

@@ -10,8 +10,7 @@ pub record IsLeastScript (G : Multigraph) (s b : ℕ → ℕ) : Type 0 where
   pub script : IsBurningScript G s b
   pub least : (f c : ℕ → ℕ) → IsBurningScript G f c → EachNonSink G (λ v. s v ≤ f v)
 
--- one chip less on each vertex than edges lead in: on its stabilization each vertex fires once less than by the least
--- script
+-- one chip less on each vertex than edges lead in: in its stabilization each fires once less than by the least script
 abbrev pub burning_start : Multigraph → ℕ → ℕ
 burning_start G v = in_degree G v - 1
 

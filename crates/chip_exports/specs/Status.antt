@@ -1,4 +1,4 @@
--- What a call on the books of a part answers to C.
+-- What a call on the books of a process returns to C.
 use Rattle.std.specs.Prelude.{◌≡◌, ℕ, Bool, true, false, not, ◌==◌, Result, Ok, Err}
 use Rattle.chip_library.specs.declared.detector.BooksFault.{BooksFault}
 use Rattle.chip_library.specs.declared.sums.Acknowledged.{Acknowledged}
@@ -13,7 +13,7 @@ abbrev pub status_of : {T : Type 0} → Result T BooksFault → ℕ
 status_of (Ok told) = 0
 status_of (Err fault) = books_fault_number fault
 
--- the status tells a result of which the promise holds
+-- the status is that of a result for which the promise holds
 abbrev pub Status : {T : Type 0} → ℕ → (Result T BooksFault → Type 0) → Type 0
 Status {T} status promise = (done : Result T BooksFault) × promise done × (status ≡ status_of done)
 

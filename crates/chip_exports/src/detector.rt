@@ -1,4 +1,4 @@
-//! The books of a part, as `chip_library::detector` keeps them. A word is false if it is 0, and else true.
+//! The books of a process, as in `chip_library::detector`. A word is false if it is 0, else true.
 
 ghost use Rattle.std.specs.Prelude.{◌≡◌, ℕ, ◌↔◌, true, List, IsTrue, MatchResult};
 ghost use Rattle.chip_detect.specs.declared.tallies.Tally.{Tally};
@@ -15,7 +15,7 @@ use chip_library::detector::{
     BooksFault, acked, check, deficit, got, is_over, may_ack, sent, settled,
 };
 
-/// Notes a message that was sent on the edge (`chip_library::detector::sent`).
+/// Notes a message sent on the edge (`chip_library::detector::sent`).
 #[unsafe(no_mangle)]
 pub extern "C" fn chipfire_sent(outs: &mut [Tally], edge: u64) -> u64
     ensures { Status {T = Unit {0}} result (λ done. (ins : List Tally) → (parent : ℕ)
@@ -24,7 +24,7 @@ pub extern "C" fn chipfire_sent(outs: &mut [Tally], edge: u64) -> u64
     status(sent(outs, edge))
 }
 
-/// Notes a message that came on the edge (`chip_library::detector::got`).
+/// Notes a message received on the edge (`chip_library::detector::got`).
 #[unsafe(no_mangle)]
 pub extern "C" fn chipfire_got(ins: &mut [Tally], parent: &mut u64, edge: u64) -> u64
     ensures { Status {T = Unit {0}} result (λ done. (outs : List Tally)
@@ -33,7 +33,7 @@ pub extern "C" fn chipfire_got(ins: &mut [Tally], parent: &mut u64, edge: u64) -
     status(got(ins, parent, edge))
 }
 
-/// How many messages of the edge may be acknowledged now (`chip_library::detector::may_ack`).
+/// Writes how many messages of the edge may be acknowledged now (`chip_library::detector::may_ack`).
 #[unsafe(no_mangle)]
 pub extern "C" fn chipfire_may_ack(
     ins: &[Tally],
@@ -68,7 +68,7 @@ pub extern "C" fn chipfire_acked(
     status(acked(ins, outs, parent, edge, passive != 0, count))
 }
 
-/// Notes what the edge's head acknowledged so far (`chip_library::detector::settled`).
+/// Notes how many messages the edge's head has acknowledged in all (`chip_library::detector::settled`).
 #[unsafe(no_mangle)]
 pub extern "C" fn chipfire_settled(outs: &mut [Tally], edge: u64, word: u64, more: &mut u64) -> u64
     ensures { Status result (λ done. Settling outs.old outs.new edge word done × (more.new ≡ count_of done more.old)) }
@@ -76,7 +76,7 @@ pub extern "C" fn chipfire_settled(outs: &mut [Tally], edge: u64, word: u64, mor
     told(settled(outs, edge, word), more)
 }
 
-/// How many acknowledgements the part waits for (`chip_library::detector::deficit`).
+/// Writes the number of acknowledgements the process waits for (`chip_library::detector::deficit`).
 #[unsafe(no_mangle)]
 pub extern "C" fn chipfire_deficit(outs: &[Tally], count: &mut u64) -> u64
     ensures { Status result (λ done. ((ins : List Tally) → (parent : ℕ) → let books = books_of ins outs.now parent in
@@ -86,7 +86,7 @@ pub extern "C" fn chipfire_deficit(outs: &[Tally], count: &mut u64) -> u64
     told(deficit(outs), count)
 }
 
-/// Whether the root may say that the computation is over (`chip_library::detector::is_over`).
+/// Writes whether the root may report that the computation is over (`chip_library::detector::is_over`).
 #[unsafe(no_mangle)]
 pub extern "C" fn chipfire_is_over(outs: &[Tally], ended: u64, over: &mut u64) -> u64
     ensures { Status result (λ done. ((ins : List Tally) → (parent : ℕ) → let books = books_of ins outs.now parent in
@@ -103,7 +103,7 @@ pub extern "C" fn chipfire_is_over(outs: &[Tally], ended: u64, over: &mut u64) -
     }
 }
 
-/// Whether the books are sound, and no edge has the number of none (`chip_library::detector::check`).
+/// Checks that the books are sound, and that no edge has the number `NEUTRAL` (`chip_library::detector::check`).
 #[unsafe(no_mangle)]
 pub extern "C" fn chipfire_books_check(ins: &[Tally], outs: &[Tally], parent: u64) -> u64
     ensures { Status {T = Unit {0}} result (λ done. MatchResult done (λ _. AreBooks ins.now outs.now parent)
@@ -122,7 +122,7 @@ pub(crate) fn status(done: Result<(), BooksFault>) -> u64
     }
 }
 
-/// The number of a fault; or 0, and the count is written.
+/// The number of a fault; or 0, after writing the count.
 pub(crate) fn told(answer: Result<u64, BooksFault>, count: &mut u64) -> u64
     ensures status { result ≡ status_of answer }
     ensures count { count.new ≡ count_of answer count.old }

@@ -38,7 +38,7 @@ pub extern "C" fn chipfire_burning(
     answer(done, place)
 }
 
-/// Tells which configurations are recurrent (`chip_library::are_recurrent`).
+/// Writes which configurations are recurrent (`chip_library::are_recurrent`).
 #[unsafe(no_mangle)]
 pub extern "C" fn chipfire_are_recurrent(
     alloc: Global,
@@ -66,7 +66,7 @@ pub extern "C" fn chipfire_are_recurrent(
     answer(done, place)
 }
 
-/// Puts in place of each configuration the recurrent one that is equivalent to it (`chip_library::representatives`).
+/// Replaces each configuration by the equivalent recurrent one (`chip_library::representatives`).
 #[unsafe(no_mangle)]
 pub extern "C" fn chipfire_recurrent(
     alloc: Global,
@@ -94,7 +94,7 @@ pub extern "C" fn chipfire_recurrent(
     answer(done, place)
 }
 
-/// Puts in place of each configuration the superstable one that is equivalent to it (`chip_library::representatives`).
+/// Replaces each configuration by the equivalent superstable one (`chip_library::representatives`).
 #[unsafe(no_mangle)]
 pub extern "C" fn chipfire_superstable(
     alloc: Global,
@@ -122,7 +122,7 @@ pub extern "C" fn chipfire_superstable(
     answer(done, place)
 }
 
-/// Puts in place of each configuration the recurrent one of the inverse class (`chip_library::representatives`).
+/// Replaces each configuration by the recurrent one of the inverse class (`chip_library::representatives`).
 #[unsafe(no_mangle)]
 pub extern "C" fn chipfire_inverse(
     alloc: Global,

@@ -1,5 +1,5 @@
-//! The library for C: each function exports one of `chip_library` under a name of its own. A slice is a pointer and a
-//! length, and the answer is 0, or the number of a fault, whose place is written.
+//! The library for C: each function exports one of `chip_library` under its own name. A slice is a pointer and a
+//! length. The status is 0 or the number of a fault, whose place is written.
 #![tactic(auto)]
 
 ghost use Rattle.std.specs.Prelude.{◌≡◌};
@@ -16,7 +16,7 @@ mod group;
 mod pile;
 mod sums;
 
-/// The version of the library: 1,000,000 for each of the first number, 1,000 for each of the second, and the third.
+/// The version of the library: 1,000,000 * major + 1,000 * minor + patch.
 #[unsafe(no_mangle)]
 pub extern "C" fn chipfire_version() -> u64
     ensures { result ≡ VERSION }
@@ -94,7 +94,7 @@ pub extern "C" fn chipfire_avalanches(
     answer(done, place)
 }
 
-/// Tells whether counts and chips are those of a game's outcome (`chip_library::verify`).
+/// Verifies that a game ends with these counts and chips (`chip_library::verify`).
 #[unsafe(no_mangle)]
 pub extern "C" fn chipfire_verify(
     alloc: Global,
@@ -124,7 +124,7 @@ pub extern "C" fn chipfire_verify(
     answer(done, place)
 }
 
-/// The number of a fault, whose place is written, or 0 at the place 0.
+/// The number of a fault, after writing its place; or 0 with place 0.
 fn answer(done: Result<(), CallFault>, place: &mut u64) -> u64
     ensures { (result, place.new) ≡ answer_of done }
 {

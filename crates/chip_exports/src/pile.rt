@@ -1,4 +1,4 @@
-//! A pile that is kept from one call to the next (`chip_handle`).
+//! A pile kept from one call to the next (`chip_handle`).
 
 ghost use Rattle.std.specs.Prelude.{◌≡◌, None, Bool};
 ghost use Rattle.chip_fire.specs.declared.avalanche.Avalanche.{Avalanche};
@@ -45,7 +45,7 @@ pub extern "C" fn chipfire_pile_new(
     answer(done, place)
 }
 
-/// Puts other chips on a pile (`chip_handle::put`).
+/// Replaces the chips on a pile (`chip_handle::put`).
 #[unsafe(no_mangle)]
 pub extern "C" fn chipfire_pile_put(
     alloc: Global,
@@ -59,7 +59,7 @@ pub extern "C" fn chipfire_pile_put(
     call_status(put(alloc, pile, limit, chips))
 }
 
-/// Plays a pile on by so many visits (`chip_handle::play_on`).
+/// Plays a pile on by about `visits` visits (`chip_handle::play_on`).
 #[unsafe(no_mangle)]
 pub extern "C" fn chipfire_pile_play(
     alloc: Global,
@@ -79,7 +79,7 @@ pub extern "C" fn chipfire_pile_play(
     }
 }
 
-/// Drops chips on a pile, and plays to its end (`chip_handle::drop_on`).
+/// Drops chips on a pile and plays to the end (`chip_handle::drop_on`).
 #[unsafe(no_mangle)]
 pub extern "C" fn chipfire_pile_drop(
     alloc: Global,
@@ -125,7 +125,7 @@ pub extern "C" fn chipfire_pile_drops(
     answer(done, place)
 }
 
-/// Drops chips on a pile, and measures what they set off (`chip_handle::measure_on`).
+/// Makes drops on a pile and measures what they fire (`chip_handle::measure_on`).
 #[unsafe(no_mangle)]
 pub extern "C" fn chipfire_pile_measure(
     alloc: Global,
@@ -190,7 +190,7 @@ pub extern "C" fn chipfire_pile_fired(alloc: Global, pile: &mut Handle, fired: &
     call_status(fired_of(alloc, pile, fired))
 }
 
-/// How many bytes the arrays of a pile take, or 0 (`chip_handle::bytes_of`).
+/// The number of bytes in the arrays of a pile, or 0 (`chip_handle::bytes_of`).
 #[unsafe(no_mangle)]
 pub extern "C" fn chipfire_pile_size(alloc: Global, pile: &mut Handle) -> u64
     ensures pile { pile.new.raw.value ≡ pile.old.raw.value }

@@ -1,4 +1,4 @@
-//! The books of a part with two sums, as `chip_library::sums` keeps them. A word is false if it is 0, and else true.
+//! The books of a process with two sums, as in `chip_library::sums`. A word is false if it is 0, else true.
 
 ghost use Rattle.std.specs.Prelude.{◌≡◌, true, Bool, Ok, MatchResult};
 ghost use Rattle.chip_detect.specs.Steps.{Got, Sent};
@@ -18,7 +18,7 @@ pub extern "C" fn chipfire_books_open(books: &mut SummedBooks) -> u64
     status(books.open())
 }
 
-/// Whether books and sums are sound (`chip_library::sums::SummedBooks::verify`).
+/// Checks that the books are sound and the sums right (`chip_library::sums::SummedBooks::verify`).
 #[unsafe(no_mangle)]
 pub extern "C" fn chipfire_books_verify(books: &SummedBooks) -> u64
     ensures { Status {T = Unit {0}} result (λ done. MatchResult done (λ _. AreSummed books.now)
@@ -27,7 +27,7 @@ pub extern "C" fn chipfire_books_verify(books: &SummedBooks) -> u64
     status(books.verify())
 }
 
-/// Notes a message that was sent on the edge (`chip_library::sums::SummedBooks::sent`).
+/// Notes a message sent on the edge (`chip_library::sums::SummedBooks::sent`).
 #[unsafe(no_mangle)]
 pub extern "C" fn chipfire_books_sent(books: &mut SummedBooks, edge: u64) -> u64
     ensures notes { Status {T = Unit {0}} result
@@ -37,7 +37,7 @@ pub extern "C" fn chipfire_books_sent(books: &mut SummedBooks, edge: u64) -> u64
     status(books.sent(edge))
 }
 
-/// Notes a message that came on the edge (`chip_library::sums::SummedBooks::got`).
+/// Notes a message received on the edge (`chip_library::sums::SummedBooks::got`).
 #[unsafe(no_mangle)]
 pub extern "C" fn chipfire_books_got(books: &mut SummedBooks, edge: u64) -> u64
     ensures notes { Status {T = Unit {0}} result
@@ -47,7 +47,7 @@ pub extern "C" fn chipfire_books_got(books: &mut SummedBooks, edge: u64) -> u64
     status(books.got(edge))
 }
 
-/// Acknowledges all messages of the edge that may be (`chip_library::sums::SummedBooks::acknowledge`).
+/// Acknowledges all messages of the edge that may be acknowledged (`chip_library::sums::SummedBooks::acknowledge`).
 #[unsafe(no_mangle)]
 pub extern "C" fn chipfire_books_acknowledge(
     books: &mut SummedBooks,
@@ -71,7 +71,7 @@ pub extern "C" fn chipfire_books_acknowledge(
     }
 }
 
-/// Notes what the edge's head acknowledged so far (`chip_library::sums::SummedBooks::settled`).
+/// Notes how many messages the edge's head has acknowledged in all (`chip_library::sums::SummedBooks::settled`).
 #[unsafe(no_mangle)]
 pub extern "C" fn chipfire_books_settled(
     books: &mut SummedBooks,
@@ -86,7 +86,7 @@ pub extern "C" fn chipfire_books_settled(
     told(books.settled(edge, word), more)
 }
 
-/// Whether the root may say that the computation is over (`chip_library::sums::SummedBooks::is_over`).
+/// Writes whether the root may report that the computation is over (`chip_library::sums::SummedBooks::is_over`).
 #[unsafe(no_mangle)]
 pub extern "C" fn chipfire_books_is_over(books: &SummedBooks, ended: u64, over: &mut u64) -> u64
     ensures status { result ≡ 0 }

@@ -135,13 +135,13 @@ module _ (G : Multigraph) where
 
     -- ---- counts
 
-    -- the sink's firings count for nothing
+    -- the sink's firings do not count
     pub inflow_same : (f h : ℕ → ℕ) → AgreeOffSink G f h → (u : ℕ) → inflow G f u ≡ inflow G h u
     inflow_same f h same u = tested_ext _ (λ e. eqb (edge_at G e).head u) _ _
         (λ e l on. let inside = good.edges_fit e l in
         ap (λ (n : ℕ). (edge_at G e).mult * n) (same (edge_at G e).tail inside.tail_is_vertex inside.not_from_sink))
 
-    -- where the chips suffice for all firings of f, the vertices may fire one after the other
+    -- where the chips suffice for all firings of f, the vertices may fire one after another
     fires_below : (w f : ℕ → ℕ) → EachNonSink G (λ v. degree G v * f v ≤ w v) → (n : ℕ) → n ≤ G.vertices
         → (vs : List ℕ) × IsFiringSequence G w vs × ((u : ℕ) → u < n → u ≢ G.sink → counts vs u ≡ f u)
         × ((u : ℕ) → n ≤ u → counts vs u ≡ 0)

@@ -58,7 +58,7 @@ module _ (G : Multigraph) where
         )
 
   module _ (good : IsGraph G) where
-    -- ---- what comes from enough chips is recurrent
+    -- ---- enough chips stabilize to a recurrent configuration
 
     large_recurrent : {w c : ℕ → ℕ} → EachNonSink G (λ v. most_stable G v ≤ w v) → StabilizesTo G w c → IsRecurrent G c
     large_recurrent {w} {c} large way = record {
@@ -72,7 +72,7 @@ module _ (G : Multigraph) where
           (y, then_fires G (with_more G y end.1.fires_to) (from G way.fires_to full));
     }
 
-    -- chips that some firings take away, as many as one wants and each degree more
+    -- chips that some firings take away, at least any given number and each degree more
     some_script : (x : ℕ → ℕ)
         → (h : ℕ → ℕ) × (e : ℕ → ℕ) × TakesAway G h e × EachNonSink G (λ v. x v + degree G v ≤ e v)
     some_script x =
@@ -98,7 +98,7 @@ module _ (G : Multigraph) where
           ((λ v. y v + d v), from G way (λ v l ns. omega arith));
     }
 
-    -- a recurrent configuration absorbs some chips, as many as one wants
+    -- a recurrent configuration absorbs some chips, at least any given number
     absorbs : (c : ℕ → ℕ) → IsRecurrent G c → (x : ℕ → ℕ) → (e : ℕ → ℕ) × ((v : ℕ) → x v ≤ e v) × IsStableSum G c e c
     absorbs c rec x =
         let there = rec.reached (λ v. c v + x v) in
@@ -141,7 +141,7 @@ module _ (G : Multigraph) where
         record { fires_to = then_fires G burns.0 all.2.fires_to; stable = rec.stable } in
         record { fires_to = joins G good out (with_more G b all.2.fires_to); stable = rec.stable }
 
-    -- counts that lead from one configuration to one other are equal
+    -- counts that lead from one configuration to the same other one are equal
     one_script : (f h : ℕ → ℕ)
         → EachNonSink G (λ v. inflow G f v + degree G v * h v ≡ inflow G h v + degree G v * f v) → AgreeOffSink G f h
     one_script f h same v l ns =
@@ -167,7 +167,7 @@ module _ (G : Multigraph) where
       mul_assoc (degree G u) (s u) k,
     )
 
-    -- what flows in by a difference of counts
+    -- the inflow of a difference of counts
     inflow_less : (f all : ℕ → ℕ) → EachNonSink G (λ v. f v ≤ all v) → (u : ℕ)
         → inflow G (λ v. all v - f v) u + inflow G f u ≡ inflow G all u
     inflow_less f all few u = omega (
@@ -176,7 +176,7 @@ module _ (G : Multigraph) where
       inflow_add (λ t. all t - f t) f u,
     )
 
-    -- degrees of a difference of counts
+    -- the degrees of a difference of counts
     degrees_less : (f all : ℕ → ℕ) (u : ℕ) → f u ≤ all u
         → degree G u * (all u - f u) + degree G u * f u ≡ degree G u * all u
     degrees_less f all u few =
@@ -321,7 +321,7 @@ module _ (G : Multigraph) where
           takes = λ v l ns. omega (arith, position_is G vs x ok v, low v l ns, twice v l ns);
         }
 
-    -- a recurrent configuration that is equivalent to no chips is the identity
+    -- a recurrent configuration equivalent to zero is the identity
     pub neutral : (e : ℕ → ℕ) → IsRecurrent G e → AreEquivalent G (λ v. 0) e → IsIdentity G e
     neutral e rec (f, g, same) = record {
       recurrent = rec;

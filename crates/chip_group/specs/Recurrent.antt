@@ -72,7 +72,7 @@ pub record IsIdentity (G : Multigraph) (e : ℕ → ℕ) : Type 0 where
 abbrev pub twice_most : Multigraph → ℕ → ℕ
 twice_most G v = most_stable G v + most_stable G v
 
--- the recurrent configurations with the stable sum are a commutative group, if those that agree off the sink are one
+-- the recurrent configurations with the stable sum are a commutative group, up to chips on the sink
 pub record IsSandpileGroup (G : Multigraph) : Type 0 where
   pub sums : (c d : ℕ → ℕ) → IsRecurrent G c → IsRecurrent G d → (e : ℕ → ℕ) × IsRecurrent G e × IsStableSum G c d e
   pub one_sum : (c c' d d' e e' : ℕ → ℕ) → AgreeOffSink G c c' → AgreeOffSink G d d' → IsStableSum G c d e

@@ -2,7 +2,7 @@
 -- Lists that stay below others.
 use Rattle.std.proofs.Common.{◌≡◌, ℕ, zero, suc, ◌+◌, ◌≤◌, List, [], ◌∷◌, ◌++◌, length, slice_index, refl, arith}
 
--- a number put behind others that are each within a bound of their own
+-- a number after others, each within a bound of its own
 pub within_more : (xs : List ℕ) (x : ℕ) (bound : ℕ → ℕ) → ((v : ℕ) → slice_index xs v ≤ bound v) → x ≤ bound (length xs)
     → (v : ℕ) → slice_index (xs ++ x ∷ []) v ≤ bound v
 within_more [] x bound p q zero = q

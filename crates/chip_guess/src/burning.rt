@@ -9,54 +9,54 @@ use std::alloc::{AllocError, Global};
 use std::mem;
 use std::num::saturating_f64_to_i64;
 
-/// What is known of a vertex while counts are burnt.
+/// The state of a vertex while counts are burnt.
 #[derive(Clone, Copy, Default)]
 pub(crate) struct Vertex {
-    /// How often it fires beyond what it had fired when the search began; 0 if its count is to stay as it is.
+    /// How often it fires beyond its count when the search began; 0 if its count is to stay.
     pub(crate) fires: i64,
-    /// The chips left to it less what its neighbours have taken back: it burns if this is not below 0.
+    /// Its chips less what its neighbours have taken back: it burns if this is at least 0.
     slack: i64,
-    /// What comes in if each vertex that fires does so once.
+    /// The inflow if each vertex that fires does so once.
     comes: i64,
-    /// The one that is to burn after it, while it waits for that.
+    /// The vertex to burn after it, while it waits to burn.
     next: u32,
     /// Whether it burnt.
     is_burnt: bool,
 }
 
-/// Counts that are lowered until a test is passed.
+/// Counts that are lowered until they pass a test.
 ///
-/// On one-way graphs the test is that each vertex that fires lacks one chip at most to fire once more. On others it is
-/// the burning test in reverse: each vertex that fires takes a firing back, and then those that have the chips for it
-/// fire again, one after the other: they burn. Those that do not burn are lower by one firing from then on.
+/// On general graphs each vertex that fires must lack at most one chip to fire once more. On others the test is the
+/// burning test in reverse: each vertex that fires takes a firing back, then those with enough chips fire again, one
+/// after another: they burn. The counts of those that do not burn stay lower by one.
 #[derive(Drop)]
 pub(crate) struct Burning {
     vertices: Vec<Vertex>,
-    /// The first vertex that fires or into which something comes, and where such vertices end.
+    /// The range of the vertices that fire or have an inflow: its first vertex and its end.
     first: usize,
     end: usize,
-    /// How many visits a step makes at most.
+    /// The most visits of one step.
     pub(crate) visits: u64,
-    /// How many the last one made, up to that.
+    /// The visits of the last step, up to that.
     pub(crate) visited: u64,
-    /// How many steps were made.
+    /// The number of steps made.
     pub(crate) steps: u64,
-    /// In how many of them in a row no vertex burnt.
+    /// The number of last steps in a row in which no vertex burnt.
     stalled: u64,
-    /// How many vertices took a firing back in the last one.
+    /// The number of vertices that took a firing back in the last step.
     pub(crate) unfired: u64,
-    /// How many of them did not burn.
+    /// The number of these that did not burn.
     pub(crate) unburnt: u64,
 }
 
 impl Vertex {
-    /// Whether it has taken a firing back and did not burn.
+    /// Whether it took a firing back and did not burn.
     #[inline]
     fn is_unburnt(&self) -> bool {
         !self.is_burnt && self.fires > 0
     }
 
-    /// The chips that the counts leave it, if it takes a firing back, by its degree.
+    /// Its chips if it takes a firing back, by its degree.
     pub(crate) fn chips(&self, degree: i64) -> i64 {
         self.slack
             .wrapping_add(if self.is_burnt { 0 } else { degree })
@@ -79,7 +79,7 @@ impl Burning {
         }
     }
 
-    /// Begins with these counts, rounded down; whether the position that they lead to fits 64 bits.
+    /// Begins with these counts, rounded down. Returns whether the position that they give fits 64 bits.
     pub(crate) fn begin(
         &mut self,
         alloc: Global,
@@ -105,12 +105,12 @@ impl Burning {
         Ok(true)
     }
 
-    /// Keeps no vertex any more.
+    /// Drops all vertices.
     pub(crate) fn end(&mut self, alloc: Global) {
         self.vertices = Vec::new(alloc);
     }
 
-    /// Finds what comes in from all that fire, of which none is unburnt.
+    /// Finds the inflow from all that fire, none of which is unburnt.
     fn begin_steps(&mut self, hierarchy: &Hierarchy) {
         self.steps = 0;
         self.stalled = 0;
@@ -141,7 +141,7 @@ impl Burning {
         }
     }
 
-    /// What is known of a vertex.
+    /// The state of a vertex.
     #[inline]
     pub(crate) fn at(&self, vertex: usize) -> Vertex {
         self.vertices
@@ -176,9 +176,8 @@ impl Burning {
         }
     }
 
-    /// Has each vertex that fires take a firing back. One that was unburnt loses the firing that it took back before.
-    /// As soon as a vertex and all before it have taken theirs back, those of them burn that may, so that what burns
-    /// lies near.
+    /// Makes each vertex that fires take a firing back; an unburnt one first loses the firing that it took back before.
+    /// Once a vertex and all before it have done so, those with enough chips burn, so that what burns lies near.
     fn burn(&mut self, hierarchy: &Hierarchy) {
         let outs = hierarchy.outs();
         // (what is reached through `self` is read anew at each link)
@@ -240,7 +239,8 @@ impl Burning {
         }
     }
 
-    /// Takes firings back from each vertex that fires and lacks more than a chip to fire once more; whether it did.
+    /// Takes firings back from each vertex that fires and lacks more than one chip to fire once more. Returns whether
+    /// it did.
     fn earn_all(&mut self, hierarchy: &Hierarchy) -> bool {
         let mut any = false;
         for vertex in self.first..self.end {
@@ -259,7 +259,7 @@ impl Burning {
         any
     }
 
-    /// Pins walls: the vertices at whose distance from the sink, divided by `WALL_SPACING`, this rest is left.
+    /// Pins walls: the vertices whose distance from the sink leaves this remainder modulo `WALL_SPACING`.
     pub(crate) fn pin(&mut self, hierarchy: &Hierarchy, graph: &Graph, rest: u64) {
         for (vertex, own) in self.vertices.iter_mut().enumerate() {
             let vertex = vertex as u64;
@@ -270,8 +270,7 @@ impl Burning {
         self.begin_steps(hierarchy);
     }
 
-    /// The chips that vertices that fire lack to pass the test, up to 2^64 - 1; before the first step those that they
-    /// lack to have none below 0.
+    /// The chips that firing vertices lack to pass the test, up to 2^64 - 1; before the first step, to be at least 0.
     pub(crate) fn lacking_chips(&self, hierarchy: &Hierarchy) -> u64 {
         let mut chips = 0u64;
         for (vertex, own) in self.vertices.iter().enumerate() {
@@ -294,7 +293,7 @@ impl Burning {
         }
     }
 
-    /// Whether a vertex is legal, once a test is passed.
+    /// Whether some vertex is legal, once the test is passed.
     pub(crate) fn leaves_some_legal(&self, hierarchy: &Hierarchy) -> bool {
         for (vertex, own) in self.vertices.iter().enumerate() {
             let degree = hierarchy.finest.degree(vertex);
@@ -305,7 +304,7 @@ impl Burning {
         false
     }
 
-    /// Fires each vertex `k` times more, once a test is passed, up to the limit.
+    /// Fires each vertex `k` more times, once the test is passed, up to the limit.
     pub(crate) fn raise(&mut self, hierarchy: &Hierarchy, k: i64, target: Target<'_>) {
         for (vertex, fired) in target.fired.iter().enumerate() {
             if hierarchy.finest.degree(vertex) > 0 {
@@ -320,7 +319,7 @@ impl Burning {
         self.begin_steps(hierarchy);
     }
 
-    /// How often all vertices fire.
+    /// The sum of all firings.
     pub(crate) fn firings(&self) -> i64 {
         let mut firings = 0i64;
         for own in &self.vertices {
@@ -329,7 +328,7 @@ impl Burning {
         firings
     }
 
-    /// The counts of all firings, those of `fired` among them, up to a limit.
+    /// The counts of all firings, including those of `fired`, up to a limit.
     pub(crate) fn counts(
         &self,
         alloc: Global,
@@ -349,7 +348,7 @@ impl Burning {
     }
 }
 
-/// Has a vertex whose firings are used up, with these links, take none back from now on, as those below it have done.
+/// Makes a vertex whose firings are used up, with these links, take none back from now on; those below it already have.
 fn stop(vertices: &mut [Vertex], links: &[Link], vertex: usize, next: &mut u32) {
     for link in links {
         if let Some(head) = vertices.get_mut(link.vertex as usize) {
@@ -361,8 +360,8 @@ fn stop(vertices: &mut [Vertex], links: &[Link], vertex: usize, next: &mut u32) 
     }
 }
 
-/// Brings a vertex what another one sends it along a link. It is to burn next if it may by that, and all up to the
-/// last one have taken a firing back.
+/// Brings a vertex what another one sends it along a link. It burns next if that gives it enough chips, and all up to
+/// the last one have taken a firing back.
 #[inline]
 fn bring(vertices: &mut [Vertex], link: Link, last: usize, next: &mut u32) {
     if let Some(head) = vertices.get_mut(link.vertex as usize) {
@@ -375,7 +374,7 @@ fn bring(vertices: &mut [Vertex], link: Link, last: usize, next: &mut u32) {
     }
 }
 
-/// How often a vertex fires by these counts, rounded down, and the chips that they leave it.
+/// How often a vertex fires by these counts, rounded down, and the chips that they leave on it.
 fn left_by(level: &Level, chips: u64, counts: &[f64], vertex: usize) -> (i64, i128) {
     let own = floor(counts, vertex);
     let sent = i128::from(level.degree(vertex)).wrapping_mul(i128::from(own));

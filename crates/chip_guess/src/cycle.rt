@@ -4,25 +4,25 @@ use crate::hierarchy::Kind;
 use crate::level::{Level, Link, Row, gather};
 use std::alloc::{AllocError, Global};
 
-/// What is asked of the count of a vertex.
+/// The constraints on the count of a vertex.
 #[derive(Clone, Copy)]
 pub(crate) struct Unknown {
-    /// What the vertex is to send away more than it gets.
+    /// By how much its outflow must exceed its inflow.
     pub(crate) rhs: f64,
-    /// The least count that it may have.
+    /// The least count allowed.
     pub(crate) low: f64,
-    /// The greatest one.
+    /// The greatest count allowed.
     pub(crate) high: f64,
 }
 
-/// What a vertex had before its aggregate was corrected.
+/// The state of a vertex before its aggregate was corrected.
 #[derive(Clone, Copy, Default)]
 struct Before {
     residual: f64,
     count: f64,
 }
 
-/// An obstacle problem on a level: counts within their bounds that leave no residual but where a bound stops them.
+/// An obstacle problem on a level: counts within bounds, whose residuals are 0 except where a bound stops them.
 #[derive(Drop)]
 pub(crate) struct Problem {
     pub(crate) unknowns: Vec<Unknown>,
@@ -30,17 +30,17 @@ pub(crate) struct Problem {
     before: Vec<Before>,
 }
 
-/// The order in which a smoother goes through the vertices.
+/// The order in which a smoother visits the vertices.
 #[derive(Clone, Copy)]
 enum Order {
-    /// First those with even numbers, then those with odd ones.
+    /// First the even numbers, then the odd ones.
     RedBlack,
     Ascending,
     Descending,
 }
 
 impl Unknown {
-    /// Nothing is asked of a count within these bounds.
+    /// Any count within these bounds.
     fn within(low: f64, high: f64) -> Unknown {
         Unknown {
             rhs: 0.0,
@@ -49,7 +49,7 @@ impl Unknown {
         }
     }
 
-    /// A count, or the bound that it is beyond.
+    /// A count, or the bound that it exceeds.
     #[inline]
     fn clamp(&self, count: f64) -> f64 {
         if count < self.low {
@@ -62,9 +62,9 @@ impl Unknown {
     }
 }
 
-/// A V-cycle over these problems, of which the first is on this level and each other one on the next of the coarser
-/// levels, the aggregates of the one before: smooths the counts, corrects them by the aggregates' own cycle, and smooths
-/// once more.
+/// A V-cycle over these problems: the first is on this level, and each other one is on the next coarser level, whose
+/// vertices are the aggregates of the one before. It smooths the counts, corrects them by a cycle on the aggregates,
+/// and smooths again.
 pub(crate) fn v_cycle(level: &Level, coarser: &[Level], problems: &mut [Problem], kind: Kind) {
     let Some((fine, others)) = problems.split_first_mut() else {
         return;
@@ -86,7 +86,7 @@ pub(crate) fn v_cycle(level: &Level, coarser: &[Level], problems: &mut [Problem]
     fine.smooth(level, Order::Descending);
 }
 
-/// What these counts leave of a right-hand side.
+/// The residual of a right-hand side with these counts.
 #[inline]
 fn residual(rows: &[Row], links: &[Link], counts: &[f64], rhs: f64, vertex: usize) -> f64
     requires is_row { vertex < length rows.now }
@@ -95,7 +95,7 @@ fn residual(rows: &[Row], links: &[Link], counts: &[f64], rhs: f64, vertex: usiz
     gather(rows, links, counts, rhs, vertex) - f64::from(rows[vertex].degree) * counts[vertex]
 }
 
-/// Gives a vertex the count that leaves no residual, as far as its bounds allow.
+/// Sets the count of a vertex so that its residual is 0, as far as its bounds allow.
 #[inline]
 fn relax(rows: &[Row], links: &[Link], unknowns: &[Unknown], counts: &mut [f64], vertex: usize)
     requires rows_each { length rows.now ≡ length counts.old }
@@ -108,7 +108,7 @@ fn relax(rows: &[Row], links: &[Link], unknowns: &[Unknown], counts: &mut [f64],
 }
 
 impl Problem {
-    /// A problem that begins with these counts, which nothing is asked of and which may not move.
+    /// A problem that begins with these counts, which have right-hand side 0 and may not move.
     pub(crate) fn new(
         alloc: Global,
         level: &Level,
@@ -154,7 +154,7 @@ impl Problem {
         }
     }
 
-    /// Asks the aggregates for the residuals of their members, in the room that these all have.
+    /// Gives the aggregates the residuals of their members, within the bounds that all members have.
     fn restrict(&mut self, level: &Level, coarse: &mut Problem) {
         coarse.counts.fill(0.0);
         let sums = coarse.unknowns.as_mut_slice();
@@ -178,7 +178,7 @@ impl Problem {
         }
     }
 
-    /// Has each member fire with its aggregate.
+    /// Adds the count of its aggregate to each member.
     fn prolong(&mut self, level: &Level, coarse: &[f64]) {
         let aggregates = level.aggregates.as_slice();
         let unknowns = self.unknowns.as_slice();
@@ -191,8 +191,8 @@ impl Problem {
         }
     }
 
-    /// Makes a correction greater or smaller by one factor: aggregates that fire as one move too little. It has the
-    /// least energy if links go both ways, and else leaves residuals whose sum is 0.
+    /// Scales a correction by one factor, since aggregates that fire as one move too little. On symmetric graphs the
+    /// factor has the least energy; on others it leaves residuals whose sum is 0.
     fn over_correct(&mut self, level: &Level, kind: Kind) {
         let rows = level.rows.as_slice();
         let unknowns = self.unknowns.as_slice();
@@ -222,8 +222,8 @@ impl Problem {
         }
     }
 
-    /// Sums over the vertices whose counts may go where their residuals send them: of the residuals' absolute values,
-    /// of what is asked, and of what is sent away more than comes in.
+    /// Three sums over the vertices whose counts may move as their residuals demand: of the residuals' absolute values,
+    /// of the right-hand sides, and of the net outflows.
     pub(crate) fn free_sums(&self, level: &Level) -> (f64, f64, f64) {
         let rows = level.rows.as_slice();
         let unknowns = self.unknowns.as_slice();
@@ -242,8 +242,8 @@ impl Problem {
         sums
     }
 
-    /// Makes all counts greater or smaller by one factor, so that the residuals of those that are free sum up to 0.
-    /// On one-way graphs aggregates that fire together seldom find that amount.
+    /// Scales all counts by one factor, so that the free residuals sum to 0. On graphs that are not symmetric,
+    /// aggregates that fire together seldom find that amount.
     pub(crate) fn rescale(&mut self, level: &Level) {
         let (_, asked, sent) = self.free_sums(level);
         if let Some(factor) = ratio(asked, sent) {
@@ -256,7 +256,7 @@ impl Problem {
     }
 }
 
-/// A quotient from a quarter to eight, if both numbers are positive.
+/// A quotient, clamped to between 1/4 and 8, if both numbers are positive.
 fn ratio(a: f64, b: f64) -> Option<f64> {
     (a > 0.0 && b > 0.0).then_some((a / b).max(0.25).min(8.0))
 }

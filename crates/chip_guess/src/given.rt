@@ -1,4 +1,4 @@
-//! Counts that were not searched for but given.
+//! Counts that are given, not searched for.
 
 ghost use Rattle.std.specs.Prelude.{◌≡◌, ◌≤◌, ℕ, length, slice_index, IfSome};
 
@@ -10,8 +10,8 @@ use chip_graph::Game;
 use std::alloc::{AllocError, Global};
 use std::num::nearest_u64_to_f64;
 
-/// Counts that were given for a game, each up to its limit and 0 for the sink, lowered until they pass the test. `None`
-/// if many steps are too few for that, or memory runs out. What is not given is 0.
+/// Counts given for a game, each up to its limit and 0 for the sink, lowered until they pass the test. `None` if that
+/// fails or takes too many steps, or memory runs out. A missing count is 0.
 pub fn lower_counts(alloc: Global, game: &Game, given: &[u64]) -> Option<Vec<u64>>
     ensures each { IfSome result (λ counts. length counts.items ≡ game.now.graph.vertices) }
     ensures lowered { IfSome result
@@ -24,7 +24,7 @@ pub fn lower_counts(alloc: Global, game: &Game, given: &[u64]) -> Option<Vec<u64
     Some(counts)
 }
 
-/// Lowers numbers that are above others to these, and to 0 if there are none.
+/// Lowers each number to at most the other one, or to 0 if there is none.
 fn keep_below(numbers: &mut [u64], others: &[u64])
     ensures { (v : ℕ) → slice_index numbers.new v ≤ slice_index others.now v }
 {
@@ -33,7 +33,7 @@ fn keep_below(numbers: &mut [u64], others: &[u64])
     }
 }
 
-/// The counts, lowered on a graph of which nothing has fired.
+/// The given counts, lowered on a graph on which nothing has fired.
 fn lower_by(
     alloc: Global,
     hierarchy: &Hierarchy,

@@ -6,19 +6,19 @@ use crate::tuning::{FREE_WEIGHT, MOST_LEVELS, VISITS_OF_GRAPH};
 use chip_graph::Graph;
 use std::alloc::{AllocError, Global};
 
-/// What the links of a graph tell about the way to guess.
+/// What the links of a graph imply for the guess.
 #[derive(Clone, Copy)]
 pub(crate) enum Kind {
-    /// Between each two vertices but the sink as much goes there as comes back.
+    /// Between any two vertices but the sink as much goes there as comes back.
     Symmetric,
     /// No vertex but the sink gets more than it sends.
     Balanced,
-    /// Any other.
+    /// Any other graph.
     General,
 }
 
 impl Kind {
-    /// The target heights that are tried, in order.
+    /// The target heights to try, in order.
     pub(crate) fn heights(self) -> &'static [TargetHeight] {
         match self {
             Kind::Symmetric => &[Stationary, Middle, Full],
@@ -28,21 +28,21 @@ impl Kind {
     }
 }
 
-/// A graph, its aggregates, the aggregates of these, and so on down to one vertex: what a search stands on.
+/// A graph, its aggregates, their aggregates, and so on down to one vertex: what a search works on.
 #[derive(Drop)]
 pub struct Hierarchy {
     pub(crate) kind: Kind,
     /// The graph by the links into each vertex.
     pub(crate) finest: Box<Level>,
-    /// The others, each with the aggregates of the one before.
+    /// The coarser levels, each with the aggregates of the one before.
     pub(crate) coarser: Vec<Level>,
-    /// The graph by the links out of each vertex, if these are others.
+    /// The graph by the links out of each vertex, if these differ.
     outs: Option<Box<Level>>,
 }
 
 impl Hierarchy {
-    /// The hierarchy of a graph; `None` if memory runs out, or `most` visits in all are too few. Its visits to a vertex
-    /// or a link are added to `visits`.
+    /// The hierarchy of a graph; `None` if memory runs out, or `most` visits in all do not suffice. Adds its visits of
+    /// vertices and links to `visits`.
     pub fn new(alloc: Global, graph: &Graph, visits: &mut u64, most: u64) -> Option<Hierarchy>
         requires { visits.old ≤ most }
         ensures more { visits.old ≤ visits.new }
@@ -59,7 +59,7 @@ impl Hierarchy {
         Some(hierarchy)
     }
 
-    /// The graph alone, with no aggregates.
+    /// The graph alone, without aggregates.
     pub(crate) fn flat(alloc: Global, graph: &Graph) -> Result<Hierarchy, AllocError> {
         let finest = Box::new(alloc, Level::of(alloc, graph, true)?)?;
         let outs = Box::new(alloc, Level::of(alloc, graph, false)?)?;
@@ -72,8 +72,8 @@ impl Hierarchy {
         })
     }
 
-    /// Adds the coarser levels that `most` visits in all allow. A level is visited four times: once for its
-    /// aggregates, once for their members, and twice for their links.
+    /// Adds the coarser levels that `most` visits in all allow. A level is visited four times: once for its aggregates,
+    /// once for their members, and twice for their links.
     fn coarsen(&mut self, alloc: Global, visits: &mut u64, most: u64) -> Result<(), AllocError>
         requires { visits.old ≤ most }
         ensures more { visits.old ≤ visits.new }
@@ -103,7 +103,7 @@ impl Hierarchy {
         }
     }
 
-    /// How many vertices and links there are on all levels.
+    /// The number of vertices and links on all levels.
     pub(crate) fn size(&self) -> u64 {
         let mut size = self.finest.size();
         for level in &self.coarser {
@@ -132,7 +132,7 @@ fn kind_of(alloc: Global, ins: &Level, outs: &Level) -> Result<Kind, AllocError>
     Ok(kind)
 }
 
-/// Adds `times` times the multiplicity of each link to the number of its vertex; the sum of these multiplicities.
+/// Adds `times` times the multiplicity of each link to the number of its vertex. Returns the sum of the multiplicities.
 fn add(numbers: &mut [i64], links: &[Link], times: i64) -> i64 {
     let mut sum = 0i64;
     for link in links {
@@ -156,7 +156,7 @@ fn are_zero(numbers: &[i64], links: &[Link]) -> bool {
     true
 }
 
-/// Adds visits to others, unless these are more than `most` then; whether it did.
+/// Adds `more` visits to `visits`, unless the sum exceeds `most`. Returns whether it did.
 pub(crate) fn spend(visits: &mut u64, more: u64, most: u64) -> bool
     requires { visits.old ≤ most }
     ensures more { visits.old ≤ visits.new }
@@ -171,7 +171,7 @@ pub(crate) fn spend(visits: &mut u64, more: u64, most: u64) -> bool
     true
 }
 
-/// The level of a level's aggregates. If aggregates of two or so do not thin out the links, all are one.
+/// The level of a level's aggregates. If small aggregates do not thin out the links, all vertices make one aggregate.
 fn next_level(alloc: Global, fine: &mut Level) -> Result<Option<Level>, AllocError> {
     fine.aggregates = vec![in alloc; NONE; fine.rows.len()]?;
     let count = aggregate(&fine.rows, &fine.links, &mut fine.aggregates);
@@ -191,8 +191,8 @@ fn next_level(alloc: Global, fine: &mut Level) -> Result<Option<Level>, AllocErr
     Ok(Some(galerkin(alloc, fine, 1)?))
 }
 
-/// Finds aggregates in which each vertex, in turn, joins the one that sends it most; if that one is in no aggregate
-/// yet, the two make one. A vertex that nothing comes into stays alone: it needs no correction. How many there are.
+/// Finds aggregates: each vertex in turn joins the one that sends it most; if that one is in no aggregate yet, the two
+/// make one. A vertex without inflow stays alone: it needs no correction. Returns the number of aggregates.
 fn aggregate(rows: &[Row], links: &[Link], aggregates: &mut [u32]) -> usize {
     let mut count = 0usize;
     for vertex in 0..rows.len() {
@@ -214,7 +214,7 @@ fn aggregate(rows: &[Row], links: &[Link], aggregates: &mut [u32]) -> usize {
     count
 }
 
-/// The vertex that sends most along these links; one in no aggregate counts more. `NONE` if there is none.
+/// The vertex that sends most along these links, or `NONE`. One that is in no aggregate counts more.
 fn strongest(links: &[Link], aggregates: &[u32]) -> u32 {
     let mut strongest = NONE;
     let mut most = 0i64;
@@ -236,7 +236,7 @@ fn at(numbers: &[u32], index: u32) -> u32 {
     numbers.get(index as usize).copied().unwrap_or(NONE)
 }
 
-/// Writes a number into a list if it has such an index.
+/// Writes a number into a list, if the index is in range.
 #[inline]
 fn put(numbers: &mut [u32], index: u32, number: u32) {
     if let Some(slot) = numbers.get_mut(index as usize) {
@@ -244,10 +244,10 @@ fn put(numbers: &mut [u32], index: u32, number: u32) {
     }
 }
 
-/// The level of these aggregates: links within one vanish, and those from one to another are one.
+/// The level of these aggregates: links within one vanish, and those from one to another are merged.
 fn galerkin(alloc: Global, fine: &Level, count: usize) -> Result<Level, AllocError> {
     let mut coarse = Level::new(alloc, count, 0)?;
-    // The members of each aggregate, ascending, as chains: the first of each, and the one after each vertex.
+    // The members of each aggregate, ascending, as linked lists: the first of each, and the next after each vertex.
     let mut first = vec![in alloc; NONE; count]?;
     let mut next = vec![in alloc; NONE; fine.rows.len()]?;
     let mut places = vec![in alloc; NONE; count]?;
@@ -264,7 +264,7 @@ fn galerkin(alloc: Global, fine: &Level, count: usize) -> Result<Level, AllocErr
 }
 
 impl Level {
-    /// Adds an aggregate of another level, by the chains of members.
+    /// Adds an aggregate of another level, by the linked lists of members.
     fn add_aggregate(
         &mut self,
         fine: &Level,
@@ -294,7 +294,7 @@ impl Level {
         self.close_row(degree.max(0).cast_unsigned())
     }
 
-    /// Adds a link to those from this place on, or to the one among them with its vertex.
+    /// Adds a link to those from this place on, or adds to the one among them with its vertex.
     fn add_link(
         &mut self,
         places: &mut [u32],

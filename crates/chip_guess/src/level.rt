@@ -3,39 +3,39 @@ ghost use Rattle.std.specs.Prelude.{◌<◌, length};
 use chip_graph::Graph;
 use std::alloc::{AllocError, Global};
 
-/// No vertex, no place, or no aggregate, as that of the sink and of a vertex into which no link leads.
+/// No vertex, no place, or no aggregate: that of the sink and of vertices into which no link leads.
 pub(crate) const NONE: u32 = u32::MAX;
 
-/// An entry beside the diagonal: what a firing brings along a link.
+/// An off-diagonal entry: what a firing brings along a link.
 #[derive(Clone, Copy)]
 pub(crate) struct Link {
     /// The vertex at the other end.
     pub(crate) vertex: u32,
-    /// How many chips a firing brings along it, up to 2^32 - 1.
+    /// The number of chips that a firing brings along it, up to 2^32 - 1.
     pub(crate) mult: u32,
 }
 
 /// The row of a vertex.
 #[derive(Clone, Copy)]
 pub(crate) struct Row {
-    /// Where its links end in the level's. They begin where those of the vertex before it end.
+    /// Where its links end in the level's list. They begin where those of the vertex before it end.
     end: u32,
-    /// The entry on the diagonal: what one firing sends away, up to 2^32 - 1; 0 for the sink.
+    /// The diagonal entry: what one firing sends away, up to 2^32 - 1; 0 for the sink.
     pub(crate) degree: u32,
-    /// One by the degree; 0 for the sink.
+    /// The reciprocal of the degree; 0 for the sink.
     pub(crate) inverse: f64,
 }
 
-/// The Laplacian of a graph, or of the aggregates of another level: vertices that fire together. The sink has no links.
+/// The Laplacian of a graph, or of another level's aggregates, whose vertices fire together. The sink has no links.
 #[derive(Drop)]
 pub(crate) struct Level {
     pub(crate) rows: Vec<Row>,
     pub(crate) links: Vec<Link>,
-    /// The aggregate of each vertex, a vertex of the next level; empty on the last one.
+    /// The aggregate of each vertex, which is a vertex of the next level; empty on the last level.
     pub(crate) aggregates: Vec<u32>,
 }
 
-/// A number as one of 32 bits, up to the greatest of these.
+/// A number as a u32, clamped to the greatest one.
 #[inline]
 pub(crate) fn narrow(number: usize) -> u32 {
     number.min(u32::MAX as usize) as u32
@@ -52,7 +52,7 @@ pub(crate) fn links_of<'a>(rows: &[Row], links: &'a [Link], vertex: usize) -> &'
         .unwrap_or(&[])
 }
 
-/// A right-hand side, and what comes into a vertex by these counts.
+/// A right-hand side plus the inflow of a vertex by these counts.
 #[inline]
 pub(crate) fn gather(rows: &[Row], links: &[Link], counts: &[f64], rhs: f64, vertex: usize) -> f64
     requires { vertex < length rows.now }
@@ -67,7 +67,7 @@ pub(crate) fn gather(rows: &[Row], links: &[Link], counts: &[f64], rhs: f64, ver
 }
 
 impl Level {
-    /// No vertex yet, and room for `vertices` vertices and `links` links.
+    /// No vertices, with room for `vertices` vertices and `links` links.
     pub(crate) fn new(alloc: Global, vertices: usize, links: usize) -> Result<Level, AllocError> {
         let links = Vec::with_capacity(alloc, links)?;
         Ok(Level {
@@ -77,7 +77,7 @@ impl Level {
         })
     }
 
-    /// A graph, by the links into each vertex or those out of it, without those to the sink.
+    /// A graph by the links into each vertex, or by those out of it, without the links to the sink.
     pub(crate) fn of(alloc: Global, graph: &Graph, by_ins: bool) -> Result<Level, AllocError> {
         let mut level = Level::new(alloc, graph.vertices() as usize, graph.edges().len())?;
         for vertex in 0..graph.vertices() {
@@ -103,7 +103,7 @@ impl Level {
         Ok(level)
     }
 
-    /// One more vertex, with the links behind those of the last one.
+    /// Appends a vertex, with the links after those of the last one.
     pub(crate) fn close_row(&mut self, degree: u64) -> Result<(), AllocError> {
         let degree = narrow(degree as usize);
         self.rows.push(Row {
@@ -118,7 +118,7 @@ impl Level {
         Ok(())
     }
 
-    /// The links of a vertex, if it is there.
+    /// The links of a vertex, if it exists.
     #[inline]
     pub(crate) fn links_of(&self, vertex: usize) -> &[Link] {
         if vertex < self.rows.len() {
@@ -137,7 +137,7 @@ impl Level {
         }
     }
 
-    /// How many vertices and links there are.
+    /// The number of vertices and links.
     pub(crate) fn size(&self) -> u64 {
         (self.rows.len() as u64).saturating_add(self.links.len() as u64)
     }

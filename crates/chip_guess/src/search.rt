@@ -15,57 +15,56 @@ use std::num::saturating_f64_to_u64;
 
 mod fit;
 
-/// What a search is at.
+/// The stage of a search.
 #[derive(Clone, Copy)]
 enum Stage {
-    /// The counts come near to those that leave the target heights.
+    /// The counts approach those that leave the target heights.
     Solving,
-    /// They are burnt between walls, which shows at what heights the vertices of a patch stay.
+    /// They are burnt between walls, to see at what heights the vertices of a patch stay.
     Fitting,
-    /// They are burnt until they pass.
+    /// They are burnt until they pass the test.
     Burning,
-    /// They passed, and nothing better is sought.
+    /// They passed, and the search is over.
     Found,
-    /// Nothing was found, and nothing more is tried.
+    /// Nothing was found, and the search is over.
     GivenUp,
 }
 
-/// A search of counts, made step by step: how often each vertex of a game has fired in the end, nearly and, mostly, not
-/// beyond.
+/// A step-by-step search for counts: how often each vertex of a game has fired at the end, nearly and mostly not more.
 ///
-/// It solves an obstacle problem on aggregates of vertices and on aggregates of these, and burns what it found until
-/// that passes a test that every play reaches it. If that takes long, target heights are fitted to what patches of
-/// vertices keep, and the problem is solved anew.
+/// It solves an obstacle problem on aggregates of vertices and on their aggregates, and burns the solution until it
+/// passes a test that every play reaches it. If that takes long, it fits target heights to what patches of vertices
+/// keep, and solves the problem again.
 #[derive(Drop)]
 pub struct Search {
     hierarchy: Hierarchy,
-    /// How many chips the game has.
+    /// The number of chips of the game.
     chips: u64,
-    /// The last counts that were solved for.
+    /// The last solution.
     counts: Vec<f64>,
-    /// What each vertex is to keep.
+    /// The target height of each vertex.
     heights: Vec<f64>,
     stage: Stage,
     solver: Box<Solver>,
     burning: Box<Burning>,
-    /// How many kinds of target heights were tried before this one.
+    /// The number of kinds of target heights tried before this one.
     tried: usize,
     /// How often heights were fitted.
     fits: usize,
-    /// Whether more may come of that.
+    /// Whether another fit may help.
     may_fit: bool,
-    /// How often all vertices fire by the last counts that passed; 0 if none did.
+    /// The sum of the last counts that passed; 0 if none did.
     passed: i64,
-    /// How often more each vertex fires when counts pass.
+    /// How many more times each vertex fires when counts pass.
     raise: i64,
-    /// How many steps were made.
+    /// The number of steps made.
     steps: u64,
-    /// How often one phase ended and the next one began.
+    /// The number of changes of phase.
     phases: u64,
 }
 
 impl Search {
-    /// The search for a game that was played up to the counts `fired`.
+    /// Begins the search for a game played up to the counts `fired`.
     pub fn new(
         alloc: Global,
         hierarchy: Hierarchy,
@@ -93,8 +92,8 @@ impl Search {
         Ok(search)
     }
 
-    /// Makes steps until the search is over or `most` visits in all may be too few for the next one; whether it is over.
-    /// It is given anew each time for what it was made. Its visits to a vertex or a link are added to `visits`.
+    /// Makes steps until the search is over, or `most` visits in all may not suffice for the next one. Returns whether
+    /// it is over. Game and counts must be those of `new`. Adds its visits of vertices and links to `visits`.
     pub fn go_on(
         &mut self,
         alloc: Global,
@@ -135,8 +134,7 @@ impl Search {
         Ok(false)
     }
 
-    /// The counts that were found, those of `fired` among them, up to this limit; `None` if none were, or if memory
-    /// runs out.
+    /// The counts found, including those of `fired`, up to this limit; `None` if none were found, or memory runs out.
     pub fn found(&self, alloc: Global, fired: &[u64], limit: u64) -> Option<Vec<u64>>
         ensures each { IfSome result (λ counts. length counts.items ≡ length fired.now) }
         ensures within { IfSome result (λ counts. (v : ℕ) → slice_index counts.items v ≤ limit) }
@@ -148,26 +146,26 @@ impl Search {
         }
     }
 
-    /// How many visits the next step makes at most.
+    /// The most visits of the next step, with a change of phase.
     pub fn visits_of_next(&self) -> u64 {
         self.visits_of_step().saturating_add(self.visits_of_phase())
     }
 
-    /// How many visits lie between two phases: the graph is visited thrice, and its vertices ten times more.
+    /// The visits between two phases: three of the whole graph, and ten more of its vertices.
     fn visits_of_phase(&self) -> u64 {
         let finest = &self.hierarchy.finest;
         let vertices = (finest.rows.len() as u64).saturating_mul(10);
         finest.size().saturating_mul(3).saturating_add(vertices)
     }
 
-    /// How many steps the search has made, up to 2^64 - 1: cycles, and lowerings of the counts.
+    /// The number of steps made, up to 2^64 - 1: cycles, and lowerings of the counts.
     pub fn steps(&self) -> u64 {
         self.steps
     }
 
-    /// About how many chips have still to move until the counts are those sought: from 1 to the chips of the game, and
-    /// 0 once the search is over. While counts are solved for, those above or below the target heights; while they are
-    /// burnt, those that vertices lack to pass the test. It visits the whole graph.
+    /// About how many chips still have to move until the counts are found: from 1 to the chips of the game, and 0 once
+    /// the search is over. While solving, the chips above or below the target heights; while burning, those that
+    /// vertices lack to pass the test. Reads the whole graph.
     pub fn chips_to_move(&self) -> u64 {
         let chips = match self.stage {
             Stage::Solving => saturating_f64_to_u64(self.solver.norm(&self.hierarchy)),
@@ -177,8 +175,8 @@ impl Search {
         chips.min(self.chips).max(1)
     }
 
-    /// What a step visits at most: a cycle goes over each level five times, over its vertices thrice more, and over
-    /// the finest level once or twice. All levels have at most twice the vertices of the finest.
+    /// The most visits of a step. A cycle visits each level five times, its vertices three more times, and the finest
+    /// level once or twice more. All levels have at most twice the vertices of the finest.
     fn visits_of_step(&self) -> u64 {
         if self.stage != Stage::Solving {
             return self.burning.visits;
@@ -191,7 +189,7 @@ impl Search {
         all.saturating_add(vertices).saturating_add(more)
     }
 
-    /// Begins to solve for the target heights that are tried, or gives up if all were tried.
+    /// Begins to solve for the next target heights, or gives up if all were tried.
     fn try_heights(&mut self, alloc: Global, target: Target<'_>) -> Result<Stage, AllocError> {
         let Some(kept) = self.hierarchy.kind.heights().get(self.tried) else {
             return Ok(Stage::GivenUp);
@@ -211,7 +209,7 @@ impl Search {
         Ok(Stage::Solving)
     }
 
-    /// Makes a cycle, and begins to burn the counts if they are near.
+    /// Makes a cycle, and begins to burn the counts once they are near.
     fn solve(&mut self, alloc: Global, target: Target<'_>) -> Result<Stage, AllocError> {
         match self.solver.step(&self.hierarchy) {
             Progress::Going => return Ok(Stage::Solving),
@@ -222,7 +220,7 @@ impl Search {
         self.begin_to_burn(alloc, target, Stage::Burning)
     }
 
-    /// Begins to burn the counts, if the position that they lead to is not too great.
+    /// Begins to burn the counts, if the position that they give is not too great.
     fn begin_to_burn(
         &mut self,
         alloc: Global,
@@ -240,7 +238,7 @@ impl Search {
         }
     }
 
-    /// Burns the counts between walls once, and solves for heights that are fitted to what is left after some times.
+    /// Burns the counts between walls once. After some times, solves for heights that are fitted to what is left.
     fn fit(&mut self, alloc: Global, target: Target<'_>) -> Result<Stage, AllocError> {
         let progress = self.burning.step(&self.hierarchy);
         if progress == Progress::Going && self.burning.steps < STEPS_OF_FIT {
@@ -263,7 +261,7 @@ impl Search {
         };
         match self.burning.step(&self.hierarchy) {
             Progress::Converged => return Ok(self.pass(target)),
-            // Counts that are greater than some that passed come back to these.
+            // Counts raised above some that passed fall back to these.
             Progress::Diverged if self.passed == 0 => {
                 self.burning.end(alloc);
                 self.may_fit = false;
@@ -286,7 +284,7 @@ impl Search {
         Ok(Stage::Burning)
     }
 
-    /// Whether it pays to fit heights soon, and to go on from counts that passed.
+    /// Whether the graph is so large that it pays to fit heights soon, and to go on from counts that passed.
     fn is_great(&self) -> bool {
         self.counts.len() >= GREAT
     }
@@ -308,7 +306,7 @@ impl Search {
     }
 }
 
-/// Whether a vertex is as far from the sink as walls are from each other.
+/// Whether some vertex is as far from the sink as walls are from each other.
 fn has_walls(graph: &Graph) -> bool {
     for vertex in 0..graph.vertices() {
         if graph.distance(vertex) >= WALL_SPACING {

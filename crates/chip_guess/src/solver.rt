@@ -7,12 +7,12 @@ use std::alloc::{AllocError, Global};
 use std::mem;
 use std::num::{nearest_i64_to_f64, nearest_u64_to_f64};
 
-/// How many chips each vertex is to keep, from few to many.
+/// The number of chips that each vertex is to keep, from few to many.
 #[derive(Clone, Copy)]
 pub(crate) enum TargetHeight {
-    /// As many as lie on a vertex of a grid in the end in the mean, 17/8: at all degrees an eighth of the range.
+    /// The mean on a grid at the end, 17/8: at every degree one eighth of the range.
     Stationary,
-    /// Half way from there to the next one.
+    /// Halfway from there to the next one.
     Middle,
     /// One less than its degree.
     Full,
@@ -21,7 +21,7 @@ pub(crate) enum TargetHeight {
 }
 
 impl TargetHeight {
-    /// What a vertex of this degree keeps.
+    /// The height of a vertex of this degree.
     pub(crate) fn of(self, degree: i64) -> f64 {
         let HeightRange { least, full } = HeightRange::of(degree);
         match self {
@@ -33,7 +33,7 @@ impl TargetHeight {
     }
 }
 
-/// Between what heights a vertex ends, in the mean over a part of a graph.
+/// The range of a vertex's height at the end, averaged over a part of a graph.
 #[derive(Clone, Copy)]
 pub(crate) struct HeightRange {
     /// Half its degree: a position that passes the burning test has a chip for each edge.
@@ -43,7 +43,7 @@ pub(crate) struct HeightRange {
 }
 
 impl HeightRange {
-    /// That of a vertex of this degree.
+    /// The range of a vertex of this degree.
     pub(crate) fn of(degree: i64) -> HeightRange {
         let degree = nearest_i64_to_f64(degree);
         let full = (degree - 1.0).max(0.0);
@@ -52,8 +52,7 @@ impl HeightRange {
     }
 }
 
-/// What counts are sought: those with which a game ends, or goes on at its limit, from the counts on to which it has
-/// come.
+/// Which counts are sought: those at the end of a game, or at its limit, from the counts that it has reached.
 #[derive(Clone, Copy)]
 pub(crate) struct Target<'a> {
     pub(crate) game: &'a Game,
@@ -61,25 +60,25 @@ pub(crate) struct Target<'a> {
     pub(crate) fired: &'a [u64],
 }
 
-/// How far something has come that is made step by step.
+/// The progress of something made step by step.
 #[derive(Clone, Copy)]
 pub(crate) enum Progress {
-    /// It goes on.
+    /// It has not ended.
     Going,
-    /// It came to its end.
+    /// It has reached its end.
     Converged,
-    /// It will not come to its end soon.
+    /// It will not reach its end soon.
     Diverged,
 }
 
 /// V-cycles that bring counts near to those that leave each vertex its target height.
 #[derive(Drop)]
 pub(crate) struct Solver {
-    /// The problem of the counts, and those of its corrections.
+    /// The problem of the counts, and those of their corrections.
     problems: Vec<Problem>,
-    /// The residual that may be left.
+    /// The residual allowed at the end.
     tolerance: f64,
-    /// How many cycles were made.
+    /// The number of cycles made.
     cycles: u64,
     /// The residual when it was last compared.
     norm: f64,
@@ -117,8 +116,8 @@ impl Solver {
         Ok(())
     }
 
-    /// Makes a cycle if more than little is left. It diverges if some do not halve that. On graphs whose links go both
-    /// ways that is what the first cycle left, which may spread a heap too far.
+    /// Makes a cycle, unless the residual is small. It diverges if some cycles do not halve the residual: on symmetric
+    /// graphs that after the first cycle, which may spread a heap too far.
     pub(crate) fn step(&mut self, hierarchy: &Hierarchy) -> Progress {
         let norm = self.norm(hierarchy);
         if norm <= self.tolerance {
@@ -147,7 +146,7 @@ impl Solver {
         Progress::Going
     }
 
-    /// How many chips are above or below their heights.
+    /// The number of chips above or below their heights.
     pub(crate) fn norm(&self, hierarchy: &Hierarchy) -> f64 {
         match self.problems.first() {
             Some(finest) => finest.free_sums(&hierarchy.finest).0,
@@ -155,7 +154,7 @@ impl Solver {
         }
     }
 
-    /// Ends with the counts.
+    /// Ends, and returns the counts.
     pub(crate) fn end(&mut self, alloc: Global) -> Vec<f64> {
         let mut counts = Vec::new(alloc);
         if let Some(finest) = self.problems.first_mut() {
@@ -166,7 +165,7 @@ impl Solver {
     }
 }
 
-/// Asks for the counts that leave these heights; the sum of all degrees.
+/// Asks for the counts that leave these heights. Returns the sum of all degrees.
 fn ask(problem: &mut Problem, level: &Level, target: Target<'_>, heights: &[f64]) -> f64 {
     let (chips, fired) = (target.game.start(), target.fired);
     let mut degrees = 0.0;

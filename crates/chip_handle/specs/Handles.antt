@@ -11,19 +11,19 @@ abbrev pub number_of_piles : Option KeptGame → ℕ
 number_of_piles None = 0
 number_of_piles (Some k) = 1
 
--- what making a pile returns: there is one at the start of the game, in place of what was there; or the first fault, and
--- all is as it was
+-- what making a pile returns: a pile at the start of the game, in place of the one there; or the first fault, and
+-- nothing changes
 abbrev pub MakesNew : EdgeLists → ℕ → List ℕ → (old new : Option KeptGame) → Result (Unit {0}) CallFault → Type 0
 MakesNew lists limit chips old new (Ok done) = (k : KeptGame) × (new ≡ Some k) × MakesPile lists limit chips (Ok k)
 MakesNew lists limit chips old new (Err fault) = (new ≡ old) × MakesPile lists limit chips (Err fault)
 
--- what a call on a pile returns: that there is none, and it stays so; or what it does to the pile that is there
+-- what a call on a pile returns: that there is none, and none is made; or what it does to the pile
 abbrev pub OnPile : {T : Type 0} → (KeptGame → KeptGame → Result T CallFault → Type 0) → (old new : Option KeptGame)
     → Result T CallFault → Type 0
 OnPile does None new told = (new ≡ None) × (told ≡ Err NoPile)
 OnPile does (Some k) new told = (k' : KeptGame) × (new ≡ Some k') × does k k' told
 
--- what a call that writes returns: that there is no pile, and nothing is written; or what it does to the pile that is there
+-- what a call that writes returns: that there is no pile, and nothing is written; or what it does to the pile
 abbrev pub WritesOn : {T W : Type 0} → ((old new : KeptGame) → (before after : W) → Result T CallFault → Type 0)
     → (old new : Option KeptGame) → (before after : W) → Result T CallFault → Type 0
 WritesOn does None new before after told = (new ≡ None) × (after ≡ before) × (told ≡ Err NoPile)
@@ -41,12 +41,12 @@ abbrev pub MeasuresOn : (old new : Option KeptGame) → (at amounts : List ℕ) 
 MeasuresOn old new at amounts =
     WritesOn {T = ℕ} {W = Measures} (λ k k' before after told. MeasuresEach k k' at amounts before after told) old new
 
--- what a copy returns: these numbers, if there is room for just as many, and else nothing is written
+-- what a copy returns: these numbers, if the slice has the same length; else a fault, and nothing is written
 abbrev pub Copies : List ℕ → (old new : List ℕ) → Result (Unit {0}) CallFault → Type 0
 Copies numbers old new (Ok done) = new ≡ numbers
 Copies numbers old new (Err fault) = (new ≡ old) × (fault ≡ Lengths) × (length old ≡ length numbers → ⊥)
 
--- what a copy of a pile's numbers returns, which stays as it was: these numbers, or that there is no pile
+-- what a copy of a pile's numbers returns: these numbers, or that there is no pile. The pile is unchanged
 abbrev pub CopiesOf : (KeptGame → List ℕ) → (handle handle' : Option KeptGame) → (old new : List ℕ)
     → Result (Unit {0}) CallFault → Type 0
 CopiesOf numbers None handle' old new told = (handle' ≡ None) × (new ≡ old) × (told ≡ Err NoPile)
@@ -60,7 +60,7 @@ chips_on k = k.pile.chips.items
 abbrev pub firings_on : KeptGame → List ℕ
 firings_on k = k.pile.fired.items
 
--- how many bytes the arrays of a pile take, if there is one
+-- the number of bytes in the arrays of a pile, 0 if there is none
 abbrev pub bytes_held : Option KeptGame → ℕ
 bytes_held None = 0
 bytes_held (Some k) = bytes_on k.pile.game.graph

@@ -1,4 +1,4 @@
--- What a box that may be none owns.
+-- What a box, or none, owns.
 use Rattle.std.specs.Prelude.{Option, Some, None}
 use base.Fml.{Fml, ftrue}
 use denote.RawPtr.{Ptr}

@@ -1,4 +1,4 @@
-//! The calls on a pile that C keeps.
+//! Calls on a pile that C keeps.
 
 ghost use Rattle.std.specs.Prelude.{◌≡◌, None};
 ghost use Rattle.chip_library.specs.KeptGames.{PutsChips, PlaysSome, Drops};
@@ -10,9 +10,9 @@ use chip_library::{CallFault, EdgeLists, KeptPile};
 use core::mem::replace_with;
 use std::alloc::Global;
 
-/// Makes the pile at the start of a game, whose limit is 2^40 at most, in place of what was there.
+/// Makes the pile at the start of a game, with a limit of at most 2^40, in place of the pile that is there, if any.
 ///
-/// The first fault is returned: of the lengths, of the graph, or of the game. Then what was there stays as it was.
+/// Returns the first fault: of the lengths, the graph or the game. Then nothing changes.
 pub fn make(
     alloc: Global,
     handle: &mut Handle,
@@ -29,7 +29,7 @@ pub fn make(
     Ok(())
 }
 
-/// Puts other chips on a pile (`KeptPile::put`).
+/// Replaces the chips on a pile (`KeptPile::put`).
 pub fn put(alloc: Global, handle: &mut Handle, limit: u64, chips: &[u64]) -> Result<(), CallFault>
     ensures { OnPile (λ old new told. PutsChips old new limit chips.now told)
         handle.old.raw.value handle.new.raw.value result }
@@ -51,7 +51,7 @@ fn one_put(kept: KeptPile, given: (Global, u64, &[u64])) -> (KeptPile, Result<()
     kept.put(alloc, limit, chips)
 }
 
-/// Plays a pile on by so many visits (`KeptPile::play_some`).
+/// Plays a pile on by about `visits` visits (`KeptPile::play_some`).
 pub fn play_on(alloc: Global, handle: &mut Handle, visits: u64) -> Result<bool, CallFault>
     ensures { OnPile (λ old new told. PlaysSome old new visits told)
         handle.old.raw.value handle.new.raw.value result }
@@ -65,7 +65,7 @@ pub fn play_on(alloc: Global, handle: &mut Handle, visits: u64) -> Result<bool, 
     told
 }
 
-/// A pile whose play has gone on.
+/// A pile after a portion of its play.
 fn one_portion(kept: KeptPile, portion: (Global, u64)) -> (KeptPile, Result<bool, CallFault>)
     ensures { PlaysSome kept result.0 portion.1 result.1 }
 {
@@ -92,7 +92,7 @@ pub fn drop_on(
     told
 }
 
-/// A pile with one drop more.
+/// A pile after one more drop.
 fn one_drop(kept: KeptPile, drop: (Global, u64, u64)) -> (KeptPile, Result<Avalanche, CallFault>)
     ensures { Drops kept result.0 drop.1 drop.2 result.1 }
 {
@@ -164,7 +164,7 @@ pub fn measure_on(
     told
 }
 
-/// Copies how many chips each vertex of a pile has.
+/// Copies the chips of each vertex of a pile.
 pub fn chips_of(alloc: Global, handle: &mut Handle, chips: &mut [u64]) -> Result<(), CallFault>
     ensures { CopiesOf chips_on handle.old.raw.value handle.new.raw.value chips.old chips.new result }
 {
@@ -176,7 +176,7 @@ pub fn chips_of(alloc: Global, handle: &mut Handle, chips: &mut [u64]) -> Result
     told
 }
 
-/// Copies how often each vertex of a pile has fired, from the start of its game on.
+/// Copies how often each vertex of a pile has fired since the start of its game.
 pub fn fired_of(alloc: Global, handle: &mut Handle, fired: &mut [u64]) -> Result<(), CallFault>
     ensures { CopiesOf firings_on handle.old.raw.value handle.new.raw.value fired.old fired.new result }
 {
@@ -188,7 +188,7 @@ pub fn fired_of(alloc: Global, handle: &mut Handle, fired: &mut [u64]) -> Result
     told
 }
 
-/// Copies numbers, if there is room for just as many.
+/// Copies numbers into a slice of the same length.
 fn copy(numbers: &[u64], room: &mut [u64]) -> Result<(), CallFault>
     ensures { Copies numbers.now room.old room.new result }
 {
@@ -199,7 +199,7 @@ fn copy(numbers: &[u64], room: &mut [u64]) -> Result<(), CallFault>
     Ok(())
 }
 
-/// How many bytes the arrays of a pile take (`KeptPile::bytes`), or 0 if there is none.
+/// The number of bytes in the arrays of a pile (`KeptPile::bytes`), or 0 if there is none.
 pub fn bytes_of(alloc: Global, handle: &mut Handle) -> u64
     ensures pile { handle.new.raw.value ≡ handle.old.raw.value }
     ensures bytes { result ≡ bytes_held handle.old.raw.value }

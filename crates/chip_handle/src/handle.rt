@@ -1,4 +1,4 @@
-//! What C holds of a pile.
+//! What C holds for a pile.
 
 ghost use Rattle.std.specs.Prelude.{◌≡◌, Some, None, MatchOption};
 ghost use Rattle.chip_handle.specs.Handles.{number_of_piles};
@@ -10,18 +10,18 @@ use std::alloc::Global;
 use std::marker::Send;
 use std::mem::replace;
 
-/// A pile, or none. All bytes 0 are none.
+/// A pile, or none. If all bytes are 0, there is none.
 #[repr(C)]
 #[derive(Drop)]
 pub struct Handle {
-    /// 1 if there is one, and else 0.
+    /// 1 if there is a pile, else 0.
     full: u64,
     pub raw: Raw,
     ghost is: { full ≡ number_of_piles raw.value },
 }
 
 impl Handle {
-    /// None.
+    /// No pile.
     pub(crate) fn none(alloc: Global) -> Handle
         ensures { result.raw.value ≡ None }
     {

@@ -1,4 +1,4 @@
-//! A pile in a box, or none, as C holds it. C sees a pointer to bytes, since it may not see what has borrows of its own.
+//! A pile in a box, or none, as C holds it. C gets a pointer to bytes, since it may not see a type with borrows.
 
 ghost use Rattle.std.specs.Prelude.{◌≡◌, Option, Some, None};
 ghost use Rattle.chip_library.specs.KeptGames.{KeptGame};
@@ -22,11 +22,11 @@ impl Model for Raw {
     ghost also_owns = { λ r. maybe_owns r.alloc r.at r.value };
 }
 
-// It may go to another thread, as what it points to.
+// It may go to another thread, as its pile may.
 unsafe impl Send for Raw {}
 
 impl Raw {
-    /// None.
+    /// The null pointer.
     pub fn none(alloc: Global) -> Raw
         ensures { result.value ≡ None }
     {
@@ -36,7 +36,7 @@ impl Raw {
         }
     }
 
-    /// The pile of a box.
+    /// The pointer of a box.
     pub fn of(loose: Loose<KeptPile, Global>) -> Raw
         ensures { result.value ≡ Some loose.value }
     {
@@ -47,7 +47,7 @@ impl Raw {
         }
     }
 
-    /// The box again.
+    /// The box of the pointer.
     pub fn into_loose(self) -> Loose<KeptPile, Global>
         requires { (x : KeptGame) × (self.value ≡ Some x) }
         ensures { self.value ≡ Some result.value }

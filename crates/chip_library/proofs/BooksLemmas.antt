@@ -1,5 +1,5 @@
 -- Serves PartBooks.antt.
--- What the tally of one edge tells of the books, and what a step of it makes of them.
+-- What the tally of one edge says of the books, and what a step does to them.
 use Rattle.std.proofs.Common.{◌≡◌, ◌≢◌, ℕ, zero, suc, ◌+◌, ◌-◌, ◌<◌, ◌≤◌, eqb, if◌then◌else◌, ◌&&◌, Bool, true, false}
 use Rattle.std.proofs.Common.{List, [], ◌∷◌, length, get_or, Option, Some, None, refl, sym, ap, ◌∙◌, subst, inl, inr, arith, not, nat_lt, lt-ltb, ltb-true, is_some, MatchOption}
 use Rattle.std.specs.List.{Contains, IsAllAdjacentAnswer, sum_by}
@@ -25,7 +25,7 @@ use Rattle.chip_detect.proofs.SoundnessLemmas.{getting_keeps, acknowledging_keep
 use Rattle.chip_detect.proofs.SoundnessLemmas.{parent_goes_with_all}
 use Rattle.chip_library.specs.PartBooks.{neutral, parent_of, books_of, HasEdge, HasRoom, IsPossible, ArePossible, IsFound, Suits}
 
--- if edges ascend, the look-up of one gives what stands at its index
+-- if edges ascend, the look-up of one gives the value at its index
 at_index : (ts : List Tally) (i : ℕ) → IsStrictlyIncreasing (edges_of ts) → i < length ts → (f : Tally → ℕ)
     → look f ts (get_or (edges_of ts) i 0) ≡ f (tally_at ts i)
 at_index ts i rising in_range f = look_at f ts i _ (ascends (edges_of ts) rising) in_range
@@ -71,7 +71,7 @@ are_tallies ts rising are =
           )
     ]
 
--- what a search for all of them answers
+-- what a search for all of them returns
 pub sound_if : (ts : List Tally) (total : Option ℕ) (r : Bool) → IsStrictlyIncreasing (edges_of ts)
     → MatchOption total (ArePossible ts → ⊥) (λ n. ArePossible ts × (AreTallies ts → n ≡ all_open ts)) → r ≡ is_some total
     → (r ≡ true → AreTallies ts) × (AreTallies ts → r ≡ true)
@@ -79,7 +79,7 @@ sound_if ts (Some n) r rising possible same = (λ is. are_tallies ts rising poss
 sound_if ts None r rising impossible same =
     (λ is. absurd (false≢true (sym same ∙ is)), λ are. absurd (impossible (all_possible ts are)))
 
--- what `is_sorted_by` answers by the edges
+-- what `is_sorted_by` returns by the edges
 module _ (ts : List Tally) where
   edge_at : (i : ℕ) → i < length ts → get_or (edges_of ts) i 0 ≡ (get_or ts i (fresh_tally 0)).edge
   edge_at i in_range = get_or-map (λ (t : Tally). t.edge) ts i (fresh_tally 0) 0 in_range
@@ -140,7 +140,7 @@ pub possible_there : (ts : List Tally) (slot : Slot) → AreTallies ts → IsSlo
 possible_there ts slot are is = (all_possible ts are).each slot.index
     (omega (arith, length-map ts (λ t. t.edge), is.within))
 
--- an edge on which something is open is there
+-- an edge with an open message is in the list
 pub is_there : (ts : List Tally) (e : ℕ) → 0 < open_on ts e → Contains (edges_of ts) e
 is_there ts e some = elim (absent_or_at ts e) [
   | inl absent ↦ absurd (omega (arith, absent (λ t. t.messages), some))
@@ -163,7 +163,7 @@ sent_noted ins ts ts' parent e slot t is room adds sound =
     record { ins = refl; outs = made; parent = refl } in
     ((among ts e slot t is, few), tt, step, sending_keeps _ _ e sound few step)
 
--- a neutral part is engaged, and an engaged one stays so
+-- a neutral process is engaged, and an engaged one stays engaged
 pub engages : (parent parent' e : ℕ) → e < neutral → (parent ≡ neutral → parent' ≡ e) → (parent ≢ neutral → parent' ≡ parent)
     → parent_of parent' ≡ or_else (parent_of parent) e
 engages parent parent' e is_edge takes keeps = elim (eqb_tells parent neutral) [
@@ -189,7 +189,7 @@ got_noted ts ts' outs parent parent' e slot t is room adds engaged sound =
     record { ins = made; outs = refl; parent = engaged } in
     ((among ts e slot t is, few), tt, step, getting_keeps _ _ e sound (among ts e slot t is).0 few step)
 
--- a part that acknowledges all on its parent edge is neutral, and any other parent stays
+-- a process that acknowledges all on its parent edge is neutral; otherwise the parent stays
 pub leaves : (parent parent' e : ℕ) (all : Bool) → e < neutral → (parent ≡ e → all ≡ true → parent' ≡ neutral)
     → ((parent ≡ e → all ≡ false) → parent' ≡ parent)
     → parent_of parent' ≡ (if is_parent e (parent_of parent) && all then None else parent_of parent)
@@ -268,7 +268,7 @@ settled_noted ins ts ts' parent e word more slot t is few count adds sound =
 
 -- ---- what may be acknowledged
 
--- elsewhere than on the parent edge all that is owed
+-- on other edges than the parent: all that is owed
 pub may_elsewhere : (e parent here all waiting : ℕ) (passive : Bool) → (here ≢ 0 → parent ≢ e)
     → acknowledgeable_count e (parent_of parent) here all waiting passive ≡ here
 may_elsewhere e parent zero all waiting passive other = none (parent_of parent)
@@ -281,7 +281,7 @@ may_elsewhere e parent (suc here) all waiting passive other = elim (eqb_tells pa
   | inr (test, some) ↦ grind (arith, nat_tests, other (omega arith))
 ]
 
--- on the parent edge as the rule says
+-- on the parent edge: by the rule
 pub may_on_parent : (e parent here all waiting : ℕ) (passive : Bool) → parent ≡ e → e < neutral
     → acknowledgeable_count e (parent_of parent) here all waiting passive
     ≡ (if is_done here all waiting passive then here else here - 1)

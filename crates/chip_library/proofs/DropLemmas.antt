@@ -1,5 +1,5 @@
 -- Serves Drops.antt.
--- One more drop on a pile, with its avalanche, and what its play comes to.
+-- One more drop on a pile, with its avalanche, and how its play ends.
 use Rattle.std.proofs.Common.{◌≡◌, ℕ, ◌<◌, cond, eqb, List, [], ◌∷◌, ◌++◌, length, take, get_or, slice_index}
 use Rattle.std.proofs.Common.{refl, sym, ◌∙◌, subst, arith, rules, Contains}
 use Rattle.std.proofs.lemmas.List.{map-append, nil_from_length}
@@ -36,7 +36,7 @@ rests_there g chips (vs, whole, there) stable =
     let same : slice_index chips ≡ position_after g.graph (slice_index g.start) vs = (λ i v. there v i) in
     (vs, whole, subst (IsStable g.graph) same stable)
 
--- and else it is stopped
+-- otherwise the limit stops it
 pub stopped_there : (g : ChipGame) (chips : List ℕ) → EndsAt g chips → (IsStable g.graph (slice_index chips) → ⊥)
     → IsStopped g
 stopped_there g chips (vs, whole, there) legal =
@@ -50,7 +50,7 @@ pile_ends p is =
     let end = end_of_the_way _ _ _ _ _ is.begun.on_the_way is.at_rest vs whole in
     (vs, whole, end.1)
 
--- an outcome tells where a play ends
+-- an outcome gives where a play ends
 pub outcome_ends : (g : ChipGame) (o : Outcome) → IsPlayed g o → EndsAt g o.chips.items
 outcome_ends g o played = (played.ends.0, played.ends.1, played.position played.ends.0 played.ends.1)
 
@@ -69,7 +69,7 @@ module _ (g : ChipGame) (o : Outcome) (played : IsPlayed g o) where
       ((legal_vertices_law g.graph (slice_index o.chips.items) v).1 can) in
       let past = has.1 in omega arith
 
-  -- if it stopped one, that is legal
+  -- if it stopped one, that vertex is legal
   pub some_stopped : 0 < length o.over.items → IsStable g.graph (slice_index o.chips.items) → ⊥
   some_stopped some stable =
       let v : ℕ = get_or o.over.items 0 0 in
@@ -104,7 +104,7 @@ module _ (p : Pile) (told : List Told) (p' : Pile) (so_far : Leaves p told p') (
         total = (let c = sum_by-append (λ (pair : ℕ × ℕ). pair.1) (drops_of told) ds in omega arith);
       }
 
--- one drop more, with its avalanche
+-- one more drop, with its avalanche
 pub leaves_more : (p : Pile) (told : List Told) (p' : Pile) → Leaves p told p' → (t : Told)
     → t.0.0 < p.game.graph.vertices → (p'' : Pile) → IsPile p'' → HasMore p'.game (t.0 ∷ []) p''.game
     → IsStable p'.game.graph (slice_index p''.chips.items)
@@ -135,7 +135,7 @@ made_all g p room begins told p' leaves =
       );
     }
 
--- one drop more is on one vertex more
+-- one more drop is on one more vertex
 pub on_more : (told : List Told) (at amounts : List ℕ) → AreOn told at amounts → (t : Told)
     → AreOn (told ++ t ∷ []) (at ++ t.0.0 ∷ []) (amounts ++ t.0.1 ∷ [])
 on_more told at amounts on t = record {
@@ -143,7 +143,7 @@ on_more told at amounts on t = record {
   chips = rw (← on.chips) (map-append (λ (t : Told). t.0.1) told (t ∷ []));
 }
 
--- one avalanche more stands in the columns
+-- one more avalanche is in the columns
 pub told_in_columns : (told : List Told) (sizes extents losts : List ℕ) → AreTold told sizes extents losts → (t : Told)
     → AreTold (told ++ t ∷ []) (sizes ++ t.1.size ∷ []) (extents ++ t.1.extent ∷ []) (losts ++ t.1.lost ∷ [])
 told_in_columns told sizes extents losts are t = record {
@@ -152,7 +152,7 @@ told_in_columns told sizes extents losts are t = record {
   losts_are = rw (← are.losts_are) (map-append (λ (t : Told). t.1.lost) told (t ∷ []));
 }
 
--- the drop i has a fault, if i were made before it
+-- drop i has a fault, if i were made before it
 pub fault_after : (g : ChipGame) (at amounts : List ℕ) (told : List Told) (i : ℕ) (fault : CallFault) → length told ≡ i
     → i < length at → AreOn told (take i at) (take i amounts)
     → IsFaultOfDrop g told (slice_index at i) (slice_index amounts i) fault → IsFaultAfter g at amounts told fault

@@ -1,5 +1,5 @@
 -- Serves CallFaults.antt.
--- What the sizes of lists tell of their graph.
+-- What the sizes of lists say of their graph.
 use Rattle.std.proofs.Common.{◌≡◌, ℕ, zero, suc, List, length, Ok, Err, refl, arith, None, inl, inr}
 use Rattle.std.proofs.lemmas.List.{length_push}
 use Rattle.chip_graph.specs.declared.fault.GraphFault.{GraphFault}

@@ -87,7 +87,7 @@ pub drops_follow : DropsFollow
 drops_follow g k played begins plays told p leaves =
     made_all g played.pile (max_total - sum g.start) (begins_pile g k played begins plays) told p leaves
 
--- avalanches after others are more of them
+-- avalanches after others continue these
 avalanches_more : (G : Multigraph) (x : ℕ → ℕ) (told : List Told) (y : ℕ → ℕ) → AreAvalanches G x told y
     → (more : List Told) (z : ℕ → ℕ) → AreAvalanches G y more z → AreAvalanches G x (told ++ more) z
 avalanches_more G x [] y left more z are =
@@ -150,7 +150,7 @@ whole_play old new false plays = plays
 
 -- ---- one call after another
 
--- a pile that was played out stays as it was when it is played again
+-- a pile that was played out is unchanged when it is played again
 pub played_once : (old played new : KeptGame) → Plays old played (Ok tt) → IsPlayedOut played new → IsPlayedOut old new
 played_once old played new first again =
     let stable = first.1 in
@@ -160,13 +160,13 @@ played_once old played new first again =
       same = λ before. again.same over ∙ first.0.same before;
     }
 
--- a drop on a pile that was played out is one on the pile before
+-- a drop on a pile that was played out is one on the pile before that play
 pub drops_played : (old played new : KeptGame) (v count : ℕ) → Plays old played (Ok tt) → v < old.pile.game.graph.vertices
     → (told : Option Avalanche) → DropsOnStable played new v count told → Drops old new v count (ok_or told (Stopped 0))
 drops_played old played new v count first inside (Some a) (stable, leaves) = (played, first, stable, leaves)
 drops_played old played new v count first inside None (halted, more) = (refl, inside, inr (played, first, halted, more))
 
--- the limit has stopped the play before a drop
+-- the limit stopped the play before a drop
 pub stopped_before : (old new : KeptGame) (v count : ℕ) → v < old.pile.game.graph.vertices → (fault : CallFault)
     → Plays old new (Err fault) → Drops old new v count (Err fault)
 stopped_before old new v count inside fault (played, halted, is) =
@@ -210,7 +210,7 @@ falls g at amounts each can told i inside on g' more =
     let next = sum_by_more_le (λ x. x) amounts i 0 (omega arith) in
     let total = more.total in (rw more.same_graph here, omega arith)
 
--- one number more of a column is written
+-- one more number of a column is written
 pub first_more : (number : Told → ℕ) (told : List Told) (t : Told) (column : List ℕ) (i : ℕ) → length told ≡ i
     → i < length column
     → set (with_first number told column) i (number t) ≡ with_first number (told ++ t ∷ []) column

@@ -1,5 +1,5 @@
 -- Serves Measures.antt.
--- Drops that are measured one after another, and what is written of them.
+-- Drops measured one after another, and what is written of them.
 use Rattle.std.proofs.Common.{◌≡◌, ◌⊎◌, ⊎_elim, ℕ, ◌+◌, ◌<◌, ◌≤◌, Bool, true, List, [], ◌∷◌, ◌++◌}
 use Rattle.std.proofs.Common.{length, map, take, drop, set, slice_index, Some, Result, Ok, Err}
 use Rattle.std.proofs.Common.{inl, inr, refl, sym, ap, ◌∙◌, subst, arith, add-one, drop-cons}
@@ -32,7 +32,7 @@ use Rattle.chip_library.proofs.KeptLemmas.{more_drops, drops_well, played_once, 
 
 -- ---- drops one after another
 
--- drops after others are more of them
+-- drops after others continue these
 noted_more : (G : Multigraph) (timed : Bool) (x : ℕ → ℕ) (notes : List Noted) (y : ℕ → ℕ) → AreNoted G timed x notes y
     → (more : List Noted) (z : ℕ → ℕ) → AreNoted G timed y more z → AreNoted G timed x (notes ++ more) z
 noted_more G timed x [] y left more z are =
@@ -51,7 +51,7 @@ leaves_noted_more p timed notes p' so_far more p'' later =
       noted = noted_more p.game.graph timed _ notes _ so_far.noted more _ are;
     }
 
--- none yet
+-- no drops yet
 pub leaves_noted_none : (p : Pile) (timed : Bool) → IsPile p → IsStable p.game.graph (slice_index p.chips.items)
     → LeavesNoted p timed [] p
 leaves_noted_none p timed is stable = record { leaves = leaves_none p is stable; noted = λ v. refl }
@@ -76,12 +76,12 @@ pub front_none : (column : List ℕ) → at_front [] column ≡ column
 front_none [] = refl
 front_none (x ∷ xs) = refl
 
--- nor any into a column of none
+-- nor any into an empty column
 front_empty : (numbers column : List ℕ) → length column ≡ 0 → at_front numbers column ≡ column
 front_empty numbers [] none = refl
 front_empty numbers (x ∷ xs) none = absurd (omega arith)
 
--- one number more
+-- one more number
 pub front_push : (numbers : List ℕ) (x : ℕ) (column : List ℕ) (i : ℕ) → length numbers ≡ i
     → (0 < length column → i < length column) → set (at_front numbers column) i x ≡ at_front (numbers ++ x ∷ []) column
 front_push numbers x [] i long inside = refl
@@ -94,7 +94,7 @@ front_push numbers x (c ∷ cs) i long inside =
     let longer = length_push numbers x in
     rw (rest, longer, append_assoc) written
 
--- numbers more, behind the others
+-- more numbers, after the others
 front_row : (xs ys column : List ℕ) → length xs + length ys ≤ length column
     → take (length xs) (at_front xs column) ++ ys ++ drop (length xs + length ys) (at_front xs column)
     ≡ at_front (xs ++ ys) column
@@ -108,7 +108,7 @@ front_row xs ys (c ∷ cs) fits =
     let behind : drop (length ys) rest ≡ drop (length xs + length ys) (c ∷ cs) = drop-drop (length ys) (length xs) (c ∷ cs) in
     let long : length (xs ++ ys) ≡ length xs + length ys = length-append xs ys in rw (first, last, behind, long) refl
 
--- where the drops end that are one more
+-- where the drops end, with one more
 ends_push : (start : ℕ) (notes : List Noted) (n : Noted) (end : ℕ)
     → end ≡ start + length (fired_in notes) + length n.vertices
     → ends_from start (notes ++ n ∷ []) ≡ ends_from start notes ++ end ∷ []
@@ -126,7 +126,7 @@ length_ends start [] = refl
 length_ends start (n ∷ notes) =
     let rest = length_ends (start + length n.vertices) notes in omega arith
 
--- what fired in these drops stands in the memory up to `end`, if that is asked for
+-- what fired in these drops is in the memory up to `end`, if it is asked for
 pub record HoldsRows (notes : List Noted) (ends0 vertices0 times0 ends vertices times : List ℕ) (end : ℕ) : Type 0 where
   pub ends_are : ends ≡ at_front (ends_from 0 notes) ends0
   pub vertices_are : vertices ≡ at_front (fired_in notes) vertices0
@@ -134,7 +134,7 @@ pub record HoldsRows (notes : List Noted) (ends0 vertices0 times0 ends vertices 
   pub end_is : 0 < length ends0 → end ≡ length (fired_in notes)
   pub as_many : length (times_in notes) ≡ length (fired_in notes)
 
--- of no drops
+-- no drops
 holds_none : (ends0 vertices0 times0 : List ℕ) → HoldsRows [] ends0 vertices0 times0 ends0 vertices0 times0 0
 holds_none ends0 vertices0 times0 = record {
   ends_are = sym (front_none ends0);
@@ -144,7 +144,7 @@ holds_none ends0 vertices0 times0 = record {
   as_many = refl;
 }
 
--- what one drop more fires is written behind that of the others, from `end` to `end'`
+-- what one more drop fires is written after that of the others, from `end` to `end'`
 pub record WritesRow (n : Noted) (i end end' : ℕ) (ends vertices times ends' vertices' times' : List ℕ) : Type 0 where
   pub none : length ends ≡ 0 → (end' ≡ end) × (vertices' ≡ vertices) × (times' ≡ times)
   pub ends_are : ends' ≡ set ends i end'
@@ -153,7 +153,7 @@ pub record WritesRow (n : Noted) (i end end' : ℕ) (ends vertices times ends' v
   pub times_are : 0 < length ends → times' ≡ take end times ++ n.times ++ drop end' times
 
 module _ (notes : List Noted) (n : Noted) (as_many : length n.times ≡ length n.vertices) where
-  -- all that fired, with what one drop more fires
+  -- all that fired, with what one more drop fires
   fired_more : fired_in (notes ++ n ∷ []) ≡ fired_in notes ++ n.vertices
   fired_more = sym (flat_map_more (λ (m : Noted). m.vertices) [] notes n)
 
@@ -227,7 +227,7 @@ pub record SoFar (old new : KeptGame) (at amounts : List ℕ) (before now : Meas
   pub within : end ≤ length now.vertices
   pub room : (j : ℕ) → j < i → IsFull old.pile.game.graph before (take j notes) → ⊥
 
--- none yet
+-- no drops yet
 pub so_far_none : (k : KeptGame) (at amounts : List ℕ) (before : Measures) → IsKept k.pile k.state → k.state ≡ Stable
     → SoFar k k at amounts before before [] 0 0
 so_far_none k at amounts before kept stable =
@@ -255,7 +255,7 @@ not_full old new at amounts before now notes end i so_far ends_each vertices_eac
     let any : 0 < length now.ends = omega arith in
     let fits : end + new.pile.game.graph.vertices ≤ length now.vertices = room any in omega arith
 
--- there is none
+-- there is no room
 pub is_full : (old new : KeptGame) (at amounts : List ℕ) (before now : Measures) (notes : List Noted) (end i : ℕ)
     → SoFar old new at amounts before now notes end i → length now.ends ≡ length before.ends
     → length now.vertices ≡ length before.vertices
@@ -286,7 +286,7 @@ row_lengths p is =
     let list_room = is.room.list_room in
     (length-take-le p.room.row p.room.support.items (omega arith), length-take-le p.room.row p.room.list.items (omega arith), row)
 
--- with one row more
+-- one more row
 rows_more : (told : List Told) (t : Told) (i : ℕ) (before now now' : Rows) → length told ≡ i
     → (i < length before.sizes) × (i < length before.extents) × (i < length before.losts) → now ≡ with_rows told before
     → now' ≡ record {
@@ -367,7 +367,7 @@ so_far_written old new at amounts before now notes end i plays so_far =
 
 -- ---- one call after another
 
--- drops on a pile that was played out are those on the pile before
+-- drops on a pile that was played out are drops on the pile before that play
 written_played : (old played new : KeptGame) (at amounts : List ℕ) (before after : Measures) (notes : List Noted)
     → Plays old played (Ok tt) → AreWritten played new at amounts before after notes
     → AreWritten old new at amounts before after notes
@@ -412,7 +412,7 @@ measures_played old played new at amounts before after measures can first (Err f
 
 -- ---- drops of which nothing more is asked
 
--- nothing more is asked
+-- no more is asked for
 pub record AsksNone (m : Measures) : Type 0 where
   pub durations : length m.durations ≡ 0
   pub ends : length m.ends ≡ 0

@@ -79,7 +79,7 @@ module _ (ins outs outs' : List Tally) (parent owed waiting e word : ℕ) where
     more = tt;
   }
 
--- what is counted by the sums is what may be acknowledged
+-- the count by the sums is what may be acknowledged
 pub may_by_sums : (ins outs : List Tally) (parent owed waiting e count : ℕ) (passive : Bool) (slot : Slot) (t : Tally)
     → IsFound ins e slot t → HasSums (record { books = books_of ins outs parent; owed = owed; deficit = waiting })
     → IsSound (books_of ins outs parent)
@@ -92,7 +92,7 @@ may_by_sums ins outs parent owed waiting e count passive slot t is sums sound sa
         → acknowledgeable_count e (parent_of parent) a b c passive ≡ acknowledgeable_count e (parent_of parent) a' b' c' passive
     moved x y z = rw (x, y, z) refl
 
--- no more than the sum is open on one edge
+-- at most the sum is open on one edge
 pub open_within_sum : (ins outs : List Tally) (parent owed waiting e : ℕ) (slot : Slot) (t : Tally) → IsFound ins e slot t
     → HasSums (record { books = books_of ins outs parent; owed = owed; deficit = waiting })
     → IsSound (books_of ins outs parent) → open_of t ≤ owed

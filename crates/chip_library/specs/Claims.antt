@@ -1,4 +1,4 @@
--- Counts and chips that are claimed of a game's end.
+-- Claimed counts and chips of a game's end.
 use Rattle.std.specs.Prelude.{◌≡◌, ◌⊎◌, ℕ, ◌<◌, List, length, slice_index, Result, Ok, Err}
 use Rattle.chip_graph.specs.Multigraph.{IsGraph}
 use Rattle.chip_graph.specs.ChipGame.{ChipGame, IsGame}
@@ -11,7 +11,7 @@ use Rattle.chip_library.specs.declared.fault.CallFault.TheVariants.{Lengths, Dif
 use Rattle.chip_library.specs.EdgeLists.{HasWholeRows, graph_of}
 use Rattle.chip_library.specs.CallFaults.{IsFaultOfGraph, IsFaultOfGame}
 
--- the slices have as many numbers as belong together
+-- the slices have matching lengths
 pub record IsClaim (lists : EdgeLists) (chips fired ends : List ℕ) : Type 0 where
   pub edges : HasWholeRows lists
   pub fired_each : length fired ≡ length chips
@@ -22,7 +22,7 @@ pub record AgreesAt (o : Outcome) (fired ends : List ℕ) (v : ℕ) : Type 0 whe
   pub fired_is : slice_index fired v ≡ slice_index o.fired.items v
   pub chips_is : slice_index ends v ≡ slice_index o.chips.items v
 
--- v is the least vertex of which they are not
+-- v is the least vertex where they differ
 pub record IsDifference (o : Outcome) (fired ends : List ℕ) (v : ℕ) : Type 0 where
   pub is_vertex : v < length fired
   pub differs : AgreesAt o fired ends v → ⊥
@@ -38,7 +38,7 @@ IsClaimFault lists g fired ends fault =
     ⊎ (IsClaim lists g.start fired ends × IsGame g
     × (o : Outcome) × IsPlayed g o × (v : ℕ) × (fault ≡ Differs v) × IsDifference o fired ends v)
 
--- what a call for a claim answers: the counts and the chips are those of the outcome, or the first fault
+-- what a call for a claim returns: the counts and the chips are those of the outcome, or the first fault
 abbrev pub Verifies : EdgeLists → ℕ → (chips fired ends : List ℕ) → Result (Unit {0}) CallFault → Type 0
 Verifies lists limit chips fired ends (Ok done) =
     IsClaim lists chips fired ends × IsGame (game_from (graph_of lists) chips limit)

@@ -20,7 +20,7 @@ use Rattle.chip_library.specs.declared.fault.CallFault.TheVariants.{Lengths, Ver
 use Rattle.chip_library.specs.EdgeLists.{HasWholeRows, graph_of}
 use Rattle.chip_library.specs.CallFaults.{IsFaultOfGraph, IsFaultOfGame}
 
--- a drop, which is a vertex and how many chips fall on it, and what it sets off
+-- a drop (a vertex and a number of chips) and its avalanche
 abbrev pub Told : Type 0
 Told = (ℕ × ℕ) × Avalanche
 
@@ -33,15 +33,15 @@ pub record AreOn (told : List Told) (at amounts : List ℕ) : Type 0 where
   pub vertices : map (λ (t : Told). t.0.0) told ≡ at
   pub chips : map (λ (t : Told). t.0.1) told ≡ amounts
 
--- what a call is given of a game and answers of drops: the chips of each vertex, and for each drop the size, the extent
--- and the loss of its avalanche
+-- what a call for drops gets and returns: the chips of each vertex, and for each drop the size, the area and the
+-- dissipated chips of its avalanche
 pub record Columns : Type 0 where
   pub chips : List ℕ
   pub sizes : List ℕ
   pub extents : List ℕ
   pub losts : List ℕ
 
--- the avalanches that these drops set off stand in the columns
+-- the columns hold the avalanches of these drops
 pub record AreTold (told : List Told) (sizes extents losts : List ℕ) : Type 0 where
   pub sizes_are : map (λ (t : Told). t.1.size) told ≡ sizes
   pub extents_are : map (λ (t : Told). t.1.extent) told ≡ extents
@@ -56,15 +56,15 @@ abbrev pub IsStopped : ChipGame → Type 0
 IsStopped g =
     (vs : List ℕ) × IsWholePlay g.graph (slice_index g.start) g.limit vs × (HasEnded g.graph (slice_index g.start) vs → ⊥)
 
--- the drops were made one by one on a game that had ended, each on a vertex. Each play ended within the limit: that of
+-- the drops were made in order on a game that had ended, each on a vertex. Each play ended within the limit: that of
 -- the game with all drops did, in which each vertex fires at least as often. The last one leaves y
 pub record AreMade (g : ChipGame) (told : List Told) (y : ℕ → ℕ) : Type 0 where
   pub vertices : AreOfVertices g (drops_of told)
   pub avalanches : (o : Outcome) × IsPlayed g o × AreAvalanches g.graph (slice_index o.chips.items) told y
   pub rest : (all : ChipGame) × HasMore g (drops_of told) all × IsGame all × ComesToRest all
 
--- the first fault of one more drop, of `count` chips on v: it is on no vertex, else there are too many chips, else the
--- limit stops its play
+-- the first fault of one more drop, of `count` chips on v: no such vertex, else too many chips, else the limit stops
+-- its play
 abbrev pub IsFaultOfDrop : ChipGame → List Told → (v count : ℕ) → CallFault → Type 0
 IsFaultOfDrop g told v count (Vertex drop) = (drop ≡ length told) × (g.graph.vertices ≤ v)
 IsFaultOfDrop g told v count (Total drop) =
@@ -79,12 +79,12 @@ pub record IsFaultAfter (g : ChipGame) (at amounts : List ℕ) (told : List Told
   pub drops : AreOn told (take (length told) at) (take (length told) amounts)
   pub first : IsFaultOfDrop g told (slice_index at (length told)) (slice_index amounts (length told)) fault
 
--- the drops before the n-th are each on a vertex of the game, and their chips and its own are not too many
+-- each of the first n drops is on a vertex of the game, and their chips and the game's are not too many
 pub record CanFall (g : ChipGame) (at amounts : List ℕ) (n : ℕ) : Type 0 where
   pub vertices : (i : ℕ) → i < n → slice_index at i < g.graph.vertices
   pub chips : sum g.start + sum (take n amounts) ≤ max_total
 
--- the first of these drops that cannot fall has this fault: it is on no vertex, else there are too many chips with it
+-- the first of these drops that cannot fall has this fault: no such vertex, else too many chips
 abbrev pub IsFaultOfColumns : ChipGame → (at amounts : List ℕ) → CallFault → Type 0
 IsFaultOfColumns g at amounts (Vertex i) =
     (i < length at) × CanFall g at amounts i × (g.graph.vertices ≤ slice_index at i)
@@ -92,20 +92,20 @@ IsFaultOfColumns g at amounts (Total i) = (i < length at) × CanFall g at amount
     × (slice_index at i < g.graph.vertices) × (max_total < sum g.start + sum (take i amounts) + slice_index amounts i)
 IsFaultOfColumns g at amounts fault = ⊥
 
--- the first fault of drops on a game: the limit stops its play, or else a first drop has a fault; or there is no memory
+-- the first fault of drops on a game: the limit stops its play, else that of the first faulty drop; or memory ran out
 abbrev pub IsFaultOfDrops : ChipGame → (at amounts : List ℕ) → CallFault → Type 0
 IsFaultOfDrops g at amounts fault =
     (fault ≡ NoMemory) ⊎ ((fault ≡ Stopped 0) × IsStopped g)
     ⊎ ((told : List Told) × (y : ℕ → ℕ) × AreMade g told y × IsFaultAfter g at amounts told fault)
 
--- the columns have a number for each drop
+-- the columns have one number per drop
 pub record AreRows (at amounts sizes extents losts : List ℕ) : Type 0 where
   pub amounts_each : length amounts ≡ length at
   pub sizes_each : length sizes ≡ length at
   pub extents_each : length extents ≡ length at
   pub losts_each : length losts ≡ length at
 
--- the slices have as many numbers as belong together
+-- the slices have matching lengths
 pub record AreDrops (lists : EdgeLists) (at amounts sizes extents losts : List ℕ) : Type 0 where
   pub edges : HasWholeRows lists
   pub rows : AreRows at amounts sizes extents losts
@@ -124,15 +124,15 @@ IsDropsFault lists limit at amounts columns fault =
     ⊎ (aligned × IsGraph (graph_of lists) × IsFaultOfGame g 0 fault)
     ⊎ (aligned × IsGame g × IsFaultOfDrops g at amounts fault)
 
--- what a call for drops answers: they are made, and what they set off and leave stands in the columns; or the first
--- fault, and the slices stay as they were
+-- what a call for drops returns: they are made, and the columns hold their avalanches and the chips they leave; or the
+-- first fault, and the slices are unchanged
 abbrev pub Avalanches : EdgeLists → ℕ → (at amounts : List ℕ) → (old new : Columns) → Result (Unit {0}) CallFault → Type 0
 Avalanches lists limit at amounts old new (Ok done) = AreDrops lists at amounts old.sizes old.extents old.losts
     × IsGame (game_of lists limit old) × (length new.chips ≡ length old.chips) × (told : List Told) × AreOn told at amounts
     × AreTold told new.sizes new.extents new.losts × AreMade (game_of lists limit old) told (slice_index new.chips)
 Avalanches lists limit at amounts old new (Err fault) = (new ≡ old) × IsDropsFault lists limit at amounts old fault
 
--- these drops were made on the pile p one by one, each until no vertex was legal, and left p'
+-- these drops were made in order on the pile p, each until no vertex was legal, and left p'
 pub record Leaves (p : Pile) (told : List Told) (p' : Pile) : Type 0 where
   pub pile : IsPile p'
   pub stable : IsStable p'.game.graph (slice_index p'.chips.items)
@@ -149,7 +149,7 @@ pub record BeginsPile (g : ChipGame) (p : Pile) (room : ℕ) : Type 0 where
   pub played : (o : Outcome) × IsPlayed g o × (p.chips.items ≡ o.chips.items)
   pub full : room + sum g.start ≡ max_total
 
--- why a game becomes no pile: its first fault, or the limit stops its play, or there is no memory
+-- why a game becomes no pile: its first fault, or the limit stops its play, or memory ran out
 abbrev pub IsNoPile : ChipGame → CallFault → Type 0
 IsNoPile g fault =
     IsFaultOfGame g 0 fault ⊎ (IsGame g × (fault ≡ NoMemory)) ⊎ (IsGame g × (fault ≡ Stopped 0) × IsStopped g)

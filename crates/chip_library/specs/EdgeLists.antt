@@ -4,7 +4,7 @@ use Rattle.chip_graph.specs.declared.edge.Edge.{Edge}
 use Rattle.chip_graph.specs.Multigraph.{Multigraph}
 use Rattle.chip_library.specs.declared.edges.EdgeLists.{EdgeLists}
 
--- the lists have one number each for each edge
+-- each list has one number per edge
 pub record HasWholeRows (lists : EdgeLists) : Type 0 where
   pub heads_each : length lists.heads.now ≡ length lists.tails.now
   pub mults_each : length lists.mults.now ≡ length lists.tails.now

@@ -15,7 +15,7 @@ use Rattle.chip_library.specs.declared.fault.CallFault.TheVariants.{Lengths, Tot
 use Rattle.chip_library.specs.EdgeLists.{HasWholeRows, graph_of}
 use Rattle.chip_library.specs.CallFaults.{IsFaultOfGraph}
 
--- these are numbers of so many configurations, and the columns of edges have one length
+-- these numbers are those of `rows` configurations, and the edge lists have one length
 pub record HasRows (lists : EdgeLists) (rows : ℕ) (numbers : List ℕ) : Type 0 where
   pub edges : HasWholeRows lists
   pub numbers_each : length numbers ≡ rows * lists.vertices
@@ -26,46 +26,46 @@ call_fault_of (row_fault.Total row) = Total row
 call_fault_of (row_fault.Stopped row) = Stopped row
 call_fault_of row_fault.NoMemory = NoMemory
 
--- the first fault of a call: these lengths do not hold, else that of the graph, else this one
+-- the first fault of a call: wrong lengths, else that of the graph, else this one
 abbrev pub IsFirstFault : EdgeLists → (AreLengths : Type 0) → (RowFault → Type 0) → CallFault → Type 0
 IsFirstFault lists AreLengths IsFault fault =
     ((fault ≡ Lengths) × (AreLengths → ⊥))
     ⊎ (AreLengths × IsFaultOfGraph (graph_of lists) fault)
     ⊎ (AreLengths × IsGraph (graph_of lists) × (row : RowFault) × (fault ≡ call_fault_of row) × IsFault row)
 
--- both slices have a number for each vertex
+-- both slices have one number per vertex
 abbrev pub AreBoth : EdgeLists → (script chips : List ℕ) → Type 0
 AreBoth lists script chips = HasRows lists 1 script × HasRows lists 1 chips
 
--- the least burning script and its chips are written; or the first fault is returned, and the slices stay as they were
+-- the least burning script and its chips are written; or the first fault is returned, and the slices are unchanged
 abbrev pub FindsBurning : EdgeLists → (script chips script' chips' : List ℕ) → Result (Unit {0}) CallFault → Type 0
 FindsBurning lists script chips script' chips' (Ok done) =
     AreBoth lists script chips × IsGraph (graph_of lists) × IsBurning (graph_of lists) script' chips'
 FindsBurning lists script chips script' chips' (Err fault) = ((script' ≡ script) × (chips' ≡ chips))
     × IsFirstFault lists (AreBoth lists script chips) (IsFaultOfRow (graph_of lists) (burning_start (graph_of lists)) 0) fault
 
--- of each row it is written whether it is recurrent; or the first fault is returned, and the flags stay as they were
+-- for each row it is written whether it is recurrent; or the first fault is returned, and the flags are unchanged
 abbrev pub TestsRows : EdgeLists → (chips flags flags' : List ℕ) → Result (Unit {0}) CallFault → Type 0
 TestsRows lists chips flags flags' (Ok done) =
     HasRows lists (length flags) chips × IsGraph (graph_of lists) × AreTested (graph_of lists) chips (length flags) flags'
 TestsRows lists chips flags flags' (Err fault) = (flags' ≡ flags)
     × IsFirstFault lists (HasRows lists (length flags) chips) (IsFaultOfTests (graph_of lists) chips (length flags)) fault
 
--- in place of each row its representative is written; or the first fault is returned, and the chips stay as they were
+-- each row is replaced by its representative; or the first fault is returned, and the chips are unchanged
 abbrev pub FindsForms : EdgeLists → Form → ℕ → (chips chips' : List ℕ) → Result (Unit {0}) CallFault → Type 0
 FindsForms lists form rows chips chips' (Ok done) =
     HasRows lists rows chips × IsGraph (graph_of lists) × AreRepresented (graph_of lists) form chips rows chips'
 FindsForms lists form rows chips chips' (Err fault) = (chips' ≡ chips)
     × IsFirstFault lists (HasRows lists rows chips) (IsFaultOfForms (graph_of lists) form chips rows) fault
 
--- the identity is written; or the first fault is returned, and the chips stay as they were
+-- the identity is written; or the first fault is returned, and the chips are unchanged
 abbrev pub FindsIdentity : EdgeLists → (chips chips' : List ℕ) → Result (Unit {0}) CallFault → Type 0
 FindsIdentity lists chips chips' (Ok done) =
     HasRows lists 1 chips × IsGraph (graph_of lists) × IsFoundIdentity (graph_of lists) chips'
 FindsIdentity lists chips chips' (Err fault) = (chips' ≡ chips)
     × IsFirstFault lists (HasRows lists 1 chips) (IsFaultOfIdentity (graph_of lists)) fault
 
--- recurrent configurations are written; or the first fault is returned, and the chips stay as they were
+-- recurrent configurations are written; or the first fault is returned, and the chips are unchanged
 abbrev pub DrawsRows : EdgeLists → ℕ → (chips chips' : List ℕ) → Result (Unit {0}) CallFault → Type 0
 DrawsRows lists rows chips chips' (Ok done) =
     HasRows lists rows chips × IsGraph (graph_of lists) × AreRecurrents (graph_of lists) rows chips'

@@ -1,4 +1,4 @@
--- Piles that are kept between calls, and what calls on them return.
+-- Piles kept between calls, and what calls on them return.
 use Rattle.std.specs.Prelude.{◌≡◌, ◌⊎◌, ℕ, ◌+◌, ◌-◌, ◌*◌, ◌^◌, ◌<◌, Bool, true, false, List, [], ◌∷◌, ◌++◌, length, map, take, drop, slice_index}
 use Rattle.std.specs.Prelude.{Option, Some, None, Result, Ok, Err}
 use Rattle.chip_graph.specs.Multigraph.{Multigraph, IsGraph}
@@ -22,37 +22,37 @@ use Rattle.chip_library.specs.EdgeLists.{HasWholeRows, graph_of}
 use Rattle.chip_library.specs.CallFaults.{IsFaultOfGraph, IsFaultOfGame}
 use Rattle.chip_library.specs.Drops.{Told, AreOn, AreTold, AreRows, AreMade, CanFall, IsFaultOfColumns, Leaves}
 
--- a pile that is kept, and how far its play has come
+-- a kept pile and the state of its play
 pub record KeptGame : Type 0 where
   pub pile : Pile
   pub state : PileState
 
--- the play of the pile is on the way; if it has ended, no vertex is legal, or the limit has stopped it
+-- the pile is some state of its game's play; if the play has ended, no vertex is legal, or the limit has stopped it
 pub record IsKept (p : Pile) (state : PileState) : Type 0 where
   pub begun : IsBegunPile p
   pub stable : state ≡ Stable → IsPile p × IsStable p.game.graph (slice_index p.chips.items)
   pub halted : state ≡ Halted → IsPile p × (IsStable p.game.graph (slice_index p.chips.items) → ⊥)
 
--- the game begins with this pile, and is still to be played
+-- the game begins with this pile, and is not played yet
 pub record BeginsGame (g : ChipGame) (k : KeptGame) : Type 0 where
   pub is_game : IsGame g
   pub start : IsAtStart g k.pile
   pub to_play : k.state ≡ ToPlay
 
--- what making a pile returns: the game begins; or the first fault, of the lengths, else of the graph, else of the game
+-- what making a pile returns: a pile at the game's start; or the first fault: of lengths, else graph, else game
 abbrev pub MakesPile : EdgeLists → ℕ → List ℕ → Result KeptGame CallFault → Type 0
 MakesPile lists limit chips (Ok k) = HasWholeRows lists × BeginsGame (game_from (graph_of lists) chips limit) k
 MakesPile lists limit chips (Err fault) = ((fault ≡ Lengths) × (HasWholeRows lists → ⊥))
     ⊎ (HasWholeRows lists × IsFaultOfGraph (graph_of lists) fault)
     ⊎ (HasWholeRows lists × IsGraph (graph_of lists) × IsFaultOfGame (game_from (graph_of lists) chips limit) 0 fault)
 
--- what putting other chips on a pile returns: another game on its graph begins; or its first fault, and all is as it was
+-- what putting other chips on a pile returns: another game on its graph begins; or its first fault, and nothing changes
 abbrev pub PutsChips : (old new : KeptGame) → ℕ → List ℕ → Result (Unit {0}) CallFault → Type 0
 PutsChips old new limit chips (Ok done) = BeginsGame (game_from old.pile.game.graph chips limit) new
 PutsChips old new limit chips (Err fault) =
     (new ≡ old) × IsFaultOfGame (game_from old.pile.game.graph chips limit) 0 fault
 
--- the game of a pile has been played to its end within the limit; a pile that was played before stays as it was
+-- the game of a pile has been played to its end within the limit; a pile played before is unchanged
 pub record IsPlayedOut (old new : KeptGame) : Type 0 where
   pub kept : IsKept new.pile new.state
   pub same_game : new.pile.game ≡ old.pile.game
@@ -63,8 +63,8 @@ abbrev pub Plays : (old new : KeptGame) → Result (Unit {0}) CallFault → Type
 Plays old new (Ok done) = IsPlayedOut old new × (new.state ≡ Stable)
 Plays old new (Err fault) = IsPlayedOut old new × (new.state ≡ Halted) × (fault ≡ Stopped 0)
 
--- the play of a pile has gone on by so many visits, and has still to end: no firing is taken back, and some vertex has
--- fired. No visits change nothing, and 2^64 - 1 end it
+-- the play of a pile has gone on by some visits and has not ended: no firing is taken back, and some vertex has fired.
+-- No visits change nothing, and 2^64 - 1 end it
 pub record GoesOn (old new : KeptGame) (visits : ℕ) : Type 0 where
   pub was_to_play : old.state ≡ ToPlay
   pub to_play : new.state ≡ ToPlay
@@ -75,25 +75,25 @@ pub record GoesOn (old new : KeptGame) (visits : ℕ) : Type 0 where
   pub none : visits ≡ 0 → new ≡ old
   pub not_whole : visits ≡ 2 ^ 64 - 1 → ⊥
 
--- what a play of so many visits returns: whether it has still to end; or what a whole play returns
+-- what a play of this many visits returns: whether it still has to end; or what a whole play returns
 abbrev pub PlaysSome : (old new : KeptGame) → ℕ → Result Bool CallFault → Type 0
 PlaysSome old new visits (Ok true) = GoesOn old new visits
 PlaysSome old new visits (Ok false) = Plays old new (Ok tt)
 PlaysSome old new visits (Err fault) = Plays old new (Err fault)
 
--- the limit has stopped the play before a drop, and nothing was dropped; or else it has stopped the play of the drop
+-- the limit stopped the play before a drop, and nothing was dropped; or it stopped the play of the drop
 abbrev pub StopsDrop : (old new : KeptGame) → (v count : ℕ) → Type 0
 StopsDrop old new v count = Plays old new (Err (Stopped 0))
     ⊎ ((played : KeptGame) × Plays old played (Ok tt) × (new.state ≡ Halted)
     × HasMore played.pile.game ((v, count) ∷ []) new.pile.game)
 
--- these drops were made on the pile that was played out, each until no vertex was legal, and set off these avalanches
+-- these drops were made on the pile that was played out, each until no vertex was legal, with these avalanches
 abbrev pub AreDropped : (old new : KeptGame) → List Told → Type 0
 AreDropped old new told =
     (played : KeptGame) × Plays old played (Ok tt) × (new.state ≡ Stable) × Leaves played.pile told new.pile
 
--- what one drop on a pile returns: its avalanche on the pile that was played out, after which no vertex is legal; or its
--- first fault. All is as it was unless the limit stops a play
+-- what one drop on a pile returns: its avalanche on the pile that was played out, after which no vertex is legal; or
+-- its first fault. Nothing changes unless the limit stops a play
 abbrev pub Drops : (old new : KeptGame) → (v count : ℕ) → Result Avalanche CallFault → Type 0
 Drops old new v count (Ok a) = AreDropped old new (((v, count), a) ∷ [])
 Drops old new v count (Err (Stopped drop)) = (drop ≡ 0) × (v < old.pile.game.graph.vertices) × StopsDrop old new v count
@@ -104,17 +104,17 @@ abbrev pub DropsOnStable : (old new : KeptGame) → (v count : ℕ) → Option A
 DropsOnStable old new v count (Some a) = (new.state ≡ Stable) × Leaves old.pile (((v, count), a) ∷ []) new.pile
 DropsOnStable old new v count None = (new.state ≡ Halted) × HasMore old.pile.game ((v, count) ∷ []) new.pile.game
 
--- what is written of drops: of the avalanche of each the size, the extent and the loss
+-- what is written of drops: the size, the area and the dissipated chips of each avalanche
 pub record Rows : Type 0 where
   pub sizes : List ℕ
   pub extents : List ℕ
   pub losts : List ℕ
 
--- the first numbers of a column are those of these drops, and the others are as they were
+-- the first numbers of a column are those of these drops, and the others are unchanged
 abbrev pub with_first : (Told → ℕ) → List Told → List ℕ → List ℕ
 with_first number told column = map number told ++ drop (length told) column
 
--- the first rows are those of these drops, and the others are as they were
+-- the first rows are those of these drops, and the others are unchanged
 abbrev pub with_rows : List Told → Rows → Rows
 with_rows told rows = record {
   sizes = with_first (λ t. t.1.size) told rows.sizes;
@@ -122,20 +122,20 @@ with_rows told rows = record {
   losts = with_first (λ t. t.1.lost) told rows.losts;
 }
 
--- the limit has stopped the play of drop i on a pile, and those before it were made: their rows are written
+-- the limit stopped the play of drop i on a pile; the drops before it were made, and their rows are written
 abbrev pub StopsAt : (old new : KeptGame) → (at amounts : List ℕ) → (before after : Rows) → ℕ → Type 0
 StopsAt old new at amounts before after i =
     (told : List Told) × (k : KeptGame) × AreDropped old k told × (length told ≡ i) × (i < length at)
     × AreOn told (take i at) (take i amounts) × (after ≡ with_rows told before)
     × DropsOnStable k new (slice_index at i) (slice_index amounts i) None
 
--- the limit has stopped the play before the drops, and nothing was dropped; or that of one of them
+-- the limit stopped the play before the drops, and nothing was dropped; or it stopped the play of one of them
 abbrev pub StopsDrops : (old new : KeptGame) → (at amounts : List ℕ) → (before after : Rows) → ℕ → Type 0
 StopsDrops old new at amounts before after i =
     ((i ≡ 0) × (after ≡ before) × Plays old new (Err (Stopped 0))) ⊎ StopsAt old new at amounts before after i
 
--- what many drops on a pile return: their avalanches are those of one drop after another, and stand in the rows; or the
--- first fault: of the lengths, else of the first drop that cannot fall, and then all is as it was; else the limit stops
+-- what many drops on a pile return: they are made in order, and the rows hold their avalanches; or the first fault: of
+-- the lengths, else of the first drop that cannot fall, and nothing changes; else the limit stops a play
 abbrev pub DropsEach : (old new : KeptGame) → (at amounts : List ℕ) → (before after : Rows)
     → Result (Unit {0}) CallFault → Type 0
 DropsEach old new at amounts before after (Ok done) = AreRows at amounts before.sizes before.extents before.losts
@@ -149,22 +149,22 @@ DropsEach old new at amounts before after (Err (Stopped i)) =
 DropsEach old new at amounts before after (Err fault) = (new ≡ old) × (after ≡ before)
     × AreRows at amounts before.sizes before.extents before.losts × IsFaultOfColumns old.pile.game at amounts fault
 
--- how many bytes the arrays of a pile on a graph take
+-- the number of bytes in the arrays of a pile on a graph
 abbrev pub bytes_on : Multigraph → ℕ
 bytes_on G = 76 * G.vertices + 48 * length G.edges
 
--- where the play of a pile has ended, it is the outcome of its game
+-- where the play of a pile has ended, the pile is the outcome of its game
 abbrev pub PilesAreOutcomes : Type 0
 PilesAreOutcomes =
     (p : Pile) → IsPile p → (o : Outcome) × IsPlayed p.game o × (p.chips.items ≡ o.chips.items) × (p.fired.items ≡ o.fired.items)
 
--- drops of one call after another on a pile are made on the game that was put there, as those of one call
+-- drops made by successive calls on a pile are made on the game put there, as by one call
 abbrev pub DropsFollow : Type 0
 DropsFollow =
     (g : ChipGame) (k played : KeptGame) → BeginsGame g k → Plays k played (Ok tt)
     → (told : List Told) (p : Pile) → Leaves played.pile told p → AreMade g told (slice_index p.chips.items)
 
--- drops on the pile that drops have left are more of them: those of call after call are those of one call
+-- drops on the pile that earlier drops left continue these: successive calls make the drops of one call
 abbrev pub MoreDrops : Type 0
 MoreDrops =
     (p : Pile) (told : List Told) (p' : Pile) → Leaves p told p' → (more : List Told) (p'' : Pile) → Leaves p' more p''

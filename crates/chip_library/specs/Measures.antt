@@ -1,4 +1,4 @@
--- What is measured of drops on a pile that is kept, and what is written of it.
+-- What is measured of drops on a kept pile, and what is written of it.
 use Rattle.std.specs.Prelude.{◌≡◌, ◌⊎◌, ℕ, ◌+◌, ◌<◌, Bool, true, not, ◌==◌, List, [], ◌∷◌, ◌++◌, length, map, take, drop, slice_index}
 use Rattle.std.specs.Prelude.{Option, Some, None, Result, Ok, Err}
 use Rattle.std.specs.List.{flat_map}
@@ -13,34 +13,34 @@ use Rattle.chip_library.specs.declared.kept.PileState.TheVariants.{Stable}
 use Rattle.chip_library.specs.Drops.{Told, AreOn, AreRows, CanFall, IsFaultOfColumns, Leaves}
 use Rattle.chip_library.specs.KeptGames.{KeptGame, Plays, DropsOnStable, Rows, with_rows}
 
--- a drop with what it sets off, the vertices that fire and how often each, and for how many rounds
+-- a drop with its avalanche, the vertices that fire and how often each, and the number of rounds
 pub record Noted : Type 0 where
   pub told : Told
   pub vertices : List ℕ
   pub times : List ℕ
   pub rounds : ℕ
 
--- the drops with what they set off
+-- the drops with their avalanches
 abbrev pub told_of : List Noted → List Told
 told_of notes = map (λ (n : Noted). n.told) notes
 
--- the drop on x sets off this avalanche, which leaves y, and has this row and, if it is timed, this duration
+-- the drop on x has this avalanche, which leaves y, and this row and, if it is timed, this duration
 pub record IsNoted (G : Multigraph) (timed : Bool) (x : ℕ → ℕ) (n : Noted) (y : ℕ → ℕ) : Type 0 where
   pub avalanche : IsAvalanche G (dropped x n.told.0.0 n.told.0.1) n.told.1 y
   pub row : HasRow G (dropped x n.told.0.0 n.told.0.1) n.vertices n.times
   pub duration : timed ≡ true → IsDuration G (dropped x n.told.0.0 n.told.0.1) n.rounds
 
--- the first of these drops falls on x, each other one on what the one before it left; and the last leaves y
+-- the first of these drops falls on x, each other one on what the one before it left, and the last leaves y
 abbrev pub AreNoted : Multigraph → Bool → (ℕ → ℕ) → List Noted → (ℕ → ℕ) → Type 0
 AreNoted G timed x [] y = (v : ℕ) → y v ≡ x v
 AreNoted G timed x (n ∷ more) y = (z : ℕ → ℕ) × IsNoted G timed x n z × AreNoted G timed z more y
 
--- these drops were made on the pile p one by one, each until no vertex was legal, and left p'
+-- these drops were made in order on the pile p, each until no vertex was legal, and left p'
 pub record LeavesNoted (p : Pile) (timed : Bool) (notes : List Noted) (p' : Pile) : Type 0 where
   pub leaves : Leaves p (told_of notes) p'
   pub noted : AreNoted p.game.graph timed (slice_index p.chips.items) notes (slice_index p'.chips.items)
 
--- the last drop on the pile p, of `count` chips on v, as it was measured
+-- the last drop on the pile p, of `count` chips on v, as measured
 abbrev pub noted_on : Pile → (v count : ℕ) → Measured → Noted
 noted_on p v count m = record {
   told = ((v, count), m.avalanche);
@@ -60,8 +60,8 @@ abbrev pub AreMeasured : (old new : KeptGame) → Bool → List Noted → Type 0
 AreMeasured old new timed notes =
     (played : KeptGame) × Plays old played (Ok tt) × (new.state ≡ Stable) × LeavesNoted played.pile timed notes new.pile
 
--- what is written of drops: beside the rows their durations, and, one after another, the vertices that fired and how
--- often each did, with the end of each drop among them
+-- what is written of drops: besides the rows their durations, and, drop after drop, the vertices that fired, how often
+-- each did, and where those of the drop end
 pub record Measures : Type 0 where
   pub rows : Rows
   pub durations : List ℕ
@@ -73,14 +73,14 @@ pub record Measures : Type 0 where
 abbrev pub is_timed : Measures → Bool
 is_timed m = not (length m.durations == 0)
 
--- the columns have a number for each drop; of durations there may be none, and of what fired there may be nothing
+-- the columns have one number per drop; there may be no durations, and nothing of what fired
 pub record AreMeasures (at amounts : List ℕ) (m : Measures) : Type 0 where
   pub rows : AreRows at amounts m.rows.sizes m.rows.extents m.rows.losts
   pub durations_each : (length m.durations ≡ 0) ⊎ (length m.durations ≡ length at)
   pub ends_each : (length m.ends ≡ length at) ⊎ ((length m.ends ≡ 0) × (length m.vertices ≡ 0))
   pub times_each : length m.times ≡ length m.vertices
 
--- the vertices that fired, those of one drop after those of another
+-- the vertices that fired, drop after drop
 abbrev pub fired_in : List Noted → List ℕ
 fired_in notes = flat_map (λ (n : Noted). n.vertices) notes
 
@@ -93,12 +93,12 @@ abbrev pub ends_from : ℕ → List Noted → List ℕ
 ends_from start [] = []
 ends_from start (n ∷ more) = (start + length n.vertices) ∷ ends_from (start + length n.vertices) more
 
--- the first numbers of a column are these, and the others are as they were; a column of none stays so
+-- the first numbers of a column are these, and the others are unchanged; an empty column stays empty
 abbrev pub at_front : List ℕ → List ℕ → List ℕ
 at_front numbers [] = []
 at_front numbers (x ∷ xs) = numbers ++ drop (length numbers) (x ∷ xs)
 
--- what is asked for of these drops is written, and the rest is as it was
+-- what is asked for of these drops is written, and the rest is unchanged
 abbrev pub with_notes : List Noted → Measures → Measures
 with_notes notes m = record {
   rows = with_rows (told_of notes) m.rows;
@@ -108,7 +108,7 @@ with_notes notes m = record {
   times = at_front (times_in notes) m.times;
 }
 
--- it is asked what fires, and behind these drops there is no room for all vertices of G once more
+-- what fires is asked for, and after these drops there is no room for all vertices of G once more
 abbrev pub IsFull : Multigraph → Measures → List Noted → Type 0
 IsFull G m notes = (0 < length m.ends) × (length m.vertices < length (fired_in notes) + G.vertices)
 
@@ -119,29 +119,29 @@ pub record AreWritten (old new : KeptGame) (at amounts : List ℕ) (before after
   pub written : after ≡ with_notes notes before
   pub room : (i : ℕ) → i < length notes → IsFull old.pile.game.graph before (take i notes) → ⊥
 
--- so many drops were made: all, or there is no room before the next one
+-- this number of drops was made: all, or there is no room before the next one
 abbrev pub MakesSome : (old new : KeptGame) → (at amounts : List ℕ) → (before after : Measures) → ℕ → Type 0
 MakesSome old new at amounts before after made =
     (notes : List Noted) × AreWritten old new at amounts before after notes × (length notes ≡ made)
     × ((made ≡ length at) ⊎ ((made < length at) × IsFull old.pile.game.graph before notes))
 
--- the limit has stopped the play of drop i, for which there was room, and those before it were made
+-- the limit stopped the play of drop i, for which there was room; the drops before it were made
 abbrev pub StopsMeasure : (old new : KeptGame) → (at amounts : List ℕ) → (before after : Measures) → ℕ → Type 0
 StopsMeasure old new at amounts before after i =
     (notes : List Noted) × (k : KeptGame) × AreWritten old k at amounts before after notes × (length notes ≡ i)
     × (i < length at) × (IsFull old.pile.game.graph before notes → ⊥)
     × DropsOnStable k new (slice_index at i) (slice_index amounts i) None
 
--- what drops that can fall return on a stable pile: how many were made; or the limit stops one
+-- what drops that can fall return on a stable pile: the number made; or the limit stops one
 abbrev pub MeasuresSome : (old new : KeptGame) → (at amounts : List ℕ) → (before after : Measures) → Result ℕ CallFault
     → Type 0
 MeasuresSome old new at amounts before after (Ok made) = MakesSome old new at amounts before after made
 MeasuresSome old new at amounts before after (Err fault) =
     (i : ℕ) × (fault ≡ Stopped i) × StopsMeasure old new at amounts before after i
 
--- what measuring many drops on a pile returns: how many were made, all or up to one without room; or the first fault: of
--- the lengths, else of the first drop that cannot fall, and then all is as it was; else the limit stops the play before
--- the drops, and nothing was dropped, or that of one of them
+-- what measuring many drops on a pile returns: the number made, all or up to one without room; or the first fault: of
+-- the lengths, else of the first drop that cannot fall, and nothing changes; else the limit stops the play before the
+-- drops, and nothing is dropped, or the play of one of them
 abbrev pub MeasuresEach : (old new : KeptGame) → (at amounts : List ℕ) → (before after : Measures) → Result ℕ CallFault
     → Type 0
 MeasuresEach old new at amounts before after (Ok made) =

@@ -11,16 +11,16 @@ use Rattle.chip_library.specs.declared.detector.BooksFault.TheVariants.{NotYet}
 use Rattle.chip_library.specs.PartBooks.{books_fault_number, neutral, parent_of, books_of, IsRefusal}
 use Rattle.chip_library.specs.Sums.{HasSums, count_in}
 
--- 1 chip on vertex 0 lets two vertices fire, and then 4 chips there let these fire 4 times
+-- 1 chip on vertex 0 makes two vertices fire, and then 4 chips there make these fire 4 times
 abbrev pub two_drops : List Told
 two_drops = ((0, 1), record { size = 2; extent = 2; lost = 2 }) ∷ ((0, 4), record { size = 4; extent = 2; lost = 4 }) ∷ []
 
--- the books of a part that got two messages on edge 0, which engaged it, and acknowledged one of them, by its parent word
+-- the books of a process that got two messages on edge 0, which engaged it, and acknowledged one, by its parent word
 abbrev pub books : ℕ → Books
 books parent = books_of (record { edge = 0; messages = 2; answered = 1 } ∷ []) [] parent
 
--- the edges of the triangle stand in three lists; of two games on it the second begins with the later three numbers; the
--- two drops stand in five columns; and a part acknowledges the message that engaged it only when it is passive
+-- three lists hold the edges of the triangle; the second of two games on it begins with the last three numbers; five
+-- columns hold the two drops; and a process acknowledges the message that engaged it only when it is passive
 pub record WorkedCalls : Type 0 where
   pub edges : edges_below (0 ∷ 0 ∷ 1 ∷ 1 ∷ []) (1 ∷ 2 ∷ 0 ∷ 2 ∷ []) (1 ∷ 1 ∷ 1 ∷ 1 ∷ []) 4 ≡ triangle.edges
   pub first_row : row 3 (4 ∷ 0 ∷ 0 ∷ 3 ∷ 0 ∷ 1 ∷ []) 0 ≡ 4 ∷ 0 ∷ 0 ∷ []

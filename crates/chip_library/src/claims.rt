@@ -1,4 +1,4 @@
-//! Whether counts and chips are those of a game's outcome.
+//! Claims of a game's outcome: its counts and chips.
 
 ghost use Rattle.std.specs.Prelude.{◌≡◌, ℕ, ◌<◌, length, MatchOption};
 ghost use Rattle.chip_library.specs.Claims.{AgreesAt, IsDifference, Verifies};
@@ -10,11 +10,10 @@ use chip_fire::{Unwatched, Watch, plain_given};
 use chip_sequence::Outcome;
 use std::alloc::Global;
 
-/// Tells whether `fired` and `ends` are the counts and the chips with which a game ends within the firing limit, which is
-/// 2^40 at most. Each slice has a number for each vertex, and `chips` has those at the start.
+/// Verifies that a game ends, within the firing limit (at most 2^40), with the counts `fired` and the chips `ends`.
+/// Each slice has one number per vertex; `chips` holds the chips at the start.
 ///
-/// If they are not, the fault names the least vertex that differs. The other faults are of the lengths, of the graph and
-/// of the game, and come before.
+/// Otherwise the fault names the least vertex that differs. Faults of the lengths, the graph and the game come first.
 pub fn verify(
     alloc: Global,
     edges: EdgeLists<'_>,
@@ -28,7 +27,7 @@ pub fn verify(
     verify_watched(alloc, edges, limit, chips, fired, ends, &mut Unwatched)
 }
 
-/// Says what `verify` says, and reports to `watch` how its play goes on. The result is the same, whoever watches.
+/// Does the same as `verify` and reports the progress of its play to `watch`. The result does not depend on `watch`.
 pub fn verify_watched<W: Watch>(
     alloc: Global,
     edges: EdgeLists<'_>,
@@ -52,7 +51,7 @@ pub fn verify_watched<W: Watch>(
     }
 }
 
-/// The least vertex of which these counts and chips and an outcome do not tell the same.
+/// The least vertex at which the claimed counts or chips differ from the outcome's.
 fn first_difference(outcome: &Outcome, fired: &[u64], ends: &[u64]) -> Option<u64>
     requires fired_each { length outcome.now.fired.items ≡ length fired.now }
     requires chips_each { length outcome.now.chips.items ≡ length fired.now }

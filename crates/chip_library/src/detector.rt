@@ -1,10 +1,9 @@
-//! The books of one part of a diffusing computation, in memory of the caller (`docs/DETECTOR.md`).
+//! The books of one process of a diffusing computation, in the caller's memory (`docs/DETECTOR.md`).
 //!
-//! A part has a tally of each edge into it and of each edge out of it, by ascending edges, and the number of its parent
-//! edge, or `NEUTRAL`. At first all counts are 0, and the part is neutral. A call does on them what that of
-//! `chip_detect::Detect` does, and nothing if it refuses. On books that are not sound it is safe, it changes nothing if it
-//! refuses, and it refuses if it adds up tallies of which one is impossible: with more answered than there was, or more
-//! than there may be.
+//! A process has a tally of each edge into it and of each edge out of it, in ascending order of edges, and its parent
+//! edge or `NEUTRAL`. At first all counts are 0, and the process is neutral. A call has the same effect on them as in
+//! `chip_detect::Detect`, or refuses and changes nothing. On books that are not sound every call is safe, and one that
+//! adds up tallies refuses if any is impossible: more answered than messages, or a count above the limit.
 
 ghost use Rattle.std.specs.Prelude.{◌≡◌, ℕ, ◌≤◌, ◌↔◌, true, List, IsTrue, MatchOption, MatchResult};
 ghost use Rattle.std.specs.List.Sorted.{IsStrictlyIncreasing};
@@ -23,13 +22,13 @@ use chip_detect::{
     slot_of,
 };
 
-/// The parent of a neutral part. No edge has this number.
+/// The parent of a neutral process. No edge has this number.
 pub const NEUTRAL: u64 = u64::MAX;
 
 /// Why a call is refused.
 #[derive(Clone, Copy, Debug, PartialEq, Eq)]
 pub enum BooksFault {
-    /// There is no such edge, a count is too high, or the books are not sound, if that is seen.
+    /// There is no such edge, a count is too high, or the books are found not to be sound.
     NotSound,
     /// Not all of these messages may be acknowledged yet.
     NotYet,
@@ -50,7 +49,7 @@ impl BooksFault {
     }
 }
 
-/// Notes a message that was sent on the edge.
+/// Notes a message sent on the edge.
 pub fn sent(outs: &mut [Tally], edge: u64) -> Result<(), BooksFault>
     ensures { (ins : List Tally) → (parent : ℕ)
         → Notes (books_of ins outs.old parent) (books_of ins outs.new parent) true (Sent edge) result }
@@ -65,7 +64,7 @@ pub fn sent(outs: &mut [Tally], edge: u64) -> Result<(), BooksFault>
     Ok(())
 }
 
-/// Notes a message that came on the edge. A neutral part is engaged by it.
+/// Notes a message received on the edge. It engages a neutral process.
 pub fn got(ins: &mut [Tally], parent: &mut u64, edge: u64) -> Result<(), BooksFault>
     ensures { (outs : List Tally)
         → Notes (books_of ins.old outs parent.old) (books_of ins.new outs parent.new) true (Got edge) result }
@@ -83,7 +82,7 @@ pub fn got(ins: &mut [Tally], parent: &mut u64, edge: u64) -> Result<(), BooksFa
     Ok(())
 }
 
-/// How many messages of the edge may be acknowledged now; `passive` says whether the part is.
+/// The number of messages of the edge that may be acknowledged now. `passive` says whether the process is passive.
 pub fn may_ack(
     ins: &[Tally],
     outs: &[Tally],
@@ -114,8 +113,8 @@ pub fn may_ack(
     Ok(may_ack_on_parent(owed, all_owed, deficit, passive))
 }
 
-/// Notes that `count` messages of the edge are acknowledged, which the tail must not see before. It is too early if
-/// `may_ack` answers fewer.
+/// Notes that `count` messages of the edge are acknowledged; the tail must not see this earlier. Refuses with `NotYet`
+/// if `count` are owed but fewer may be acknowledged now (`may_ack`).
 pub fn acked(
     ins: &mut [Tally],
     outs: &[Tally],
@@ -147,15 +146,15 @@ pub fn acked(
     Ok(())
 }
 
-/// Notes that the edge's head acknowledged `word` messages so far, now or some time ago, and answers how many of these
-/// are new.
+/// Notes that the edge's head has acknowledged `word` messages in all, by its latest report or an earlier one. Returns
+/// how many of these are new.
 pub fn settled(outs: &mut [Tally], edge: u64, word: u64) -> Result<u64, BooksFault>
     ensures { Settling outs.old outs.new edge word result }
 {
     settled_within(outs, MESSAGE_LIMIT, edge, word)
 }
 
-/// Notes the same, if no more than `most` are new.
+/// Does the same, but refuses if more than `most` are new.
 pub(crate) fn settled_within(
     outs: &mut [Tally],
     most: u64,
@@ -179,7 +178,7 @@ pub(crate) fn settled_within(
     Ok(more)
 }
 
-/// How many acknowledgements the part waits for.
+/// The number of acknowledgements the process waits for.
 pub fn deficit(outs: &[Tally]) -> Result<u64, BooksFault>
     ensures told { (ins : List Tally) → (parent : ℕ) → let books = books_of ins outs.now parent in
         Tells books (Unit {0}) (λ count. count ≡ deficit books) result }
@@ -191,7 +190,7 @@ pub fn deficit(outs: &[Tally]) -> Result<u64, BooksFault>
     }
 }
 
-/// Whether the root may say that the computation is over; `ended` says whether it will send no more.
+/// Whether the root may report that the computation is over. `ended` says whether it will send no more.
 pub fn is_over(outs: &[Tally], ended: bool) -> Result<bool, BooksFault>
     ensures told { (ins : List Tally) → (parent : ℕ) → let books = books_of ins outs.now parent in
         Tells books (Unit {0}) (λ over. (IsTrue over ↔ IsTrue ended × (deficit books ≡ 0)) × (IsTrue over → IsOver books ended))
@@ -204,7 +203,7 @@ pub fn is_over(outs: &[Tally], ended: bool) -> Result<bool, BooksFault>
     }
 }
 
-/// Whether the books are sound, and no edge has the number `NEUTRAL`.
+/// Checks that the books are sound and that no edge has the number `NEUTRAL`.
 pub fn check(ins: &[Tally], outs: &[Tally], parent: u64) -> Result<(), BooksFault>
     ensures { MatchResult result (λ _. AreBooks ins.now outs.now parent)
         (λ fault. (fault ≡ NotSound) × (AreBooks ins.now outs.now parent → ⊥)) }
@@ -227,7 +226,7 @@ pub fn check(ins: &[Tally], outs: &[Tally], parent: u64) -> Result<(), BooksFaul
     Ok(())
 }
 
-/// The slot of an edge and its tally, if it is possible.
+/// The slot of an edge and its tally, if the tally is possible.
 pub(crate) fn found(tallies: &[Tally], edge: u64) -> Option<(Slot, Tally)>
     ensures { MatchOption result (AreTallies tallies.now → HasEdge (edges_of tallies.now) edge → ⊥)
         (λ r. IsFound tallies.now edge r.0 r.1) }
@@ -246,14 +245,14 @@ pub(crate) fn found(tallies: &[Tally], edge: u64) -> Option<(Slot, Tally)>
     }
 }
 
-/// Whether no more is answered than there was, within the limit.
+/// Whether at most as many are answered as there are messages, within the limit.
 fn is_possible(tally: Tally) -> bool
     ensures { IsTrue result ↔ IsPossible tally }
 {
     tally.answered <= tally.messages && tally.messages <= MESSAGE_LIMIT
 }
 
-/// How many messages are open on all edges together, if all tallies are possible.
+/// The number of open messages on all edges, if all tallies are possible.
 pub(crate) fn all_open(tallies: &[Tally]) -> Option<u64>
     ensures { MatchOption result (ArePossible tallies.now → ⊥)
         (λ total. ArePossible tallies.now × (AreTallies tallies.now → total ≡ all_open tallies.now)) }
@@ -295,7 +294,7 @@ fn ascend(tallies: &[Tally]) -> bool
     tallies.is_sorted_by(|one, next| one.edge < next.edge)
 }
 
-/// Whether something is owed on the parent edge, or nothing at all if there is none.
+/// Whether something is owed on the parent edge; without a parent edge, whether nothing is owed.
 fn suits(ins: &[Tally], parent: u64) -> bool
     requires { AreTallies ins.now }
     ensures { IsTrue result ↔ Suits ins.now (parent_of parent) }

@@ -19,16 +19,16 @@ use chip_graph::Graph;
 use chip_graph::game::MAX_TOTAL;
 use std::alloc::{AllocError, Global};
 
-/// Plays a game to its end within the firing limit, which is 2^40 at most, and then drops chips on it, each time on one
-/// vertex, and plays on to the end each time.
+/// Plays a game to its end within the firing limit (at most 2^40), then drops chips on one vertex after another and
+/// plays to the end after each drop.
 ///
-/// `chips` has a number for each vertex. The other slices have one for each drop: its vertex, how many chips fall there,
-/// and the size, the extent and the loss of the avalanche (`chip_fire::Avalanche`). The chips of the game and of all
-/// drops are 2^40 at most.
+/// `chips` has one number per vertex. The other slices have one per drop: its vertex, its number of chips, and the
+/// size, the area and the dissipated chips of its avalanche (`chip_fire::Avalanche`). The game and all drops together
+/// have at most 2^40 chips.
 ///
-/// Then `chips` are those at the end, and the other slices have the avalanches. On a fault all four stay as they were.
-/// The first fault is answered: of the lengths, of the graph, of the game, or else of the first drop that cannot be
-/// made to its end.
+/// On success `chips` holds the chips at the end, and the last three slices describe the avalanches. On a fault all
+/// four are unchanged. Returns the first fault: of the lengths, the graph, the game, or the first drop that cannot be
+/// completed.
 pub fn avalanches(
     alloc: Global,
     edges: EdgeLists<'_>,
@@ -58,7 +58,7 @@ pub fn avalanches(
     Ok(())
 }
 
-/// Whether slices have as many numbers as belong together.
+/// Whether the slices have matching lengths.
 fn are_drops(
     edges: EdgeLists<'_>,
     at: &[u64],
@@ -72,7 +72,7 @@ fn are_drops(
     edges.has_whole_rows() && are_rows(at, amounts, sizes, extents, losts)
 }
 
-/// Whether columns have a number for each drop.
+/// Whether the columns have one number per drop.
 pub(crate) fn are_rows(
     at: &[u64],
     amounts: &[u64],
@@ -88,7 +88,7 @@ pub(crate) fn are_rows(
         && losts.len() == at.len()
 }
 
-/// The pile that a game has become at its end, and how many chips more it may get.
+/// The pile at the end of a game, and how many more chips it may get.
 fn pile_of(alloc: Global, graph: Graph, limit: u64, chips: &[u64]) -> Result<(Pile, u64), CallFault>
     requires { IsGraph graph }
     ensures { MatchResult result (λ r. BeginsPile (game_from graph chips.now limit) r.0 r.1)
@@ -103,7 +103,7 @@ fn pile_of(alloc: Global, graph: Graph, limit: u64, chips: &[u64]) -> Result<(Pi
     Ok((Pile::new(alloc, game, outcome)?, room))
 }
 
-/// What drops set off, in their order.
+/// The avalanches of drops, in order.
 #[derive(Drop)]
 struct Columns {
     sizes: Vec<u64>,
@@ -112,7 +112,7 @@ struct Columns {
 }
 
 impl Columns {
-    /// None yet, with room for `drops` drops.
+    /// Empty columns, with room for `drops` drops.
     fn with_room(alloc: Global, drops: usize) -> Result<Columns, AllocError>
         ensures { IfOk result (λ told. AreTold [] told.sizes.items told.extents.items told.losts.items) }
     {
@@ -123,7 +123,7 @@ impl Columns {
         })
     }
 
-    /// One more.
+    /// Appends an avalanche.
     fn push(&mut self, avalanche: Avalanche) -> Result<(), AllocError>
         ensures sizes { OnOk result (self.new.sizes.items ≡ self.old.sizes.items ++ avalanche.size ∷ []) }
         ensures extents { OnOk result (self.new.extents.items ≡ self.old.extents.items ++ avalanche.extent ∷ []) }
@@ -136,8 +136,8 @@ impl Columns {
     }
 }
 
-/// Drops chips on a pile of `vertices` vertices, which may get `room` more chips, one drop after another: the pile that
-/// they leave, and what they set off.
+/// Drops chips, in order, on a pile of `vertices` vertices that may get `room` more chips. Returns the pile at the end
+/// and the avalanches.
 fn drop_each(
     alloc: Global,
     mut pile: Pile,

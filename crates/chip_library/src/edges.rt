@@ -4,8 +4,8 @@ use crate::fault::CallFault;
 use chip_graph::{Edge, Graph, GraphFault, Limits, MAX_EDGES, MAX_VERTICES};
 use std::alloc::{AllocError, Global};
 
-/// A graph's numbers of vertices and sink, and for each edge its tail, its head and how many chips a firing of the tail
-/// sends along it: the lists of a sparse matrix.
+/// A graph's number of vertices, its sink, and for each edge its tail, its head and the number of chips that one firing
+/// of the tail sends along it: a sparse matrix in coordinates.
 #[derive(Clone, Copy)]
 pub struct EdgeLists<'a> {
     pub vertices: u64,
@@ -23,14 +23,14 @@ impl EdgeLists<'_> {
     ghost use Rattle.chip_graph.specs.Limits.{large};
     ghost use Rattle.chip_graph.specs.Faults.{refusal, fault_of_sizes};
 
-    /// Whether the lists have one number each for each edge.
+    /// Whether each list has one number per edge.
     pub(crate) fn has_whole_rows(&self) -> bool
         ensures { IsTrue result ↔ HasWholeRows self.now }
     {
         self.heads.len() == self.tails.len() && self.mults.len() == self.tails.len()
     }
 
-    /// The graph, or the first reason why it is none. No edge is copied if there are too many.
+    /// The graph, or its first fault. Copies no edge if there are too many.
     #[tactic(auto, using(crate::proofs::EdgesLemmas::sizes_pass, crate::proofs::EdgesLemmas::sizes_refuse))]
     pub(crate) fn graph(&self, alloc: Global) -> Result<Graph, CallFault>
         requires { HasWholeRows self.now }

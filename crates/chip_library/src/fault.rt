@@ -4,20 +4,19 @@ use std::alloc::{AllocError, AllocFailed};
 /// Why a call is refused.
 #[derive(Clone, Copy, Debug, PartialEq, Eq)]
 pub enum CallFault {
-    /// Slices that belong together do not have as many numbers as they must.
+    /// A slice does not have the required length.
     Lengths,
-    /// The edges are those of no graph.
+    /// The edges make no graph.
     Graph(GraphFault),
-    /// The chips and the limit of this game are those of none.
+    /// The chips and the limit make no game; the game's number.
     Game(GameFault, u64),
-    /// This drop is on no vertex.
+    /// The drop with this number is on no vertex.
     Vertex(u64),
-    /// With this drop, or in a stabilization of this row, there are too many chips.
+    /// There are too many chips with this drop, or in a stabilization of this row.
     Total(u64),
-    /// The limit has stopped the play of this drop, or a stabilization of this row. At 0 it may be that of the game before
-    /// all drops.
+    /// The limit stopped the play of this drop, or a stabilization of this row. 0 is also the game before all drops.
     Stopped(u64),
-    /// This vertex is the least of which another outcome is claimed.
+    /// The least vertex at which the claim and the outcome differ.
     Differs(u64),
     /// There is no pile.
     NoPile,
@@ -46,7 +45,7 @@ impl CallFault {
         }
     }
 
-    /// The edge, vertex, game or drop that it names, or 0.
+    /// The edge, vertex, game, drop or row of the fault, or 0.
     pub fn place(&self) -> u64
         ensures { result ≡ place_of self.now }
     {

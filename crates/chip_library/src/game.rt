@@ -8,8 +8,7 @@ use crate::fault::CallFault;
 use chip_graph::{Game, Graph};
 use std::alloc::Global;
 
-/// The game on this graph that begins with these chips, or the first reason why it is none, as a fault of the game with
-/// this number.
+/// The game on this graph that begins with these chips, or its first fault, under this number.
 pub(crate) fn game_of(
     alloc: Global,
     graph: Graph,

@@ -8,9 +8,9 @@ use crate::fault::CallFault;
 use chip_recurrent::{Form, RowFault};
 use std::alloc::Global;
 
-/// Writes how often each vertex fires by the least burning script, and how many chips that takes from each on balance.
+/// Writes the least burning script and its chips: how many each vertex loses on balance when all fire by the script.
 ///
-/// Both slices have a number for each vertex, and 0 is written at the sink. On a fault they stay as they were.
+/// Both slices have one number per vertex; 0 is written at the sink. On a fault both are unchanged.
 pub fn burning(
     alloc: Global,
     edges: EdgeLists<'_>,
@@ -29,10 +29,10 @@ pub fn burning(
     Ok(())
 }
 
-/// Tells which configurations are recurrent: a flag of each is 1 if it is, else 0.
+/// Writes a flag for each configuration: 1 if it is recurrent, else 0.
 ///
-/// `flags` has a number for each configuration, `chips` one for each vertex of each, those of one after those of the one
-/// before it. Numbers at the sink do not count. On a fault `flags` stays as it was.
+/// `flags` has one number per configuration, `chips` one per vertex of each, configuration after configuration. Numbers
+/// at the sink do not count. On a fault `flags` is unchanged.
 pub fn are_recurrent(
     alloc: Global,
     edges: EdgeLists<'_>,
@@ -50,10 +50,10 @@ pub fn are_recurrent(
     Ok(())
 }
 
-/// Puts in place of each of so many configurations its representative of this form, with 0 at the sink.
+/// Replaces each of `rows` configurations by its representative of this form, with 0 at the sink.
 ///
-/// `chips` has a number for each vertex of each, those of one after those of the one before it. They may be far above what
-/// is stable. Numbers at the sink do not count. On a fault they stay as they were.
+/// `chips` has one number per vertex of each, configuration after configuration. They need not be stable. Numbers at
+/// the sink do not count. On a fault `chips` is unchanged.
 pub fn representatives(
     alloc: Global,
     edges: EdgeLists<'_>,
@@ -72,8 +72,7 @@ pub fn representatives(
     Ok(())
 }
 
-/// Writes the identity of the sandpile group, a number for each vertex and 0 at the sink. On a fault `chips` stays as it
-/// was.
+/// Writes the identity of the sandpile group: one number per vertex, 0 at the sink. On a fault `chips` is unchanged.
 pub fn identity(alloc: Global, edges: EdgeLists<'_>, chips: &mut [u64]) -> Result<(), CallFault>
     ensures { FindsIdentity edges.entry chips.old chips.new result }
 {
@@ -86,8 +85,8 @@ pub fn identity(alloc: Global, edges: EdgeLists<'_>, chips: &mut [u64]) -> Resul
     Ok(())
 }
 
-/// Writes so many random recurrent configurations, with 0 at the sink (`chip_recurrent::random_recurrents`). They have the
-/// numbers from `first` on, and that of a number follows from the seed alone. On a fault `chips` stays as it was.
+/// Writes `rows` random recurrent configurations, with 0 at the sink (`chip_recurrent::random_recurrents`). They are
+/// numbered from `first` on, and each depends only on graph, seed and number. On a fault `chips` is unchanged.
 pub fn random_recurrents(
     alloc: Global,
     edges: EdgeLists<'_>,
@@ -107,7 +106,7 @@ pub fn random_recurrents(
     Ok(())
 }
 
-/// Whether these are numbers of so many configurations, and the columns of edges have one length.
+/// Whether `numbers` are those of `rows` configurations, and the edge lists have one length.
 fn has_rows(edges: EdgeLists<'_>, rows: usize, numbers: &[u64]) -> bool
     ensures { IsTrue result ↔ HasRows edges.entry rows numbers.now }
 {

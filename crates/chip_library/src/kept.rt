@@ -1,4 +1,4 @@
-//! A pile that is kept from one call to the next.
+//! A pile kept from one call to the next.
 
 ghost use Rattle.std.specs.Prelude.{◌≡◌, ℕ, ◌+◌, ◌<◌, ◌≤◌, length, sum, Some, Ok, MatchResult, MatchOption};
 ghost use Rattle.chip_graph.specs.Limits.{max_total};
@@ -28,18 +28,18 @@ const VERTEX_BYTES: u64 = 76;
 /// The bytes of an edge in the arrays of a graph: in the order of the lists, by its tail twice, and by its head.
 const EDGE_BYTES: u64 = 48;
 
-/// How far the play of a pile has come.
+/// The state of a pile's play.
 #[derive(Clone, Copy)]
 pub enum PileState {
-    /// It is still to be played.
+    /// It has not ended yet.
     ToPlay,
-    /// It has ended, and no vertex is legal.
+    /// It has ended: no vertex is legal.
     Stable,
     /// The limit has stopped it.
     Halted,
 }
 
-/// A game, played or still to be played, on which chips are dropped.
+/// A game on which chips are dropped, and the state of its play.
 #[derive(Drop)]
 pub struct KeptPile {
     pile: Pile,
@@ -57,8 +57,8 @@ impl Model for KeptPile {
 }
 
 impl KeptPile {
-    /// The pile at the start of a game, which is still to be played. The first fault is returned: of the lengths, of
-    /// the graph, or of the game.
+    /// Makes the pile at the start of a game, without playing. Chips and limit are at most 2^40. Returns the first
+    /// fault: of the lengths, the graph or the game.
     pub fn new(
         alloc: Global,
         edges: EdgeLists<'_>,
@@ -79,8 +79,7 @@ impl KeptPile {
         })
     }
 
-    /// Puts other chips there, in place of all that are there: another game on the graph, which is still to be played.
-    /// On a fault of that game all stays as it was.
+    /// Replaces all chips and the limit, without playing: another game on the graph. On its fault nothing changes.
     pub fn put(self, alloc: Global, limit: u64, chips: &[u64]) -> (KeptPile, Result<(), CallFault>)
         ensures { PutsChips self result.0 limit chips.now result.1 }
     {
@@ -102,7 +101,7 @@ impl KeptPile {
         }
     }
 
-    /// Plays to the end, if that was not done. If the limit stops the play, there are no drops any more.
+    /// Plays to the end, if that is not done yet. If the limit stops the play, the pile takes no more drops.
     pub fn play(self, alloc: Global) -> (KeptPile, Result<(), CallFault>)
         ensures { Plays self result.0 result.1 }
     {
@@ -113,8 +112,8 @@ impl KeptPile {
         }
     }
 
-    /// Plays on by so many visits, looks at a vertex or an edge, if the play has not ended; whether it still has not. With
-    /// one visit or more a vertex fires, or the play ends: 2^64 - 1 are a whole play.
+    /// Plays on by about `visits` visits of a vertex or an edge, unless the play has ended. Returns whether it still
+    /// has to end. With one visit or more a vertex fires or the play ends; 2^64 - 1 visits are a whole play.
     #[tactic(auto, using(crate::proofs::KeptLemmas::stays_to_play))]
     pub fn play_some(self, alloc: Global, visits: u64) -> (KeptPile, Result<bool, CallFault>)
         ensures { PlaysSome self result.0 visits result.1 }
@@ -127,7 +126,7 @@ impl KeptPile {
         }
     }
 
-    /// Plays on by so many visits.
+    /// Plays on by about `visits` visits.
     #[tactic(auto, using(crate::proofs::KeptLemmas::goes_on_some, crate::proofs::KeptLemmas::ended_pile))]
     fn go_on(self, alloc: Global, visits: u64) -> (KeptPile, Result<bool, CallFault>)
         requires to_play { self.state ≡ PileState.ToPlay }
@@ -149,8 +148,8 @@ impl KeptPile {
         }
     }
 
-    /// Plays to the end, and then drops `count` chips on a vertex and plays on to the end. A fault of the vertex or of
-    /// the chips leaves all as it was. If the limit stops a play, there are no drops any more.
+    /// Plays to the end, drops `count` chips on a vertex, and plays to the end again. A fault of the vertex or the
+    /// chips changes nothing. If the limit stops a play, the pile takes no more drops.
     pub fn drop_chips(
         self,
         alloc: Global,
@@ -173,8 +172,8 @@ impl KeptPile {
         }
     }
 
-    /// Drops chips on a pile that is stable, and plays on to the end: what is measured (`Pile::drop_measured`), or `None`
-    /// if the limit has stopped it.
+    /// Drops chips on a stable pile and plays to the end. Returns what was measured (`Pile::drop_measured`), or `None`
+    /// if the limit stopped the play.
     pub(crate) fn measure_on_stable(
         self,
         alloc: Global,
@@ -201,11 +200,11 @@ impl KeptPile {
         }
     }
 
-    /// Plays to the end, and then drops `amounts[i]` chips on vertex `at[i]`, one drop after another, and plays on to the
-    /// end each time. The other slices get the size, the extent and the loss of each avalanche.
+    /// Plays to the end, then drops `amounts[i]` chips on vertex `at[i]` for each i in order, and plays to the end
+    /// after each drop. The other slices get the size, the area and the dissipated chips of each avalanche.
     ///
-    /// All drops are looked at before the first of them falls: a fault of their lengths, vertices or chips leaves all as
-    /// it was. If the limit stops a play, that tells how many drops were made, and the rows of these are written.
+    /// All drops are checked before the first one falls: a fault of their lengths, vertices or chips changes nothing.
+    /// If the limit stops a play, the fault gives the number of drops made, and only their rows are written.
     pub fn drop_each(
         &mut self,
         alloc: Global,
@@ -237,12 +236,11 @@ impl KeptPile {
         }
     }
 
-    /// `drop_each`, which tells more of the drops in slices that the caller may leave empty: how many drops were made.
+    /// Makes drops as `drop_each` does, and measures more in slices that may be empty. Returns the number made.
     ///
-    /// `durations` gets for how many rounds each avalanche lasts, in each of which each legal vertex fires once.
-    /// `vertices` gets which vertices the drops fired and `times` how often each, those of one drop after those of
-    /// another, and `ends` where those of each drop end. It stops before a drop if there is less room left for these than
-    /// the graph has vertices.
+    /// `durations` gets the number of rounds of each avalanche; in a round each legal vertex fires once. `vertices`
+    /// gets the vertices that fired and `times` how often, drop after drop; `ends` gets where those of each drop end.
+    /// Stops before a drop if `vertices` has less room left than the graph has vertices.
     pub fn measure_each(
         &mut self,
         alloc: Global,
@@ -286,7 +284,7 @@ impl KeptPile {
         )
     }
 
-    /// The game, with all chips at its start that were dropped.
+    /// The game, with all dropped chips at its start.
     pub(crate) fn game(&self) -> &Game
         ensures { result.now ≡ self.now.pile.game }
     {
@@ -301,7 +299,7 @@ impl KeptPile {
         self.pile.row_vertices()
     }
 
-    /// How often each of them fired in it.
+    /// How often each of them fired in that drop.
     pub(crate) fn row_times(&self) -> &[u64]
         requires { self.now.state ≡ PileState.Stable }
         ensures { result.now ≡ row_times self.now.pile }
@@ -309,21 +307,21 @@ impl KeptPile {
         self.pile.row_times()
     }
 
-    /// How many chips each vertex has.
+    /// The chips of each vertex.
     pub fn chips(&self) -> &[u64]
         ensures { result.now ≡ self.now.pile.chips.items }
     {
         self.pile.chips()
     }
 
-    /// How often each vertex has fired, from the start of the game on.
+    /// How often each vertex has fired since the start of the game.
     pub fn fired(&self) -> &[u64]
         ensures { result.now ≡ self.now.pile.fired.items }
     {
         self.pile.fired()
     }
 
-    /// How many bytes the arrays of its graph and of its play take.
+    /// The number of bytes in the arrays of its graph and its play.
     pub fn bytes(&self) -> u64
         ensures { result ≡ bytes_on self.now.pile.game.graph }
     {
@@ -332,7 +330,7 @@ impl KeptPile {
     }
 }
 
-/// A copy of chips with which a game on this graph begins, or the first reason why none does.
+/// A copy of chips with which a game on this graph can begin, or that game's first fault.
 fn start_of(alloc: Global, graph: &Graph, limit: u64, chips: &[u64]) -> Result<Vec<u64>, CallFault>
     ensures { MatchResult result
         (λ start. (start.items ≡ chips.now) × IsGame (game_from graph.now chips.now limit))
@@ -350,7 +348,7 @@ fn start_of(alloc: Global, graph: &Graph, limit: u64, chips: &[u64]) -> Result<V
     Ok(Vec::from_slice(alloc, chips)?)
 }
 
-/// Why drops cannot be made on a game: the first that is on no vertex, or brings too many chips.
+/// The fault of the first drop on a game that cannot fall: no such vertex, or too many chips.
 fn fault_of_columns(game: &Game, at: &[u64], amounts: &[u64]) -> Option<CallFault>
     requires { length amounts.now ≡ length at.now }
     ensures first { MatchOption result (CanFall game.now at.now amounts.now (length at.now))

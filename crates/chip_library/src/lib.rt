@@ -1,6 +1,6 @@
-//! Chip-firing by one call, on slices of numbers: what programs in other languages call (`chip_exports`).
+//! Chip-firing by single calls on slices of numbers: what programs in other languages call (`chip_exports`).
 //!
-//! A call answers that all is well and writes its slices, or tells the first fault and leaves them as they were.
+//! A call writes its slices, or returns the first fault and changes nothing, except where the limit stops a `KeptPile`.
 #![tactic(auto)]
 
 pub use chip_recurrent::Form;
@@ -25,5 +25,5 @@ mod measures;
 mod stabilize;
 pub mod sums;
 
-/// The version of the library: 1,000,000 for each of the first number, 1,000 for each of the second, and the third.
+/// The version of the library: 1,000,000 * major + 1,000 * minor + patch.
 pub const VERSION: u64 = 10_000;

@@ -1,4 +1,4 @@
-//! Many drops on a pile that is kept, and what is written of them.
+//! Many drops on a kept pile, and what is written of them.
 
 ghost use Rattle.std.specs.Prelude.{◌≡◌, ◌↔◌, ◌+◌, ◌<◌, ◌≤◌, ◌++◌, length, take, drop, sum, slice_set, IsTrue, MatchBool, Ok};
 ghost use Rattle.chip_graph.specs.Limits.{max_total};
@@ -15,7 +15,7 @@ use chip_fire::Measured;
 use core::mem::replace_with;
 use std::alloc::Global;
 
-/// Whether columns have a number for each drop, or none where that may be.
+/// Whether the columns have one number per drop, or none where that is allowed.
 pub(crate) fn are_measures(
     at: &[u64],
     amounts: &[u64],
@@ -41,8 +41,8 @@ pub(crate) fn are_measures(
         && times.len() == vertices.len()
 }
 
-/// Makes drops that can fall on a stable pile, one after another, until the limit stops one, or there is no room for all
-/// vertices once more: how many were made.
+/// Makes drops that can fall on a stable pile, in order, until the limit stops one or there is no room for every vertex
+/// once more. Returns the number of drops made.
 pub(crate) fn make_each(
     alloc: Global,
     kept: &mut KeptPile,
@@ -100,7 +100,7 @@ pub(crate) fn make_each(
     Ok(at.len() as u64)
 }
 
-/// A stable pile with one drop more.
+/// A stable pile after one more drop.
 fn one_drop(kept: KeptPile, falls: (Global, u64, u64, bool)) -> (KeptPile, Option<Measured>)
     requires stable { kept.state ≡ Stable }
     requires is_vertex { falls.1 < kept.pile.game.graph.vertices }
@@ -111,7 +111,7 @@ fn one_drop(kept: KeptPile, falls: (Global, u64, u64, bool)) -> (KeptPile, Optio
     kept.measure_on_stable(alloc, vertex, count, timed)
 }
 
-/// Whether it is asked what fires, and there is no room for all vertices behind `end`.
+/// Whether the caller asks what fires, and there is no room for all vertices after `end`.
 fn lacks_room(kept: &KeptPile, end: usize, ends: &[u64], vertices: &[u64]) -> bool
     requires { end ≤ length vertices.now }
     ensures { MatchBool result
@@ -121,7 +121,7 @@ fn lacks_room(kept: &KeptPile, end: usize, ends: &[u64], vertices: &[u64]) -> bo
     !ends.is_empty() && ((vertices.len() - end) as u64) < kept.game().graph().vertices()
 }
 
-/// Writes a number into a column, if it has any.
+/// Writes a number into a column, unless that is empty.
 fn write_if_any(column: &mut [u64], place: usize, number: u64)
     requires { 0 < length column.old → place < length column.old }
     ensures { column.new ≡ slice_set column.old place number }
@@ -131,8 +131,8 @@ fn write_if_any(column: &mut [u64], place: usize, number: u64)
     }
 }
 
-/// Writes the vertices that fired in the last drop and how often each did, from `end` on, if that is asked for: where
-/// they end.
+/// Writes, from `end` on, the vertices that fired in the last drop and how often each did, if the caller asks for them.
+/// Returns where they end.
 fn write_row(
     kept: &KeptPile,
     place: usize,
@@ -168,7 +168,7 @@ fn write_row(
     next
 }
 
-/// Writes numbers into a slice, from a place on.
+/// Writes numbers into a slice, from an index on.
 fn write_from(slice: &mut [u64], from: usize, numbers: &[u64])
     requires { from + length numbers.now ≤ length slice.old }
     ensures { slice.new ≡ take from slice.old ++ numbers.now ++ drop (from + length numbers.now) slice.old }

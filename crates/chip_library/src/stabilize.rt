@@ -12,15 +12,15 @@ use chip_graph::Graph;
 use chip_sequence::Outcome;
 use std::alloc::{AllocError, Global};
 
-/// Plays games on one graph, each to its end within the firing limit, which is 2^40 at most.
+/// Plays games on one graph, each to its end within the firing limit (at most 2^40).
 ///
-/// `stopped` has a number for each game, `chips` one for each vertex of each game, those of a game after those of the
-/// one before it, and `fired` as many. Their sum is 2^40 at most in each game. `guesses` has as many too, or none: how
-/// often each vertex might fire, which only makes plays quicker.
+/// `stopped` has one number per game; `chips` and `fired` have one per vertex of each game, game after game. A game has
+/// at most 2^40 chips. `guesses` is as long as `chips`, or empty: how often each vertex might fire, which only affects
+/// the speed.
 ///
-/// Then `chips` are those at the end, `fired` tells how often each vertex fired, and `stopped` how many vertices of
-/// each game the limit stopped. On a fault all three stay as they were. The first fault is answered: of the lengths, of
-/// the graph, or else of the first game that is none.
+/// On success `chips` holds the chips at the end, `fired` how often each vertex fired, and `stopped` how many vertices
+/// of each game the limit stopped. On a fault all three are unchanged. Returns the first fault: of the lengths, the
+/// graph, or the first game that has one.
 pub fn stabilize_all(
     alloc: Global,
     edges: EdgeLists<'_>,
@@ -46,8 +46,7 @@ pub fn stabilize_all(
     )
 }
 
-/// Plays games as `stabilize_all` does, and reports to `watch` how each play goes on. The result is the same, whoever
-/// watches.
+/// Does the same as `stabilize_all` and reports each play's progress to `watch`, which does not affect the results.
 pub fn stabilize_all_watched<W: Watch>(
     alloc: Global,
     edges: EdgeLists<'_>,
@@ -73,7 +72,7 @@ pub fn stabilize_all_watched<W: Watch>(
     Ok(())
 }
 
-/// Whether slices have as many numbers as belong together.
+/// Whether the slices have matching lengths.
 fn is_batch(
     edges: EdgeLists<'_>,
     guesses: &[u64],
@@ -91,17 +90,17 @@ fn is_batch(
         && (guesses.is_empty() || guesses.len() == chips.len())
 }
 
-/// How games ended, one after another.
+/// The ends of games, in order.
 #[derive(Drop)]
 struct Ends {
     chips: Vec<u64>,
     fired: Vec<u64>,
-    /// For each game how many vertices the limit stopped.
+    /// For each game the number of vertices that the limit stopped.
     stopped: Vec<u64>,
 }
 
 impl Ends {
-    /// None yet, with room for `numbers` numbers of vertices and `games` games.
+    /// No ends, with room for `numbers` numbers of vertices and `games` games.
     fn with_room(alloc: Global, numbers: usize, games: usize) -> Result<Ends, AllocError>
         ensures { IfOk result (λ ends. (ends.chips.items ≡ []) × (ends.fired.items ≡ []) × (ends.stopped.items ≡ [])) }
     {
@@ -112,7 +111,7 @@ impl Ends {
         })
     }
 
-    /// One more.
+    /// Appends an outcome.
     fn push(&mut self, outcome: &Outcome) -> Result<(), AllocError>
         ensures chips { OnOk result (self.new.chips.items ≡ self.old.chips.items ++ outcome.now.chips.items) }
         ensures fired { OnOk result (self.new.fired.items ≡ self.old.fired.items ++ outcome.now.fired.items) }
@@ -126,7 +125,7 @@ impl Ends {
     }
 }
 
-/// How `games` games end that begin with these chips.
+/// The ends of `games` games that begin with these chips.
 fn play_each<W: Watch>(
     alloc: Global,
     mut graph: Graph,

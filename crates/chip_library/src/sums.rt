@@ -1,8 +1,8 @@
-//! The books of one part with two sums: what all edges owe, and the deficit. A call searches once for its edge, and
-//! `is_over` not at all (`crate::detector` has the same calls on slices, which add up tallies).
+//! The books of one process with two sums: what is owed on all edges, and the deficit. A step searches once for its
+//! edge, and `is_over` not at all. (Of the same calls on slices, in `crate::detector`, some add up all tallies.)
 //!
-//! `open` fills in the sums. With the right sums a call does what that on slices does, and leaves them right. With others it
-//! is safe, it changes nothing if it refuses, and it refuses rather than let a sum pass below 0 or above its greatest word.
+//! `open` fills in the sums. If they are right, a call does what its namesake on slices does and keeps them right. If
+//! not, it is safe: a refusal changes nothing, and it refuses rather than let a sum pass below 0 or above 2^64 - 1.
 
 ghost use Rattle.std.specs.Prelude.{◌≡◌, ◌-◌, ◌<◌, ◌≤◌, List};
 ghost use Rattle.chip_detect.specs.declared.tallies.Tally.{Tally};
@@ -13,28 +13,28 @@ ghost use Rattle.chip_library.specs.Sums.{AcknowledgesAll};
 use crate::detector::{BooksFault, NEUTRAL, all_open, check, found, got, sent, settled_within};
 use chip_detect::{Tally, add_answers_at, may_ack_on_parent};
 
-/// The books of a part: slices of tallies, as those of `crate::detector`, its parent edge, and the sums.
+/// The books of a process: tallies as in `crate::detector`, its parent edge, and the sums.
 #[repr(C)]
 #[derive(Drop)]
 pub struct SummedBooks<'a> {
-    /// The tallies of the edges into the part.
+    /// The tallies of the edges into the process.
     pub ins: &'a mut [Tally],
-    /// Those of the edges out of it.
+    /// The tallies of the edges out of it.
     pub outs: &'a mut [Tally],
     /// Its parent edge, or `NEUTRAL`.
     pub parent: u64,
-    /// How many messages it got and has not acknowledged, on all edges.
+    /// The number of messages received and not acknowledged, on all edges.
     pub owed: u64,
-    /// How many it sent whose acknowledgement is not settled, on all edges.
+    /// The number of messages sent whose acknowledgement is not settled, on all edges.
     pub deficit: u64,
 }
 
-/// What was acknowledged on an edge.
+/// The messages acknowledged on an edge.
 #[derive(Clone, Copy, Debug, PartialEq, Eq)]
 pub struct Acknowledged {
-    /// How many messages are now.
+    /// How many are acknowledged now.
     pub count: u64,
-    /// How many are from the beginning on.
+    /// How many are acknowledged in all.
     pub so_far: u64,
 }
 
@@ -65,7 +65,7 @@ impl SummedBooks<'_> {
         Ok(())
     }
 
-    /// Whether the books are sound, and the sums are those of the tallies.
+    /// Checks that the books are sound and the sums are those of the tallies.
     pub fn verify(&self) -> Result<(), BooksFault>
         ensures { MatchResult result (λ _. AreSummed self.now) (λ fault. (fault ≡ NotSound) × (AreSummed self.now → ⊥)) }
     {
@@ -79,7 +79,7 @@ impl SummedBooks<'_> {
         Ok(())
     }
 
-    /// Notes a message that was sent on the edge.
+    /// Notes a message sent on the edge.
     pub fn sent(&mut self, edge: u64) -> Result<(), BooksFault>
         ensures notes { NotesSummed (summed_of self.old) (summed_of self.new) true (Sent edge) result }
         ensures pointers { PointsAlike self.old self.new }
@@ -92,7 +92,7 @@ impl SummedBooks<'_> {
         Ok(())
     }
 
-    /// Notes a message that came on the edge. A neutral part is engaged by it.
+    /// Notes a message received on the edge. It engages a neutral process.
     pub fn got(&mut self, edge: u64) -> Result<(), BooksFault>
         ensures notes { NotesSummed (summed_of self.old) (summed_of self.new) true (Got edge) result }
         ensures pointers { PointsAlike self.old self.new }
@@ -105,8 +105,8 @@ impl SummedBooks<'_> {
         Ok(())
     }
 
-    /// Acknowledges all messages of the edge that may be acknowledged now, which the tail must not see before; `passive`
-    /// says whether the part is.
+    /// Acknowledges all messages of the edge that may be acknowledged now; the tail must not see this earlier.
+    /// `passive` says whether the process is passive.
     pub fn acknowledge(&mut self, edge: u64, passive: bool) -> Result<Acknowledged, BooksFault>
         ensures notes { AcknowledgesAll (summed_of self.old) (summed_of self.new) edge passive result }
         ensures pointers { PointsAlike self.old self.new }
@@ -122,8 +122,8 @@ impl SummedBooks<'_> {
         )
     }
 
-    /// Notes that the edge's head acknowledged `word` messages so far, now or some time ago, and answers how many of these
-    /// are new.
+    /// Notes that the edge's head has acknowledged `word` messages in all, by its latest report or an earlier one.
+    /// Returns how many of these are new.
     pub fn settled(&mut self, edge: u64, word: u64) -> Result<u64, BooksFault>
         ensures settles { SettlesSummed (summed_of self.old) (summed_of self.new) edge word result }
         ensures pointers { PointsAlike self.old self.new }
@@ -138,7 +138,7 @@ impl SummedBooks<'_> {
         }
     }
 
-    /// Whether the root may say that the computation is over; `ended` says whether it will send no more.
+    /// Whether the root may report that the computation is over. `ended` says whether it will send no more.
     pub fn is_over(&self, ended: bool) -> bool
         ensures { TellsOver (summed_of self.now) ended result }
     {
@@ -163,7 +163,7 @@ impl SummedBooks<'_> {
     }
 }
 
-/// Acknowledges all messages of the edge that may be, by what is kept as the sum of all that is owed and as the deficit.
+/// Acknowledges all messages of the edge that may be acknowledged, by the kept sums of what is owed and of the deficit.
 fn acknowledge_in(
     ins: &mut [Tally],
     parent: &mut u64,
@@ -193,7 +193,7 @@ fn acknowledge_in(
     Ok(Acknowledged { count, so_far })
 }
 
-/// How many messages of the edge with this tally may be acknowledged, by the same sums.
+/// The number of messages of the edge with this tally that may be acknowledged, by the same sums.
 fn may_ack_by(tally: Tally, parent: u64, owed: u64, deficit: u64, edge: u64, passive: bool) -> u64
     requires edge { edge < neutral }
     requires possible { IsPossible tally }

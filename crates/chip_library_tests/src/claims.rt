@@ -1,10 +1,10 @@
-//! Counts and chips that are claimed of a game's end.
+//! Claimed counts and chips of a game's end.
 
 use crate::graphs::{Lists, NO_GRAPHS, SINK_ALONE, TRIANGLE, told};
 use chip_library::verify;
 use std::process::Abort;
 
-/// A claim, and what the call answers.
+/// A claim, and what the call returns.
 struct Claim {
     name: &'static str,
     lists: &'static Lists,
@@ -15,7 +15,7 @@ struct Claim {
     told: (u64, u64),
 }
 
-/// Makes the call, and compares what it answers.
+/// Makes the call and compares its result.
 fn calls(rt: &(impl AllocGlobal + Abort), claim: &Claim) {
     let done = verify(
         rt.alloc(),

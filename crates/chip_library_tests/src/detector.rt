@@ -1,4 +1,4 @@
-//! The books of a part in memory of the caller: the small run of `docs/DETECTOR.md` as its part `A` sees it, and each
+//! The books of a process in the caller's memory: the small run of `docs/DETECTOR.md` as process `A` sees it, and each
 //! refusal.
 
 use chip_detect::Tally;
@@ -24,7 +24,7 @@ fn has(tally: &Tally, messages: u64, answered: u64) -> bool {
     tally.messages == messages && tally.answered == answered
 }
 
-/// The edges r and b, 3 and 1, lead to the part, and the edge a, 0, out of it.
+/// The edges r and b, 3 and 1, lead into the process, and the edge a, 0, out of it.
 #[test]
 fn the_small_run(rt: HostRuntime) {
     let (mut ins, mut outs, mut parent) = (
@@ -49,7 +49,7 @@ fn the_small_run(rt: HostRuntime) {
     assert!(&rt; check(&ins, &outs, parent) == Ok(()));
 }
 
-/// A refusal of each kind, and nothing is written.
+/// One refusal of each kind, after which nothing is written.
 #[test]
 fn refusals(rt: HostRuntime) {
     let (mut ins, mut outs, mut parent) = ([tally(4, MOST, 0)], [tally(5, MOST, 7)], 4);

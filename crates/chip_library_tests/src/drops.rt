@@ -4,7 +4,7 @@ use crate::graphs::{Lists, NO_GRAPHS, SINK_ALONE, TRIANGLE, told};
 use chip_library::avalanches;
 use std::process::Abort;
 
-/// A call for drops, and what it answers: on a fault the numbers are those that were given.
+/// A call for drops, and its result: on a fault the numbers are those given.
 struct Drops {
     name: &'static str,
     lists: &'static Lists,
@@ -20,7 +20,7 @@ struct Drops {
     losts: &'static [u64],
 }
 
-/// Makes the call, and compares what it answers.
+/// Makes the call and compares its result.
 fn calls(rt: &(impl AllocGlobal + Abort), drops: &Drops) {
     let mut chips = drops.chips.to_vec(rt.alloc()).expect(rt, "memory");
     let mut sizes = drops.columns.to_vec(rt.alloc()).expect(rt, "memory");

@@ -1,8 +1,8 @@
-//! Graphs that both modules play on.
+//! Graphs for several modules.
 
 use chip_library::{CallFault, EdgeLists};
 
-/// The lists of a graph, or of none.
+/// Edge lists, of a graph or not.
 pub(crate) struct Lists {
     pub(crate) vertices: u64,
     pub(crate) sink: u64,
@@ -12,7 +12,7 @@ pub(crate) struct Lists {
 }
 
 impl Lists {
-    /// The same, as a call takes them.
+    /// The lists as a call takes them.
     pub(crate) fn edges(&self) -> EdgeLists<'_> {
         EdgeLists {
             vertices: self.vertices,
@@ -51,7 +51,7 @@ pub(crate) const NO_HEAD: &Lists = &Lists {
     mults: &[1, 1, 1, 1],
 };
 
-/// What each fault of a graph is told as: its lists, its number and its place.
+/// The faults of graphs: the lists, the fault's number and its place.
 pub(crate) const NO_GRAPHS: &[(&Lists, u64, u64)] = &[
     (NO_HEAD, 12, 0),
     (
@@ -144,7 +144,7 @@ pub(crate) const NO_GRAPHS: &[(&Lists, u64, u64)] = &[
     ),
 ];
 
-/// The number and the place that a call tells, or 0 twice.
+/// The number and the place of a fault, or 0 and 0.
 pub(crate) fn told(done: Result<(), CallFault>) -> (u64, u64) {
     match done {
         Ok(()) => (0, 0),

@@ -25,7 +25,7 @@ const GRID: &Lists = &Lists {
     ],
 };
 
-/// Four vertices, each beside each.
+/// Four vertices, each adjacent to every other.
 const COMPLETE: &Lists = &Lists {
     vertices: 4,
     sink: 3,
@@ -61,9 +61,9 @@ const PATH: &Lists = &Lists {
     mults: &[1, 1, 1, 1, 1],
 };
 
-/// Graphs with their identities: of squares by Le Borgne and Rossin. If all of a complete graph fire, each loses a chip, so
-/// that its greatest stable configuration is equivalent to none. On a cycle the sum of v + 1 times the chips of v is
-/// constant, modulo 4.
+/// Graphs with their identities, those of squares by Le Borgne and Rossin. If all vertices of a complete graph fire,
+/// each loses a chip, so its greatest stable configuration is equivalent to zero. On a cycle the sum of v + 1 times the
+/// chips of v is constant modulo 4.
 const IDENTITIES: &[(&Lists, &[u64])] = &[
     (TRIANGLE, &[1, 1, 0]),
     (SINK_ALONE, &[0]),
@@ -80,7 +80,7 @@ fn identities(rt: HostRuntime) {
     }
 }
 
-/// Finds the identity.
+/// Finds the identity and compares it.
 fn finds(rt: &(impl AllocGlobal + Abort), lists: &Lists, wanted: &[u64]) {
     let mut chips = wanted.to_vec(rt.alloc()).expect(rt, "memory");
     chips.fill(7);
@@ -92,7 +92,7 @@ fn finds(rt: &(impl AllocGlobal + Abort), lists: &Lists, wanted: &[u64]) {
     );
 }
 
-/// Graphs with their least burning scripts, and what these take from each vertex: the edges that lead in from the sink, if
+/// Graphs with their least burning scripts, and the chips that these take from each vertex: the edges from the sink, if
 /// each edge leads both ways.
 const SCRIPTS: &[(&Lists, &[u64], &[u64])] = &[
     (TRIANGLE, &[1, 1, 0], &[1, 1, 0]),
@@ -112,7 +112,7 @@ fn scripts(rt: HostRuntime) {
     }
 }
 
-/// Finds the script with its chips.
+/// Finds the script with its chips and compares them.
 fn burns(rt: &(impl AllocGlobal + Abort), lists: &Lists, script: &[u64], chips: &[u64]) {
     let mut times = script.to_vec(rt.alloc()).expect(rt, "memory");
     let mut taken = chips.to_vec(rt.alloc()).expect(rt, "memory");
@@ -123,7 +123,7 @@ fn burns(rt: &(impl AllocGlobal + Abort), lists: &Lists, script: &[u64], chips: 
     assert!(rt; told(done) == (0, 0) && same, "{:?}, {:?}", times, taken);
 }
 
-/// Rows, and which are recurrent; or the fault, with which the flags stay 7.
+/// Rows, and which are recurrent; or the fault, on which the flags stay 7.
 const ROWS: &[(&Lists, &[u64], (u64, u64), &[u64])] = &[
     (
         TRIANGLE,
@@ -144,7 +144,7 @@ fn recurrent_rows(rt: HostRuntime) {
     }
 }
 
-/// Tells which rows are recurrent.
+/// Tests which rows are recurrent, and compares.
 fn tells(
     rt: &(impl AllocGlobal + Abort),
     lists: &Lists,
@@ -162,7 +162,7 @@ fn tells(
     );
 }
 
-/// Rows, and what stands in their place; or the fault, with which they stay.
+/// Rows, and what replaces them; or the fault, on which they stay.
 const CLASSES: &[(&Lists, Form, usize, &[u64], (u64, u64), &[u64])] = &[
     (
         TRIANGLE,
@@ -222,7 +222,7 @@ fn classes(rt: HostRuntime) {
     }
 }
 
-/// Puts what is looked for in place of rows.
+/// Replaces rows by their representatives, and compares.
 fn represents(
     rt: &(impl AllocGlobal + Abort),
     lists: &Lists,

@@ -1,12 +1,12 @@
-//! Where plays begin: at the counts that are given, if these are right. A watch counts the plays that begin with them and
-//! have nothing left to do, and the rounds of all plays.
+//! Where plays begin: at the given counts, if these are right. A watch counts the plays that begin at them and have
+//! nothing left to do, and the rounds of all plays.
 
 use crate::graphs::{TRIANGLE, told};
 use chip_fire::{GivenUse, Play, Watch};
 use chip_library::{stabilize_all_watched, verify_watched};
 use std::process::Abort;
 
-/// What plays did.
+/// Counts of what plays did.
 #[derive(Drop)]
 struct Counted {
     certified: u64,
@@ -28,7 +28,7 @@ impl Watch for Counted {
 /// The greatest limit.
 const LARGEST: u64 = 1 << 40;
 
-/// Plays two games with many chips, each of another number, and counts.
+/// Plays games with 6 and with 4 chips, and counts.
 fn plays(rt: &(impl AllocGlobal + Abort), guesses: &[u64]) -> Counted {
     let mut chips = [6, 0, 0, 4, 0, 0];
     let (mut fired, mut stopped) = ([0; 6], [0; 2]);

@@ -1,4 +1,4 @@
-//! A pile that is kept: chips put there, and drops on it.
+//! A kept pile: chips put there, and drops on it.
 
 use crate::graphs::TRIANGLE;
 use chip_fire::Avalanche;
@@ -116,7 +116,7 @@ fn the_limit_halts_a_pile(rt: HostRuntime) {
     assert!(&rt; put.is_err() && has(&kept, &[2, 0, 3], &[2, 1, 0]));
 }
 
-/// Plays on by some visits, and compares what is told.
+/// Plays on by some visits, and compares the result.
 fn portion(
     rt: &(impl AllocGlobal + Abort),
     kept: KeptPile,
@@ -128,7 +128,7 @@ fn portion(
     kept
 }
 
-/// No visit does nothing, the last one finds the end, and the limit stops a play that would go on.
+/// No visits change nothing, the last one finds the end, and the limit stops a play that would go on.
 #[test]
 fn a_play_in_portions(rt: HostRuntime) {
     let lists = TRIANGLE.edges();
@@ -145,7 +145,7 @@ fn a_play_in_portions(rt: HostRuntime) {
     assert!(&rt; has(&kept, &[2, 1, 1], &[1, 0, 0]));
 }
 
-/// How many vertices a path has.
+/// The number of vertices of a path.
 const LONG: u64 = 200;
 
 /// A pile on a path to the sink, with chips on its first vertex.
@@ -177,8 +177,8 @@ fn heap_on_a_path(rt: &(impl AllocGlobal + Abort), count: u64) -> KeptPile {
     KeptPile::new(alloc, lists, LARGEST, &chips).expect(rt, "a pile")
 }
 
-/// Plays in portions of so many visits to the end, and compares that with the end of a whole play. In each portion some
-/// vertex fires, so there are several, and the counts rise from one to the next.
+/// Plays to the end in portions of this many visits, and compares the end with that of a whole play. In each portion
+/// some vertex fires, so there are several, and the counts rise from one to the next.
 fn expect_portions(rt: &(impl AllocGlobal + Abort), count: u64, visits: u64, least: u64) {
     let (whole, played) = heap_on_a_path(rt, count).play(rt.alloc());
     assert!(rt; played == Ok(()));
@@ -223,7 +223,7 @@ fn all_of(numbers: &[u64]) -> u64 {
     all
 }
 
-/// A heap that is played by a work list and rounds, and one for which counts are searched.
+/// A heap played by a work list and rounds, and one for which counts are searched.
 #[test]
 fn heaps_in_portions(rt: HostRuntime) {
     expect_portions(&rt, 30, 1, 3);
@@ -233,7 +233,7 @@ fn heaps_in_portions(rt: HostRuntime) {
     expect_portions(&rt, 20_000, 1, 3);
 }
 
-/// Three drops by one call, of which the limit stops the last; and drops of which one is on no vertex.
+/// Three drops by one call, the last of which the limit stops; and drops of which one is on no vertex.
 #[test]
 fn many_drops_on_a_pile(rt: HostRuntime) {
     let lists = TRIANGLE.edges();
@@ -260,7 +260,7 @@ fn many_drops_on_a_pile(rt: HostRuntime) {
     assert!(&rt; told == Err(CallFault::Vertex(1)) && has(&kept, &[3, 1, 4], &[2, 1, 0]));
 }
 
-/// The triangle fires 0, 1 after the first drop, nothing after the second, and 0 twice and both together after the third.
+/// The triangle fires 0, 1 after the first drop, none after the second, and 0 twice and both together after the third.
 #[test]
 fn measures_of_drops(rt: HostRuntime) {
     let lists = TRIANGLE.edges();
@@ -286,7 +286,7 @@ fn measures_of_drops(rt: HostRuntime) {
     assert!(&rt; vertices == [0, 1, 0, 1, 7, 7, 7] && times == [1, 1, 3, 1, 7, 7, 7]);
 }
 
-/// Behind what the first drop fires there is no room for three vertices once more; and the limit stops a drop.
+/// After what the first drop fires there is no room for three more vertices; and the limit stops a drop.
 #[test]
 fn no_room_for_a_drop(rt: HostRuntime) {
     let lists = TRIANGLE.edges();

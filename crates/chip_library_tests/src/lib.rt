@@ -1,4 +1,4 @@
-//! Calls of `chip_library` worked out by hand: one of each kind and at each edge of what they take, and each fault.
+//! Calls of `chip_library` worked out by hand: one of each kind, one at each limit of the arguments, and each fault.
 #![tactic(auto)]
 
 #[cfg(test)]

@@ -4,7 +4,7 @@ use crate::graphs::{Lists, NO_GRAPHS, SINK_ALONE, TRIANGLE, told};
 use chip_library::stabilize_all;
 use std::process::Abort;
 
-/// A call for games, and what it answers: on a fault the numbers are those that were given.
+/// A call for games, and its result: on a fault the numbers are those given.
 struct Batch {
     name: &'static str,
     lists: &'static Lists,
@@ -19,7 +19,7 @@ struct Batch {
     over: &'static [u64],
 }
 
-/// Makes the call, and compares what it answers.
+/// Makes the call and compares its result.
 fn calls(rt: &(impl AllocGlobal + Abort), batch: &Batch) {
     let mut chips = batch.chips.to_vec(rt.alloc()).expect(rt, "memory");
     let mut fired = batch.fired.to_vec(rt.alloc()).expect(rt, "memory");

@@ -1,4 +1,4 @@
-//! Books with sums: the small run of `docs/DETECTOR.md` as its part `A` sees it, and what is refused.
+//! Books with sums: the small run of `docs/DETECTOR.md` as process `A` sees it, and what is refused.
 
 use chip_detect::Tally;
 use chip_library::detector::{BooksFault, NEUTRAL};
@@ -19,7 +19,7 @@ fn have(books: &SummedBooks, parent: u64, owed: u64, deficit: u64) -> bool {
     books.parent == parent && books.owed == owed && books.deficit == deficit
 }
 
-/// Whether so many messages were acknowledged, and so many so far.
+/// Whether the call acknowledged `count` messages, and `so_far` in all.
 fn gave(answer: Result<Acknowledged, BooksFault>, count: u64, so_far: u64) -> bool {
     match answer {
         Ok(now) => now.count == count && now.so_far == so_far,
@@ -27,7 +27,7 @@ fn gave(answer: Result<Acknowledged, BooksFault>, count: u64, so_far: u64) -> bo
     }
 }
 
-/// The edges r and b, 3 and 1, lead to the part, and the edge a, 0, out of it.
+/// The edges r and b, 3 and 1, lead into the process, and the edge a, 0, out of it.
 #[test]
 fn the_small_run_with_sums(rt: HostRuntime) {
     let (mut ins, mut outs) = ([tally(1, 0, 0), tally(3, 0, 0)], [tally(0, 0, 0)]);
@@ -52,7 +52,7 @@ fn the_small_run_with_sums(rt: HostRuntime) {
     assert!(&rt; ins[0].answered == 1 && ins[1].answered == 1 && outs[0].answered == 1);
 }
 
-/// A refusal of each kind, and nothing is written.
+/// One refusal of each kind, after which nothing is written.
 #[test]
 fn refused_with_sums(rt: HostRuntime) {
     let (mut ins, mut outs) = ([tally(4, 2, 0)], [tally(5, 7, 6)]);

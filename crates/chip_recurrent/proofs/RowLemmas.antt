@@ -11,7 +11,7 @@ use Rattle.chip_recurrent.specs.Rows.{row}
 pub room_for_row : (n i k : ℕ) → i < k → i * n + n ≤ k * n
 room_for_row n i k before = let next : i + 1 ≤ k = omega arith in let a = mul-le-mul_right n next in omega arith
 
--- a row before the last of k stays the same if more numbers come behind
+-- a row before the last of k stays the same if more numbers follow
 pub row_front : (n k : ℕ) (xs ys : List ℕ) → length xs ≡ k * n → (i : ℕ) → i < k → row n (xs ++ ys) i ≡ row n xs i
 row_front n k xs ys long i before =
     let room = room_for_row n i k before in
@@ -19,7 +19,7 @@ row_front n k xs ys long i before =
     let rest : n ≤ length (drop (i * n) xs) = omega (arith, length-drop (i * n) xs) in
     rw (drop-append-le (i * n) xs ys first) (take-append-le n (drop (i * n) xs) ys rest)
 
--- the numbers that come behind k rows are the next
+-- the numbers after k rows are the next row
 pub row_next : (n k : ℕ) (xs ys : List ℕ) → length xs ≡ k * n → length ys ≡ n → row n (xs ++ ys) k ≡ ys
 row_next n k xs ys long each =
     ap (take n) (ap (λ (j : ℕ). drop j (xs ++ ys)) (sym long) ∙ drop-append_seam xs ys) ∙ take_all n ys (omega arith)

@@ -54,7 +54,7 @@ module _ (G : Multigraph) (x : ℕ → ℕ) (start : List ℕ) (is : IsStart G x
           λ v. omega (arith, then_counts G first next v),
         )
 
--- what a start is of, it is of all that agree with it
+-- a start for one configuration is a start for all that agree with it
 pub start_for : (G : Multigraph) (w x : ℕ → ℕ) (start : List ℕ) → IsStart G w start → AgreeOffSink G w x → IsStart G x start
 start_for G w x start is same = record {
   each = is.each;
@@ -64,7 +64,7 @@ start_for G w x start is same = record {
 
 -- ---- the end of a play
 
--- a legal vertex of the end is left over, and who is left over is legal
+-- the vertices left over are those that are legal at the end
 module _ (g : ChipGame) (o : Outcome) (played : IsPlayed g o) where
   left_over : (v : ℕ) → IsLegal g.graph (slice_index o.chips.items) v → Contains o.over.items v
   left_over v can = rw played.over ((legal_vertices_law g.graph (slice_index o.chips.items) v).1 can)
@@ -79,7 +79,7 @@ off_sink_legal G chips v can =
     let e : slice_index (set chips G.sink 0) v ≡ slice_index chips v = get_or-set_other chips G.sink v 0 0 can.not_sink in
     record { is_vertex = can.is_vertex; not_sink = can.not_sink; enough_chips = omega (arith, can.enough_chips) }
 
--- legal of what agrees with it
+-- what is legal is also legal in a configuration that agrees
 pub legal_too : (G : Multigraph) (x y : ℕ → ℕ) → AgreeOffSink G x y → (v : ℕ) → IsLegal G x v → IsLegal G y v
 legal_too G x y same v can =
     let a = same v can.is_vertex can.not_sink in

@@ -5,13 +5,12 @@ use Rattle.chip_sequence.specs.Certificate.{in_degree}
 use Rattle.chip_group.specs.Recurrent.{EachNonSink, IsBurningScript}
 use Rattle.chip_recurrent.specs.Stabilizations.{StabilizesWithin}
 
--- s is a burning script with the chips b, and no vertex fires less often by another one
+-- s is a burning script with the chips b, and no vertex fires less often in another one
 pub record IsLeastScript (G : Multigraph) (s b : ℕ → ℕ) : Type 0 where
   pub script : IsBurningScript G s b
   pub least : (f c : ℕ → ℕ) → IsBurningScript G f c → EachNonSink G (λ v. s v ≤ f v)
 
--- one chip less on each vertex than edges lead in: how often each fires on its stabilization is one less than by the
--- least script
+-- one chip less on each vertex than edges lead in: in its stabilization each fires once less than by the least script
 abbrev pub burning_start : Multigraph → ℕ → ℕ
 burning_start G v = in_degree G v - 1
 

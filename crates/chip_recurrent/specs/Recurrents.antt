@@ -19,7 +19,7 @@ pub record IsTested (G : Multigraph) (b x : ℕ → ℕ) (flag : ℕ) : Type 0 w
   pub recurrent : (flag ≡ 1) ↔ IsRecurrent G x
   pub within : IsStable G x → (c : ℕ → ℕ) × StabilizesWithin G (burning_sum b x) c
 
--- x is stable, and its sum with b has this fault; or there is no memory
+-- x is stable, and its sum with b has this fault; or memory ran out
 abbrev pub IsFaultOfTest : Multigraph → (b x : ℕ → ℕ) → ℕ → RowFault → Type 0
 IsFaultOfTest G b x number fault =
     (fault ≡ NoMemory) ⊎ (IsStable G x × IsFaultOfRow G (burning_sum b x) number fault)
@@ -33,7 +33,7 @@ pub record AreTestedBy (G : Multigraph) (b : ℕ → ℕ) (chips : List ℕ) (co
   pub flags_each : length flags ≡ count
   pub each : (i : ℕ) → i < count → IsTested G b (configuration G chips i) (slice_index flags i)
 
--- of `count` rows one is the first with a fault, and this is it; or there is no memory
+-- the first of `count` rows with a fault has this one; or memory ran out
 abbrev pub IsFirstFaultOfTests : Multigraph → (b : ℕ → ℕ) → List ℕ → ℕ → RowFault → Type 0
 IsFirstFaultOfTests G b chips count fault =
     (fault ≡ NoMemory)

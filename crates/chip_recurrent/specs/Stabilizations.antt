@@ -12,7 +12,7 @@ use Rattle.chip_recurrent.specs.declared.fault.RowFault.TheVariants.{Total, Stop
 abbrev pub sum_of : List ℕ → List ℕ → ℕ → ℕ
 sum_of chips more v = slice_index chips v + slice_index more v
 
--- how many chips lie off the sink
+-- the number of chips off the sink
 abbrev pub chips_off_sink : Multigraph → (ℕ → ℕ) → ℕ
 chips_off_sink G x = sum_below G.vertices (λ v. if v == G.sink then 0 else x v)
 
@@ -22,7 +22,7 @@ pub record StabilizesWithin (G : Multigraph) (x c : ℕ → ℕ) : Type 0 where
   pub end : StabilizesTo G x c
   pub few_firings : IsWithin max_limit end.fires_to.firings
 
--- x, which is that of this row, has no stabilization within them, and why; or there is no memory
+-- x, the configuration of this row, has no stabilization within the limits, and why; or memory ran out
 abbrev pub IsFaultOfRow : Multigraph → (x : ℕ → ℕ) → ℕ → RowFault → Type 0
 IsFaultOfRow G x row (Total place) = (place ≡ row) × (max_total < chips_off_sink G x)
 IsFaultOfRow G x row (Stopped place) = (place ≡ row) × (chips_off_sink G x ≤ max_total)

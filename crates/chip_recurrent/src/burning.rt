@@ -12,18 +12,18 @@ use crate::stabilization::stabilized_sum;
 use chip_graph::Graph;
 use std::alloc::{AllocError, Global};
 
-/// A graph with its least burning script and the chips of that.
+/// A graph with its least burning script and the script's chips.
 #[derive(Drop)]
 pub struct Burning {
     pub graph: Graph,
     /// How often each vertex fires.
     pub script: Vec<u64>,
-    /// How many chips these firings take from each vertex on balance.
+    /// How many chips each vertex loses on balance by these firings.
     pub chips: Vec<u64>,
 }
 
-/// The burning script of which each vertex fires least often (Speer, Asymmetric abelian sandpile models, 1993). It is one
-/// more than the odometer of a stabilization: of one chip less on each vertex than edges lead in.
+/// The burning script in which each vertex fires least often (Speer, Asymmetric abelian sandpile models, 1993). It is
+/// one more than the odometer of a stabilization: of one chip less on each vertex than edges lead in.
 pub fn burning_script(alloc: Global, graph: Graph) -> Result<Burning, RowFault>
     ensures { MatchResult result (λ b. (b.graph ≡ graph) × IsBurning graph b.script.items b.chips.items)
         (IsFaultOfRow graph (burning_start graph) 0) }
@@ -39,7 +39,7 @@ pub fn burning_script(alloc: Global, graph: Graph) -> Result<Burning, RowFault>
     })
 }
 
-/// One chip less on each vertex than edges lead in, or none.
+/// One chip less on each vertex than edges lead in, or no chips.
 fn start_to_burn(alloc: Global, graph: &Graph) -> Result<Vec<u64>, AllocError>
     ensures each { IfOk result (λ start. length start.items ≡ graph.now.vertices) }
     ensures start { IfOk result (λ start. (v : ℕ) → v < graph.now.vertices
@@ -52,7 +52,7 @@ fn start_to_burn(alloc: Global, graph: &Graph) -> Result<Vec<u64>, AllocError>
     Ok(start)
 }
 
-/// One firing more of each vertex but the sink.
+/// These counts, with one more firing of each vertex but the sink.
 fn one_more(alloc: Global, graph: &Graph, fired: &[u64]) -> Result<Vec<u64>, AllocError>
     requires each { length fired.now ≡ graph.now.vertices }
     requires few { (v : ℕ) → slice_index fired.now v < 2 ^ 63 }
@@ -69,7 +69,7 @@ fn one_more(alloc: Global, graph: &Graph, fired: &[u64]) -> Result<Vec<u64>, All
     Ok(script)
 }
 
-/// The chips of the script, by the end of the stabilization.
+/// The chips of the script, from the end of the stabilization.
 fn burning_chips(alloc: Global, graph: &Graph, ends: &[u64]) -> Result<Vec<u64>, AllocError>
     requires each { length ends.now ≡ graph.now.vertices }
     requires few { (v : ℕ) → v < graph.now.vertices → slice_index ends.now v < 2 ^ 63 }
@@ -85,7 +85,7 @@ fn burning_chips(alloc: Global, graph: &Graph, ends: &[u64]) -> Result<Vec<u64>,
     Ok(chips)
 }
 
-/// How many chips come into a vertex if each tail fires once.
+/// The number of chips that come into a vertex if each tail fires once.
 fn in_degree(graph: &Graph, vertex: u64) -> u64
     requires { vertex < graph.now.vertices }
     ensures { result ≡ in_degree graph.now vertex }

@@ -1,6 +1,6 @@
 use std::alloc::{AllocError, AllocFailed};
 
-/// Why a stabilization is not found. A place is the number of the row that it is of, or 0.
+/// Why a stabilization is not found. A place is the number of its row, or 0.
 #[derive(Clone, Copy)]
 pub enum RowFault {
     /// There are more than 2^40 chips off the sink.

@@ -1,7 +1,7 @@
-//! Burning scripts, recurrent and superstable configurations, and the identity of the sandpile group, by stabilizations.
+//! Burning scripts, recurrent and superstable configurations, and the sandpile group's identity, by stabilizations.
 //!
-//! Each call takes a graph and returns it, so that no play checks it again. Chips on the sink do not count, and what is
-//! returned has none there.
+//! Each call takes a graph and returns it, so no play checks it again. Chips on the sink do not count, and results have
+//! none there.
 #![tactic(auto)]
 
 pub use burning::{Burning, burning_script};

@@ -13,8 +13,8 @@ use crate::stabilization::stabilized_sum;
 use chip_graph::Graph;
 use std::alloc::Global;
 
-/// Which of so many configurations are recurrent: of each 1 if it is, else 0. `chips` has a number for each vertex of
-/// each, those of one after those of the one before it.
+/// A flag for each of `rows` configurations: 1 if it is recurrent, else 0. `chips` has one number per vertex of each,
+/// configuration after configuration.
 pub fn are_recurrent(
     alloc: Global,
     graph: Graph,
@@ -64,7 +64,7 @@ pub(crate) struct Tested {
     pub flag: u64,
 }
 
-/// Whether this row is recurrent: stable, and with the chips of a burning script its own stabilization.
+/// Whether this row is recurrent: stable, and the stabilization of its sum with the chips of a burning script.
 pub(crate) fn burning_test(
     alloc: Global,
     graph: Graph,

@@ -19,7 +19,7 @@ pub(crate) fn is_stable(graph: &Graph, chips: &[u64]) -> bool
     true
 }
 
-/// Whether both are the same on each vertex but the sink.
+/// Whether both agree on each vertex but the sink.
 pub fn agree_off_sink(graph: &Graph, chips: &[u64], others: &[u64]) -> bool
     requires chips_each { length chips.now ≡ graph.now.vertices }
     requires others_each { length others.now ≡ graph.now.vertices }

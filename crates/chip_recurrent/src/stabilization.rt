@@ -13,7 +13,7 @@ use chip_graph::game::MAX_LIMIT;
 use chip_graph::{Game, Graph};
 use std::alloc::{AllocError, Global};
 
-/// A graph with stable chips of each vertex, and how often each fired until they were stable.
+/// A graph with the stable chips of each vertex, and how often each fired to stabilize.
 #[derive(Drop)]
 pub struct Stabilized {
     pub graph: Graph,
@@ -21,8 +21,8 @@ pub struct Stabilized {
     pub fired: Vec<u64>,
 }
 
-/// The stabilization of the sum of two configurations, the second of which has 0 where it has no number. A fault is one
-/// of this row.
+/// The stabilization of the sum of two configurations, the second of which has 0 where it has no number. A fault names
+/// this row.
 pub fn stabilized_sum(
     alloc: Global,
     graph: Graph,

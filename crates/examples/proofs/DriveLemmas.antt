@@ -73,7 +73,7 @@ module _ (g : Setting) where
         subst SealsNone (sym settles) (settles_seal_none g.game.graph.vertices middle turned.1),
       )
 
--- what a drive from the opening comes to is every end of the game
+-- the outcome of a drive from the opening is every end of the game
 driven_end : (game : ChipGame) (ring : ℕ) (old new : WorldState) (rounds : ℕ) (drive : Drive) (o : Outcome)
     → StandsForLog (setting_of game ring) [] old → LeadsWorld old new (λ g before after. IsDrive g rounds before after drive)
     → WhateverLog new (λ g log. NoneHaltedBySeal g log → IsPlayed (played_game g log) o)
@@ -87,7 +87,7 @@ driven_end game ring old new rounds drive o opens leads plays =
     subst (λ (k : ChipGame). IsEveryEnd k o.fired.items o.chips.items)
     (unfed_is_the_start g is_game some_ring after stands.legal refl).0 (every_end _ o played)
 
--- and so if its outcome is told
+-- and so if its outcome is returned
 pub actors_end : (game : ChipGame) (ring : ℕ) (old new : WorldState) (rounds : ℕ) (drive : Drive)
     (r : Result Outcome WorldFault) → StandsForLog (setting_of game ring) [] old
     → LeadsWorld old new (λ g before after. IsDrive g rounds before after drive)

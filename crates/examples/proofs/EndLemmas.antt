@@ -1,5 +1,5 @@
 -- Serves Answers.antt.
--- What callers ask of the end of a game, by what the libraries answer.
+-- What callers ask of the end of a game, from what the libraries return.
 use Rattle.std.proofs.Common.{◌≡◌, ℕ, ◌+◌, ◌<◌, ◌==◌, if◌then◌else◌, List, [], ◌∷◌, slice_index, refl, sym, ap, ◌∙◌}
 use Rattle.std.proofs.Common.{subst, arith}
 use Rattle.std.proofs.Common.{true, false, Option, Some, None, Result, Ok, Err, IfOk, IfSome}
@@ -61,7 +61,7 @@ one_end g o p one other =
     let sealed = one.sealed ∙ sym other.sealed in
     rw (fired, chips, over, sealed) refl
 
--- what goes on leads from the same start
+-- what goes on begins at the same start
 pub goes_on : (G : Multigraph) (earlier later : Resumed) (limit : ℕ) → GoesOn G earlier limit later → (x : ℕ → ℕ)
     → IsPlayFrom G x earlier → IsPlayFrom G x later
 goes_on G earlier later limit on x before =
@@ -71,7 +71,7 @@ goes_on G earlier later limit on x before =
     subst (λ (f : ℕ → ℕ). LeadsTo G x f (slice_index later.outcome.chips.items))
     (λ i v. ap (λ (n : ℕ). n + slice_index later.outcome.fired.items v) (sym (on.prior v)) i) both
 
--- a drop on a pile of the game sets off what is told of it
+-- a drop on a pile of the game sets off the reported avalanche
 pub sets_off : (g : ChipGame) (o : Outcome) → IsPlayed g o → (p p' : Pile) → p.game ≡ g
     → p.chips.items ≡ o.chips.items → (v count : ℕ) (told : Option Avalanche)
     → TellsAvalanche p.game.graph (dropped (slice_index p.chips.items) v count) p' told
@@ -107,7 +107,7 @@ pub stands : (g : ChipGame) (o : Outcome) → IsPlayed g o → is_closed o ≡ t
     → p.chips.items ≡ o.chips.items → IsStable p.game.graph (slice_index p.chips.items)
 stands g o played closed p game chips = rw (game, chips) (none_legal g o played closed)
 
--- threads come to some end, whatever was sealed
+-- threads reach some end, whatever was sealed
 pub some_end : (shared : Sharing) (game : ChipGame) (plan : Plan) (f : Finished) → IsFinished shared game None plan f
     → IsSomeEnd game f.outcome.fired.items f.outcome.chips.items
 some_end shared game plan f done =

@@ -1,5 +1,5 @@
 -- Serves Rows.antt.
--- What drops come to, by the exit status.
+-- The rows of drops, by the exit status.
 use Rattle.std.proofs.Common.{◌≡◌, ℕ, true, false, List, [], ◌∷◌, Contains, slice_index, refl, sym, ◌∙◌, subst, arith}
 use Rattle.std.proofs.Common.{inl, inr}
 use Rattle.chip_graph.specs.ChipGame.{ChipGame}
@@ -30,7 +30,7 @@ closes g ds g' o more played (h, h_more, rests) =
     (λ v has. stable v ((legal_vertices_law g'.graph (slice_index o.chips.items) v).0 has)) in
     rw (over, played.sealed) refl
 
--- and else it does not
+-- otherwise it does not
 stopped : (g : ChipGame) (ds : List (ℕ × ℕ)) (g' : ChipGame) (o : Outcome) → HasMore g ds g' → IsPlayed g' o
     → is_closed o ≡ false → Closes g ds → ⊥
 stopped g ds g' o more played open_yet closing = let closed = closes g ds g' o more played closing in cc
@@ -50,7 +50,7 @@ none_more g = record {
   total = omega arith;
 }
 
--- what drops come to, by the status of the outcome
+-- the rows of drops, by the status of the outcome
 pub rows_by : (g : ChipGame) (ds : List (ℕ × ℕ)) (text : List ℕ) (g' : ChipGame) (o : Outcome) (status : ℕ)
     → IsPlayed g' o → status ≡ plain_status o → DropsComeTo g ds text g' o → AreRowsBy g ds text status
 rows_by g ds text g' o status played is (inl (tells, more)) =

@@ -1,5 +1,5 @@
 -- Serves Answers.antt, Rows.antt.
--- What callers ask of texts, by what the commands answer.
+-- What callers ask of texts, from what the commands return.
 use Rattle.std.proofs.Common.{◌≡◌, ℕ, List, [], ◌++◌, Option, Some, None, Result, Ok, Err, MatchResult}
 use Rattle.std.proofs.Common.{refl, sym, ap, ◌∙◌, subst, inl, inr, ◌↔◌, ◌==◌, true}
 use Rattle.chip_graph.specs.Limits.{standard}
@@ -24,7 +24,7 @@ use Rattle.examples.specs.Rows.{AreDropRows, AreRowsBy}
 use Rattle.examples.proofs.EndLemmas.{every_end}
 use Rattle.examples.proofs.RowLemmas.{rows_by}
 
--- the report of an outcome is read back as it
+-- the report of an outcome reads back as the outcome
 pub read_again : (outcome : Outcome) → IsOutcome outcome → FitsIn standard outcome → (bytes : List ℕ)
     → bytes ≡ report_text outcome → (r : Result Outcome ReportFault)
     → GivesReport (IsReportWithin standard bytes) (IsNoReportWithin standard bytes) r
@@ -37,7 +37,7 @@ read_again outcome ok fits bytes is (Err f) (inr none) =
 
 module _ (graph chips : List ℕ) (limit : ℕ) (start report : List ℕ) (ended : Ended) (empty : start ≡ [])
     (writes : PlainWrites standard graph chips limit (Some start) (Some report) ended) where
-  -- what was written behind nothing is the report
+  -- what is written after nothing is the report
   pub is_report : IsGameReport graph chips limit report
   is_report =
       let (g, means, text, (o, played, is, status), out) = writes in
@@ -56,7 +56,7 @@ module _ (graph chips : List ℕ) (limit : ℕ) (start report : List ℕ) (ended
       out' ∙ ap (λ (before : List ℕ). before ++ text') empty' ∙ texts.0
       ∙ sym (out ∙ ap (λ (before : List ℕ). before ++ text) empty)
 
--- a report that was verified tells every end
+-- a verified report gives every end
 pub told_end : (graph chips report : List ℕ) (limit : ℕ) (old new : Option (List ℕ)) (ended : Ended)
     → VerifyAnswers standard (Some graph) (Some chips) (Some report) limit old new (Ok ended)
     → IsToldEnd graph chips limit report
@@ -78,7 +78,7 @@ drops_ended None (Some new) o ended is = absurd is
 drops_ended (Some old) None o ended is = absurd is
 drops_ended (Some old) (Some new) o ended is = is.0
 
--- what the rows are that it wrote behind nothing
+-- the rows that it writes after nothing
 pub are_rows : (graph chips drops : List ℕ) (limit : ℕ) (start text : List ℕ) (old new : Option (Option (List ℕ)))
     (ended : Ended) → start ≡ []
     → AvalanchesAnswers standard (Some graph) (Some chips) (Some drops) limit
@@ -98,7 +98,7 @@ are_rows graph chips drops limit start text old new ended empty
           (rows_by g ds rows g' o ended.status played status comes),
     )
 
--- what was written behind nothing is the recurrent representative
+-- what is written after nothing is the recurrent representative
 pub is_recurrent_of : (graph chips start text : List ℕ) (ended : Ended) → start ≡ []
     → RecurrentAnswers standard (Some graph) (Some chips) (Some start) (Some text) (Ok ended)
     → IsRecurrentOf graph chips text (ended.status == 0)

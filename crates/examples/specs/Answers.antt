@@ -30,8 +30,8 @@ pub record IsEveryEnd (g : ChipGame) (fired chips : List ℕ) : Type 0 where
   pub counted : (vs : List ℕ) → IsFullPlay g vs → (v : ℕ) → slice_index fired v ≡ counts vs v
   pub left : (vs : List ℕ) → IsFullPlay g vs → (v : ℕ) → slice_index chips v ≡ final_chips g vs v
 
--- wherever a whole play of the game ended: `count` chips dropped on v there set off what the avalanche tells, in each
--- firing sequence that ends
+-- wherever a whole play of the game ended: `count` chips dropped on v there set off this avalanche, in each firing
+-- sequence that ends
 abbrev pub SetsOffAvalanche : ChipGame → (v count : ℕ) → Avalanche → Type 0
 SetsOffAvalanche g v count a = (us : List ℕ) → IsFullPlay g us → (vs : List ℕ)
     → IsFiringSequence g.graph (dropped (final_chips g us) v count) vs
@@ -51,7 +51,7 @@ abbrev pub IsGameReport : (graph_text chips_text : List ℕ) → ℕ → List �
 IsGameReport graph_text chips_text limit report = (g : ChipGame) × MeansGame standard graph_text chips_text limit g
     × (o : Outcome) × IsEveryEnd g o.fired.items o.chips.items × (report ≡ report_text o)
 
--- a report of any sitting tells the counts and the chips of every whole play of the game of two texts
+-- a report of any stage gives the counts and the chips of every whole play of the game of two texts
 abbrev pub IsToldEnd : (graph_text chips_text : List ℕ) → ℕ → List ℕ → Type 0
 IsToldEnd graph_text chips_text limit report = (g : ChipGame) × MeansGame standard graph_text chips_text limit g
     × (told : Resumed) × IsAnyReportWithin standard report told
@@ -63,14 +63,14 @@ abbrev pub firings_by : ℕ → List (ℕ × ℕ) → List ℕ
 firings_by v [] = []
 firings_by v (x ∷ xs) = if x.0 == v then x.1 ∷ firings_by v xs else firings_by v xs
 
--- a text has the recurrent chips that are equivalent to those of two texts, and it is said whether those are recurrent
+-- a text has the recurrent chips equivalent to those of two texts, and the flag says whether those are recurrent
 abbrev pub IsRecurrentOf : (graph_text chips_text text : List ℕ) → Bool → Type 0
 IsRecurrentOf graph_text chips_text text is_it = (g : ChipGame) × MeansGame standard graph_text chips_text max_limit g
     × (c : List ℕ) × (text ≡ text_of_chips c) × IsRecurrent g.graph (slice_index c)
     × AreEquivalent g.graph (slice_index g.start) (slice_index c)
     × ((is_it ≡ true) ↔ IsRecurrent g.graph (slice_index g.start))
 
--- a text has the identity of the group of the graph of another
+-- a text has the identity of the group of another text's graph
 abbrev pub IsIdentityOf : (graph_text text : List ℕ) → Type 0
 IsIdentityOf graph_text text = (G : Multigraph) × MeansGraph standard graph_text G
     × (c : List ℕ) × (text ≡ text_of_chips c) × IsIdentity G (slice_index c)

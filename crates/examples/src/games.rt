@@ -1,4 +1,4 @@
-//! Games, by numbers.
+//! Games given by numbers.
 
 ghost use Rattle.std.specs.Prelude.{◌≡◌, ℕ, ◌+◌, ◌<◌, ◌≤◌, sum, IfOk, IfSome, OnErr};
 ghost use Rattle.chip_graph.specs.Limits.{max_total};
@@ -15,8 +15,8 @@ use chip_library::{CallFault, EdgeLists, stabilize_all};
 use chip_report::is_closed;
 use std::alloc::{AllocError, Global};
 
-/// How the game on these edges ends, in whatever order vertices fire; none if the numbers make no game, or memory runs
-/// out.
+/// How the game on these edges ends, in whatever order vertices fire; `None` if the numbers make no game, or memory
+/// runs out.
 pub fn end_of_edges(
     alloc: Global,
     vertices: u64,
@@ -38,7 +38,7 @@ pub fn end_of_edges(
     plain(alloc, &game).ok()
 }
 
-/// Goes on with a play that a limit stopped. What was fired before counts.
+/// Continues a play that a limit stopped. What was fired before counts.
 pub fn go_on(
     alloc: Global,
     graph: Graph,
@@ -51,7 +51,7 @@ pub fn go_on(
     resume(alloc, graph, earlier, limit)
 }
 
-/// What `count` chips set off that are dropped on a vertex once the game is over; none if the limit stops it.
+/// The avalanche of `count` chips dropped on a vertex once the game is over; `None` if the limit stops it.
 pub fn avalanche(
     alloc: Global,
     game: Game,
@@ -72,7 +72,7 @@ pub fn avalanche(
     Ok(avalanche)
 }
 
-/// How often each vertex fires in each of `games` games on one graph. Their chips become those at the end.
+/// How often each vertex fires in each of `games` games on one graph. Their chips are replaced by those at the end.
 pub fn end_of_each(
     alloc: Global,
     edges: EdgeLists<'_>,

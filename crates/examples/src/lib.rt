@@ -1,5 +1,5 @@
 //! Examples for callers of chipfire's libraries: each function is what a caller writes, and its contract says in the
-//! caller's words what comes of it (`specs/Answers.antt`).
+//! caller's terms what it guarantees (`specs/Answers.antt`).
 #![tactic(auto)]
 
 pub mod games;

@@ -1,4 +1,4 @@
-//! The machine, on one thread and on many, and a part of its detector.
+//! The machine, on one thread and on many, and a process of its detector.
 
 ghost use Rattle.std.specs.Prelude.{◌≡◌, ◌<◌, Contains, IfOk, MatchOption, true};
 ghost use Rattle.chip_graph.specs.ChipGame.{ChipGame};
@@ -18,7 +18,7 @@ use std::alloc::Global;
 use std::sync::Wait;
 use std::thread::Threads;
 
-/// How a game ends that actors play, each making one turn in each round; `NotClosed` if `rounds` rounds are too few.
+/// How a game ends that actors play, each making one turn per round; `NotClosed` if `rounds` rounds are too few.
 pub fn end_of_actors(
     alloc: Global,
     game: &Game,
@@ -33,7 +33,7 @@ pub fn end_of_actors(
     world.outcome(alloc)
 }
 
-/// Lets each worker make all turns of its plan.
+/// Admits every turn of each worker's plan.
 struct Open;
 
 impl Gate for Open {
@@ -69,7 +69,7 @@ pub fn end_of_threads<R: Threads + Wait>(
     Ok((finished.outcome, plain(alloc, game)?))
 }
 
-/// How a game ends that threads play while chips are fed, each time to one vertex: as the game that has them all at its
+/// How a game ends that threads play while chips are fed, each time to one vertex: as the game with all of them at its
 /// start.
 pub fn end_of_feeds<R: Threads + Wait>(
     rt: &R,
@@ -85,7 +85,7 @@ pub fn end_of_feeds<R: Threads + Wait>(
     Ok(finished.outcome)
 }
 
-/// How a game ends that threads play and that begins with a sealed edge: some firing sequence leads there.
+/// How a game ends that threads play with an edge sealed at the start: some firing sequence leads there.
 pub fn end_of_seal<R: Threads + Wait>(
     rt: &R,
     alloc: Global,
@@ -100,8 +100,8 @@ pub fn end_of_seal<R: Threads + Wait>(
     Ok(finished.outcome)
 }
 
-/// A part of another computation gets a message and passes one on; how many messages it may acknowledge then, with
-/// nothing else to do: none, since it waits for its own. No answer if it was engaged before.
+/// A process of another computation gets a message and passes one on. Returns how many messages it may then acknowledge
+/// with nothing else to do: none, since it waits for its own. `None` if it was engaged before.
 pub fn pass_on(detect: &mut Detect, from: u64, to: u64) -> Option<u64>
     requires into { Contains (in_edges detect.old) from }
     requires out { Contains (out_edges detect.old) to }

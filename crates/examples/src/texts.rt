@@ -1,4 +1,4 @@
-//! Files, reports and commands, over texts in memory.
+//! Files, reports and commands, on texts in memory.
 
 ghost use Rattle.std.specs.Prelude.{◌≡◌, ℕ, List, Some, IfOk, MatchResult};
 ghost use Rattle.chip_graph.specs.Limits.{standard};
@@ -34,7 +34,7 @@ pub fn game_of_texts(alloc: Global, graph: &[u8], chips: &[u8], limit: u64) -> R
     Ok(Game::new(graph, chips, limit)?)
 }
 
-/// An outcome that was reported and read back: the same numbers, or memory ran out.
+/// Reports an outcome and reads it back: the same numbers, or memory ran out.
 pub fn read_back(alloc: Global, outcome: &Outcome) -> Result<Outcome, ReportFault>
     requires outcome { IsOutcome outcome.now }
     requires few_vertices { FitsIn standard outcome.now }
@@ -44,7 +44,7 @@ pub fn read_back(alloc: Global, outcome: &Outcome) -> Result<Outcome, ReportFaul
     read_report(alloc, &bytes)
 }
 
-/// A report that was read and is written again: the same bytes.
+/// Reads a report and writes it again: the same bytes.
 pub fn write_again(alloc: Global, bytes: &[u8]) -> Result<Vec<u8>, ReportFault>
     ensures { IfOk result (λ again. again.items ≡ bytes.now) }
 {
@@ -79,7 +79,7 @@ pub fn with_guess(
     Ok((without, with))
 }
 
-/// Checks that a report tells how the game of two other texts ends.
+/// Verifies that a report gives the end of the game of two other texts.
 pub fn verify_report(
     alloc: Global,
     graph: &[u8],
@@ -95,7 +95,7 @@ pub fn verify_report(
     Ok(())
 }
 
-/// A row for each drop of a file that is made on the game of two other texts, and how the command ended.
+/// Writes a row for each drop of a file on the game of two other texts. Returns the rows and how the command ended.
 pub fn rows_of_drops(
     alloc: Global,
     graph: &[u8],
@@ -120,7 +120,7 @@ pub fn rows_of_drops(
     Ok((text, ended))
 }
 
-/// A chips file with the recurrent configuration that is equivalent to that of two texts, and whether this is recurrent.
+/// A chips file with the recurrent configuration equivalent to a given one, and whether the given one is recurrent.
 pub fn recurrent_of_texts(
     alloc: Global,
     graph: &[u8],
@@ -134,7 +134,7 @@ pub fn recurrent_of_texts(
     Ok((text, ended.status == 0))
 }
 
-/// A chips file with the identity of the sandpile group of the graph of a text.
+/// A chips file with the identity of the sandpile group of a text's graph.
 pub fn identity_of_text(alloc: Global, graph: &[u8]) -> Result<Vec<u8>, Fault>
     ensures { IfOk result (λ text. IsIdentityOf graph.now text.items) }
 {

@@ -6,19 +6,19 @@ use crate::tuning::{CLEAR_LOSS, PATCH};
 use std::alloc::{AllocError, Global};
 use std::num::{nearest_i64_to_f64, nearest_u64_to_f64};
 
-/// What the vertices of a patch have that fire while counts are burnt.
+/// Sums over the vertices of a patch that fire while counts are burnt.
 #[derive(Clone, Copy, Default)]
 struct Sum {
-    /// The chips above the least heights, and how many full heights are above these.
+    /// The chips above the least heights, and the room between least and full heights.
     chips: f64,
     room: f64,
-    /// How often more they fired before the counts were lowered.
+    /// How many more times they fired before the counts were lowered.
     lost: f64,
     vertices: f64,
 }
 
 impl Sum {
-    /// The height of a vertex of this degree, which stood at another one.
+    /// The new height of a vertex of this degree with this height before.
     fn height(&self, degree: i64, before: f64, is_first: bool) -> f64 {
         let HeightRange { least, full } = HeightRange::of(degree);
         let mean = least + (full - least) * (self.chips / self.room);
@@ -36,9 +36,9 @@ impl Sum {
 }
 
 impl Search {
-    /// Fits target heights to what counts, which were lowered between walls, leave in each patch. After the first fit a
-    /// height goes twice the way to the mean of its patch, if that has clearly lost firings: between walls counts come
-    /// only a part of the way.
+    /// Fits target heights to what counts that were lowered between walls leave in each patch. After the first fit a
+    /// height moves twice the way to the mean of its patch, if the patch has clearly lost firings, since between walls
+    /// counts go only part of the way.
     pub(super) fn fit_heights(
         &mut self,
         alloc: Global,
@@ -58,7 +58,7 @@ impl Search {
         Ok(())
     }
 
-    /// Adds up what the vertices of each patch have.
+    /// Adds up the vertices of each patch.
     fn add_up(&self, target: Target<'_>, patches: &[u32], sums: &mut [Sum]) {
         for (vertex, patch) in patches.iter().enumerate() {
             let (counts, fired) = (self.counts.as_slice(), target.fired);
@@ -78,8 +78,8 @@ impl Search {
     }
 }
 
-/// Finds the patch of each vertex: of about `PATCH` vertices that lie together, the aggregates on the first level that
-/// has so few. How many patches there are.
+/// Finds the patch of each vertex, of about `PATCH` vertices that lie together: its aggregate on the first level with
+/// few enough vertices. Returns the number of patches.
 fn find_patches(hierarchy: &Hierarchy, patches: &mut [u32]) -> usize {
     for (vertex, patch) in patches.iter_mut().enumerate() {
         *patch = narrow(vertex);

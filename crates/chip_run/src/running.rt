@@ -20,7 +20,7 @@ use std::io::{Read, Write};
 use std::sync::Wait;
 use std::thread::Threads;
 
-/// Lets every worker pass.
+/// Admits every turn.
 struct Always;
 
 impl Gate for Always {
@@ -36,23 +36,23 @@ impl Gate for Always {
 /// The options of a run.
 #[derive(Clone, Copy)]
 pub struct RunOptions {
-    /// How large the game may be.
+    /// The limits of the game.
     pub limits: Limits,
-    /// How often a vertex may fire at most.
+    /// The most firings of a vertex.
     pub limit: u64,
-    /// It seals nothing.
+    /// A plan that seals nothing.
     pub plan: Plan,
     pub sharing: Sharing,
 }
 
 /// Plays the game of a graph file, a chips file and a firing limit, within the standard limits, on `workers` threads,
-/// with rings of `ring` cells, each thread for `turns` turns at most. The chips of the file of feeds, if there is one,
-/// come while the vertices fire. If a trace is asked for, the rows that the actors wrote down are written first, at
-/// most `trace_rows` of each vertex, and then the report.
+/// with rings of `ring` cells, each thread for at most `turns` turns. The chips of the file of feeds, if there is one,
+/// come while the vertices fire. If a trace is asked for, the rows that the actors wrote down, at most `trace_rows` of
+/// each vertex, are written before the report.
 ///
 /// Its bytes and its status are those of `plain_engine` for the game that has all these chips at the start, however the
-/// threads were scheduled. The readers are read in their order. The report is made whole before the first byte of
-/// either is written, and if the trace cannot be written, nothing of the report is.
+/// threads were scheduled. The readers are read in order. The whole report is made before the first byte of either
+/// output is written. If the trace cannot be written, nothing of the report is.
 pub fn run_engine<R: Threads + Wait + Sync, G: Read, C: Read, F: Read, T: Write, W: Write>(
     rt: &R,
     alloc: Global,
@@ -95,7 +95,7 @@ pub fn run_engine<R: Threads + Wait + Sync, G: Read, C: Read, F: Read, T: Write,
 }
 
 /// Does what `run_engine` does, by these options; the workers of `run_engine` share one queue. The gate is asked before
-/// each turn and always answers true. It is told of the polls, and changes nothing of the bytes and the status.
+/// each turn and always returns true. It also sees the polls, and changes neither the bytes nor the status.
 pub fn run_engine_with<
     R: Threads + Wait + Sync,
     G: Read,
@@ -170,7 +170,7 @@ fn play<R: Threads + Wait + Sync, K: Gate + Sync>(
     }
 }
 
-/// A crew's fault, without the root. Its number is the same.
+/// A crew's fault without the root. Its number is the same.
 fn fault_of_crew(fault: CrewFault) -> Fault
     ensures fault { result ≡ Rattle.chip_run.specs.RunCommand.fault_of_crew fault }
     ensures number { command_fault_number result ≡ crew_fault_number fault }

@@ -49,7 +49,7 @@ ins s xs = count_rows (is_in s) xs
 
 -- ---- activity
 
--- whether a process is active after these steps, that was so or not before them: a basic message makes it active
+-- whether a process is active after these steps, which was so or not before them: a basic message makes it active
 abbrev pub active_after : Bool → List Step → Bool
 active_after was [] = was
 active_after was (In s ∷ steps) = active_after (if s.is_control then was else true) steps
@@ -61,7 +61,7 @@ abbrev pub begins_active : List Step → Bool
 begins_active (Active ∷ steps) = true
 begins_active _ = false
 
--- whether p is active behind these rows of a log
+-- whether p is active after these rows of a log
 abbrev pub is_active : List LogRow → List LogRow → ℕ → Bool
 is_active log before p = active_after (begins_active (steps_of p log)) (steps_of p before)
 

@@ -38,7 +38,7 @@ pub record IsGreatest (log used : List LogRow) : Type 0 where
   pub progress : IsProgress log used
   pub stuck : (p : ℕ) (step : Step) (later : List Step) → progress.left p ≡ step ∷ later → is_enabled log used p step ≡ false
 
--- at greatest progress p is the least process with a row left, and i rows of it were done
+-- after maximal progress p is the least process with a row left, and i rows of it were done
 pub record IsStuck (log : List LogRow) (p i : ℕ) : Type 0 where
   pub used : List LogRow
   pub greatest : IsGreatest log used

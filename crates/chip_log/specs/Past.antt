@@ -1,4 +1,4 @@
--- What is known of the least past of a claim.
+-- What is known of the causal past of a claim.
 use Rattle.std.specs.Prelude.{◌≡◌, ℕ, ◌+◌, ◌^◌, ◌<◌, List, [], length, take, slice_get, Some}
 use Rattle.std.specs.Prelude.{All}
 use Rattle.chip_log.specs.declared.row.LogRow.{LogRow}
@@ -44,7 +44,7 @@ pub record AreSized (sizes : Sizes) (b : Books) : Type 0 where
   pub taken : b.taken.channels ≡ sizes.channels
   pub sent : b.sent.channels ≡ sizes.channels
 
--- messages on their way behind these rows
+-- messages in transit after these rows
 abbrev pub AreInFlight : List LogRow → TallyState → Type 0
 AreInFlight pre flight = (s : Stream) → count flight s + ins s pre ≡ outs s pre
 
@@ -55,12 +55,12 @@ pub record AreKept (kept : List LogRow) (b : Books) : Type 0 where
   pub rows : (q : ℕ) → rows_at b q ≡ length (steps_of q kept)
   pub said : (q : ℕ) → said_at b q ≡ said_of (steps_of q kept)
 
--- the books of the rows `kept` of the past, where `pre` were not looked at
+-- the books of the rows `kept` of the past, where `pre` were not read
 pub record AreBooksOf (pre kept : List LogRow) (b : Books) : Type 0 where
   pub flight : AreInFlight pre b.flight
   pub keeps : AreKept kept b
 
--- the books of the least past of a claim
+-- the books of the causal past of a claim
 pub record IsPastOf (log : List LogRow) (sizes : Sizes) (claim : ClaimPlace) (b : Books) : Type 0 where
   pub sized : AreSized sizes b
   pub past : List LogRow

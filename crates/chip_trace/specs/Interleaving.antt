@@ -7,7 +7,7 @@ use Rattle.chip_link.specs.declared.trace.TraceRow.TheVariants.{Take, Fire}
 use Rattle.chip_graph.specs.Multigraph.{Multigraph, edge_at, degree}
 use Rattle.chip_graph.specs.ChipGame.{ChipGame}
 
--- ---- what the rows of one vertex come to
+-- ---- what the rows of one vertex result in
 
 -- the firings, in order
 abbrev pub fires : List TraceRow → List ℕ
@@ -34,8 +34,8 @@ abbrev pub opening : ℕ → List ℕ
 opening zero = []
 opening (suc chips) = suc chips ∷ []
 
--- the messages of an edge, in order, if the vertices have made these firings: one for each firing of its tail;
--- root edge m + v, behind the m graph edges, has the start of v
+-- the messages of an edge, in order, if the vertices have made these firings: one for each firing of its tail; root
+-- edge m + v, after the m graph edges, has the start of v
 abbrev pub messages : ChipGame → (ℕ → List ℕ) → ℕ → List ℕ
 messages g fired e =
     if nat_lt e (length g.graph.edges)

@@ -1,4 +1,4 @@
--- Where an actor's turn stands, and how it goes on, of whatever part the actor stands for.
+-- The place of an actor's turn, and how it goes on, whatever part the actor stands for.
 use Rattle.std.specs.Prelude.{List, Option}
 use Rattle.chip_part.specs.declared.act.Act.{Act}
 use Rattle.chip_part.specs.Part.{Part}

@@ -1,4 +1,4 @@
--- Where a reader of rows stands in a text, and what visiting its rows answers.
+-- The place of a reader of rows in a text, and the results of visiting its rows.
 use Rattle.std.specs.Prelude.{◌≡◌, ℕ, ◌+◌, Bool, true, false, List, [], ◌∷◌, length, Option, Some, None, IsSome}
 use Rattle.std.specs.Prelude.{unwrap_or, Result}
 use Rattle.std.specs.Borrow.{Bor}
@@ -36,7 +36,7 @@ abbrev pub TakesRow : Bool → Row → List Row → List Row → Type 0
 TakesRow true row old new = old ≡ row ∷ new
 TakesRow false row old new = old ≡ []
 
--- all rows under a header were visited, from a first visitor on, or the first fault of the records is answered
+-- all rows under a header were visited, from a first visitor on, or the result is the first fault of the records
 abbrev pub VisitsRecords : {V : Type 0} → RowFault → (List Row → V → Type 0) → Row → List Row → V → Result V FileFault
     → Type 0
 VisitsRecords row_fault HasVisited header records first result =

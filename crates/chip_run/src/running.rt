@@ -126,7 +126,7 @@ pub fn run_engine_with<
         (W.contents output.old) (W.contents output.new) result }
     ensures any { ReportsSomeRun (W.contents output.old) (W.contents output.new) result }
 {
-    // (the game is not held while the texts go out)
+    // (the game is dropped before the texts are written)
     let (answer, actors) = {
         let game = read_game(alloc, options.limits, graph, chips, options.limit)?;
         let feeds = read_fed(alloc, options.limits, feed, game.graph().vertices())?;

@@ -1,5 +1,5 @@
 -- Serves CommandAnswers.antt.
--- From the steps of a command to what it answers.
+-- From the steps of a command to its results.
 use Rattle.std.proofs.Common.{◌≡◌, ℕ, List, false, Option, Result, Ok, Err, inl, inr, ap}
 use Rattle.std.specs.Result.{IsErrAnd}
 use Rattle.chip_command.specs.CommandAnswers.{Spec, CommandAnswers}
@@ -19,7 +19,7 @@ pub refused : {spec : Spec (List ℕ × ℕ)} {known : Option (List ℕ)} {resul
     → IsErrAnd result (λ f. f ≡ fault) → spec.refuses fault → CommandAnswers spec known known result
 refused {known = known} fault is why = rw (handed_on fault is) (record { answer = inl (why, Keeps-same known) })
 
--- the answer of a command goes out, or the output fails
+-- the answer of a command is written, or the output fails
 pub delivered : {spec : Spec (List ℕ × ℕ)} {old new : Option (List ℕ)} {result : Result Ended Fault}
     (text : List ℕ) (status : ℕ)
     → Delivers old new text (record { status = status; cut = false }) result → spec.gives (text, status)

@@ -89,7 +89,7 @@ fn early_acknowledgements(rt: HostRuntime) {
     assert!(rt; last_verdict(&rt, SIZES, &WHEN_PASSIVE) == Some(on_its_way));
 }
 
-/// Safra: the token goes from 0 to 2 to 1 to 0. After its first visit process 2 is woken by 1 and answers. The token
+/// Safra: the token goes from 0 to 2 to 1 to 0. After its first visit process 2 is woken by 1 and replies. The token
 /// comes back black in the first round and in the second, and white in the third.
 const SAFRA: [LogRow; 26] = [
     hear!(2, 0),

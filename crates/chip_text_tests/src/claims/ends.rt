@@ -24,7 +24,7 @@ const CLAIMS: [LogRow; 12] = [
     row!(0, Step::Over),
 ];
 
-/// Counts the claims that it is told of.
+/// Counts the claims that it sees.
 #[derive(Drop)]
 struct Count(usize);
 

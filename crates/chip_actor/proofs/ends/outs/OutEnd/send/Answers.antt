@@ -12,7 +12,7 @@ pub returns-then-self-eq0-clause-moves : goal.returns-then-self-eq0-clause-moves
 returns-then-self-eq0-clause-moves g c = λ a apart below meets.
     sends_nothing a c.args.self.now apart below meets c.if-self-eq0.true
 
--- an actor with this end stands before the look
+-- an actor with this end is before the look
 looks : (g : Over) (c : After-cell-cell g) (a : Actor) → AreApart a.outs.edges a.outs.ends
     → c.args.index < length a.outs.edges
     → Meets (g.M.Medium.holds c.args.medium.now)

@@ -20,7 +20,7 @@ use Rattle.chip_detect.specs.Acknowledging as detector
 
 -- ---- a take
 
--- a message came out of a cell that wasn't empty
+-- a message came out of a cell that was not empty
 pub message_seen : (seen : ℕ) (h : HeadState) (m : Message) → Some m ≡ message_taken seen h → seen ≢ 0
 message_seen seen h m is none = grind (arith, nat_tests)
 

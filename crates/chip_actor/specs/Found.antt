@@ -49,8 +49,8 @@ pub record KeepsSteps (now : Holding) (g : Setting) (v : ℕ) (ds : List Step) (
   pub stands : StandsFor g s b
   pub vertex : b.vertex ≡ v
 
--- the result of an event of the vertex v, of whose rules this is the first that is not met: nothing is made, or the
--- record is longer by the event
+-- the result of an event of the vertex v, given the first of its rules that is not met: if there is one nothing is
+-- made, else the record is longer by the event
 abbrev pub IsAnswered : Holding → Setting → ℕ → List Step → Part → Event → Actor → Reply → Option Rule → Type 0
 IsAnswered now g v ds s x b reply (Some rule) = KeepsSteps now g v ds s b × (reply ≡ NotNow rule)
 IsAnswered now g v ds s x b reply None = (seen : ℕ) × KeepsSteps now g v (saw x seen ∷ ds) (does g (saw x seen) s) b

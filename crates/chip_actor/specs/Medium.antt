@@ -19,7 +19,7 @@ use Rattle.chip_actor.specs.Actor.{Actor, StandsFor}
 abbrev pub Holding : Type 1
 Holding = Setting → ℕ → List Step → Part → Type 0
 
--- the operation is the one that an event of the vertex v needs, whose rules are met
+-- the operation is that of an event of the vertex v whose rules are met
 pub record IsDueBy (g : Setting) (v : ℕ) (s : Part) (act : Act) : Type 0 where
   pub mine : part_of g (event_of v act) ≡ v
   pub met : unmet_rule g (event_of v act) s ≡ None

@@ -332,7 +332,7 @@ impl ActorState {
         }
     }
 
-    // The same of an event whose edge is not found yet.
+    // The same for an event whose edge is not found yet.
     fn act(&self, event: &Event) -> Act
         requires { SomePart self.now
             (λ g s. (part_of g event.now ≡ self.now.vertex) × (unmet_rule g event.now s ≡ None)) }

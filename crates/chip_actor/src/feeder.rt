@@ -131,7 +131,7 @@ impl FeederState {
         }
     }
 
-    /// Notes a claim for `count` chips, which saw its own number of claims.
+    /// Notes a claim for `count` chips; the word that it saw is the tail's own number of claims.
     pub(crate) fn feed(&mut self, vertex: usize, count: u64, seen: u64) -> Reply
         requires vertex { (vertex < length self.old.tails) × (vertex < length self.old.given) }
         requires clear { (tail_at self.old vertex).clear ≡ true }

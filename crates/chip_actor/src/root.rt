@@ -104,7 +104,7 @@ impl RootBooks {
         }
     }
 
-    // The same of a put there.
+    // The same for a put there.
     fn put_rule(&self, edge: u64) -> Option<Rule>
         requires { SomeRoot self.now (λ g s. graph_edges g ≤ edge) }
         ensures { WhateverRoot self.now (λ g s. graph_edges g ≤ edge → result ≡ unmet_rule g (Put edge) s) }
@@ -115,7 +115,7 @@ impl RootBooks {
         }
     }
 
-    // The same of a feed over an edge.
+    // The same for a feed over an edge.
     fn feed_rule(&self, edge: u64, count: u64) -> Option<Rule>
         requires { SomeRoot self.now (λ g s. ⊤) }
         ensures { WhateverRoot self.now (λ g s. result ≡ unmet_rule g (Feed edge count) s) }
@@ -286,7 +286,7 @@ impl RootBooks {
         self.count(vertex, seen)
     }
 
-    /// The same of a root edge by its own number.
+    /// The same for a root edge by its own number.
     fn settle_edge(&mut self, edge: u64, seen: u64) -> Reply
         requires { SomeRoot self.old (λ g s. RootCanDo g s (Settle edge) seen) }
         ensures { RootMakes self.old self.new (Settle edge) seen result }

@@ -8,7 +8,7 @@ use Rattle.chip_command.specs.declared.ended.Ended.{Ended}
 use Rattle.chip_command.specs.declared.fault.Fault.{Fault}
 use Rattle.chip_command.proofs.InputLemmas.{Keeps-same}
 
--- a fault that is handed on
+-- a fault that is passed on
 pub handed_on : {T : Type 0} {result : Result T Fault} (fault : Fault) → IsErrAnd result (λ f. f ≡ fault)
     → result ≡ Err fault
 handed_on {result = Ok value} fault is = absurd is

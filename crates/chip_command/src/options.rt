@@ -9,7 +9,7 @@ use chip_graph::Limits;
 #[derive(Clone, Copy)]
 pub struct PlayOptions {
     pub limits: Limits,
-    /// The most firings of a vertex.
+    /// The most firings of a vertex, 0 to 2^40.
     pub limit: u64,
 }
 

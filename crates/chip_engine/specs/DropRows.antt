@@ -65,7 +65,7 @@ abbrev pub HasDrops : Pile → List (ℕ × ℕ) → ℕ → Pile → Type 0
 HasDrops p ds n p' = HasMore p.game (take n ds) p'.game ⊎ HasMore p.game (take (n + 1) ds) p'.game
 
 -- the results of writing rows, with the pile p': the rows of the first n drops are written; or there is a fault, and
--- all of them are written but for what may be held back, when at most one drop more was made
+-- all of them are written except what may be held back, when at most one more drop was made
 abbrev pub WritesRows : Pile → List (ℕ × ℕ) → Option (List ℕ) → Option (List ℕ) → Pile → Result Bool Fault → Type 0
 WritesRows p ds old new p' (Ok all) = (n : ℕ) × (text : List ℕ) × (left : Pile) × LeavesRows p (take n ds) left text
     × EndsAt p ds n left p' all × Appends old new text

@@ -106,7 +106,7 @@ reading_log limits log =
       refuses = read.refuses;
     }
 
--- the same of the log of a reader
+-- the same for the log of a reader
 abbrev pub judging_from : JudgeOptions → Option (List ℕ) → Spec (List ℕ × ℕ)
 judging_from options log = bind (reading_log options.limits log) (λ (rows, _). judging options rows)
 

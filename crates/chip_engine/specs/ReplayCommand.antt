@@ -55,7 +55,7 @@ replaying complete g traces = record {
   refuses = OrMemory (λ fault. (vertex : ℕ) × (row : ℕ) × (fault ≡ Stuck vertex row) × IsStuck g traces vertex row);
 }
 
--- the same of the traces of a reader
+-- the same for the traces of a reader
 abbrev pub replaying_from : ReplayOptions → Option (List ℕ) → ChipGame → Spec (List ℕ × ℕ)
 replaying_from options trace g =
     bind (reading options.play.limits (λ text traces. traces_of_text g.graph text ≡ Some traces)

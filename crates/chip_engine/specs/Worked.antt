@@ -40,7 +40,7 @@ pub record WentOn (r : Resumed) : Type 0 where
 abbrev pub never_stopped : List ℕ
 never_stopped = 0 ∷ 0 ∷ 1 ∷ 0 ∷ []
 
--- its totals are those of the play that is never stopped, and so are its chips; its status, and its report
+-- its totals and its chips are those of the play that is never stopped; its status, and its report
 pub record IsToldAsWentOn (r : Resumed) : Type 0 where
   pub counted : on_each (fired_in_all r) ≡ on_each (counts never_stopped)
   pub position : on_each (slice_index r.outcome.chips.items)

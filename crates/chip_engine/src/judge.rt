@@ -18,7 +18,7 @@ use chip_log::{
 use std::alloc::{AllocError, Global};
 use std::io::{Read, Write};
 
-/// The options of a judgement.
+/// The options of a judgment.
 #[derive(Clone, Copy)]
 pub struct JudgeOptions {
     /// The limits of the log: at most twice as many processes and channels as a graph has vertices and edges.

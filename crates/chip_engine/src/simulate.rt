@@ -41,9 +41,10 @@ pub struct SimulateOptions {
 }
 
 /// Runs a schedule on the game of a graph file, a chips file and a firing limit, within the standard limits, with rings
-/// of `ring` cells, and then at most `rounds` rounds of turns. Writes a line for each reply of the schedule, and the
-/// report if the root closes. With `fed` the schedule also feeds chips, and the game closes only after the schedule
-/// ends the feeding. Then `rounds_to_close` rounds (of `chip_world`) close it, if the root has put what it claimed.
+/// of `ring` cells (1 to 64), and then at most `rounds` rounds of turns. Writes a line for each reply of the schedule,
+/// and the report if the root closes. With `fed` the schedule also feeds chips, and the game closes only after the
+/// schedule ends the feeding. Then `rounds_to_close` rounds (of `chip_world`) close it, if the root has put what it
+/// claimed.
 pub fn simulate_engine<G: Read, C: Read, S: Read, W: Write>(
     alloc: Global,
     graph: &mut G,

@@ -133,7 +133,7 @@ tells_failed T f kind (inl (inl e)) = rw e (λ is. is)
 tells_failed T f kind (inl (inr e)) = rw e (λ is. inl is)
 tells_failed T f kind (inr e) = rw e (λ is. is)
 
--- a fault that a text gives is none of its source
+-- a fault of a text is not one of its source
 other_fault : (IsFault : FileFault → Type 0) (f : FileFault) → (f ≡ fault.NoMemory) ⊎ IsFault f
     → ((g : FileFault) → IsFault g → is_of_source g ≡ false) → is_of_source f ≡ false
 other_fault IsFault f (inl memory) alone = rw memory refl

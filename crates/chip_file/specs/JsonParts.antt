@@ -63,12 +63,12 @@ Stands most found parts =
 abbrev pub Takes : ℕ → List ℕ → Data → Parts → Parts → Type 0
 Takes most name d old new = (found : Members) → Stands most found old → Stands most (put name d found) new
 
--- the graph of a file of which the edges are kept
+-- the graph of a file whose edges are kept
 abbrev pub KeepsGraph : ℕ → Multigraph → Kept → Type 0
 KeepsGraph most graph kept =
     (graph.vertices ≡ kept.vertices) × (graph.sink ≡ kept.sink) × KeepsEdges most graph.edges kept.edges.items
 
--- a file of which the edges are kept
+-- a file whose edges are kept
 abbrev pub KeepsFile : ℕ → Option GraphFile → Option Kept → Type 0
 KeepsFile most (Some file) (Some kept) = (file.version ≡ kept.version) × KeepsGraph most file.graph kept
 KeepsFile most None None = ⊤

@@ -53,13 +53,13 @@ abbrev pub MayRead : {T : Type 0} → ℕ → List Token → List Token → (Dat
 MayRead depth old new Is (Ok x) = (d : Data) × (next_value depth old ≡ Some (d, new)) × Is d x
 MayRead depth old new Is (Err f) = (f ≡ NoMemory) ⊎ ((f ≡ NotJson) × (next_value depth old ≡ None))
 
--- the same of the items that are left of an array
+-- the same for the items that are left of an array
 abbrev pub MayReadItems : {T : Type 0} → ℕ → List Token → List Token → (Items → T → Type 0) → Result T FileFault
     → Type 0
 MayReadItems depth old new Is (Ok x) = (ds : Items) × ItemsAre depth old (Some (ds, new)) × Is ds x
 MayReadItems depth old new Is (Err f) = (f ≡ NoMemory) ⊎ ((f ≡ NotJson) × ItemsAre depth old None)
 
--- the same of the members that are left of an object, after those that were found
+-- the same for the members that are left of an object, after those that were found
 abbrev pub MayReadMembers : {T : Type 0} → ℕ → Members → List Token → List Token → (Members → T → Type 0)
     → Result T FileFault → Type 0
 MayReadMembers depth found old new Is (Ok x) = (ms : Members) × MembersAre depth old found (Some (ms, new)) × Is ms x

@@ -24,12 +24,12 @@ abbrev pub ReadsValue : {T E : Type 0} → ℕ → List Token → List Token →
 ReadsValue depth old new Is (Ok x) = (d : Data) × (next_value depth old ≡ Some (d, new)) × Is d x
 ReadsValue depth old new Is (Err e) = next_value depth old ≡ None
 
--- the same of the items that are left of an array
+-- the same for the items that are left of an array
 abbrev pub ReadsItems : {T E : Type 0} → ℕ → List Token → List Token → (Items → T → Type 0) → Result T E → Type 0
 ReadsItems depth old new Is (Ok x) = (ds : Items) × ItemsAre depth old (Some (ds, new)) × Is ds x
 ReadsItems depth old new Is (Err e) = ItemsAre depth old None
 
--- the same of the members of an object
+-- the same for the members of an object
 abbrev pub ReadsMembers : {T E : Type 0} → ℕ → List Token → List Token → (Members → T → Type 0) → Result T E → Type 0
 ReadsMembers depth old new Is (Ok x) = (ms : Members) × MembersAre depth old no_members (Some (ms, new)) × Is ms x
 ReadsMembers depth old new Is (Err e) = MembersAre depth old no_members None

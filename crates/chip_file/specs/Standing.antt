@@ -14,7 +14,7 @@ use Rattle.chip_file.specs.Rows.{Row, RowFault, records_fault, rows_under_header
 abbrev pub RecordReader : Type 0
 RecordReader = Reader (Bor (List ℕ))
 
--- the bytes that it has left, if it hasn't failed
+-- the bytes that it has left, if it has not failed
 abbrev pub source : RecordReader → Option (List ℕ)
 source reader = source_of (λ s. Some s.now) reader
 
@@ -23,7 +23,7 @@ abbrev pub records_left : RecordReader → List Row
 records_left reader = records_from default_config (length (unwrap_or (source reader) []) + 1) (reader_state reader)
     (unwrap_or (source reader) [])
 
--- it reads as the files of rows are read, and hasn't failed
+-- it reads as the files of rows are read, and has not failed
 pub record IsOpen (reader : RecordReader) : Type 0 where
   pub config : reader_config reader ≡ default_config
   pub trim : reader_trim reader ≡ trim.None

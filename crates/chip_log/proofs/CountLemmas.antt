@@ -72,7 +72,7 @@ all_own test q (x ∷ xs) only =
     let a = all_own test q xs (λ p ne. let b = only p ne in grind (arith, nat_tests)) in let e = only x.process in
     grind (arith, nat_tests)
 
--- so it is for the first rows of each process
+-- the same for the first rows of each process
 pub first_own : (test : Step → Bool) (q : ℕ) (log now : List LogRow) (left : ℕ → List Step)
     → ((p : ℕ) → steps_of p now ++ left p ≡ steps_of p log)
     → ((p : ℕ) → p ≢ q → count_steps test (steps_of p log) ≡ 0) → count_rows test now ≡ count_steps test (steps_of q now)

@@ -12,7 +12,7 @@ use Rattle.chip_log.specs.Claims.{IsPast}
 use Rattle.chip_log.specs.Tally.{TallyState, count}
 use Rattle.chip_log.specs.Books.{said_of, said_at, rows_at, IsOf}
 
--- a log that is an interleaving as it stands
+-- a log that is an interleaving of itself
 pub record IsLog (log : List LogRow) : Type 0 where
   pub ends : HasEnds log
   pub met : AreEnabled log [] log
@@ -25,7 +25,7 @@ pub record FitsRow (sizes : Sizes) (x : LogRow) : Type 0 where
 abbrev pub Fits : Sizes → List LogRow → Type 0
 Fits sizes log = All (FitsRow sizes) log
 
--- it is one, of these sizes, with fewer rows than a count has room for
+-- such a log, of these sizes, with fewer rows than a count can have
 pub record IsInOrder (sizes : Sizes) (rows : List LogRow) : Type 0 where
   pub log : IsLog rows
   pub fits : Fits sizes rows

@@ -22,7 +22,7 @@ pub fn read_report(alloc: Global, bytes: &[u8]) -> Result<Outcome, ReportFault>
     read_report_within(alloc, Limits::standard(), bytes)
 }
 
-/// The outcome whose report the bytes are, if it fits in the limits.
+/// The outcome whose report the bytes are, if it fits in the limits, else `NotReport`.
 pub fn read_report_within(
     alloc: Global,
     limits: Limits,
@@ -43,8 +43,8 @@ pub fn read_any(alloc: Global, bytes: &[u8]) -> Result<Resumed, ReportFault>
     read_any_within(alloc, Limits::standard(), bytes)
 }
 
-/// The stage whose report the bytes are, if it fits in the limits: a first one, before which nothing was fired, or a
-/// later one.
+/// The stage whose report the bytes are, if it fits in the limits, else `NotReport`: a first stage, before which
+/// nothing was fired, or a later one.
 ///
 /// Only the report of a later stage ends in version 2, so the bytes are read as one version.
 pub fn read_any_within(alloc: Global, limits: Limits, bytes: &[u8]) -> Result<Resumed, ReportFault>

@@ -63,7 +63,7 @@ LogsFit = ForEveryLog (λ g log. HasOneEach g log
     → IsInterleaving (played_game g log) (traces_in g log) (rows_in g log)
     × ((v : ℕ) → times_of v (row_firings (rows_in g log)) ≡ fired_by g log v))
 
--- the same of each legal log of a game that is not fed
+-- the same for each legal log of a game that is not fed
 abbrev pub UnfedLogsFit : Type 0
 UnfedLogsFit = ForEveryLog (λ g log. g.fed ≡ false → IsInterleaving g.game (traces_in g log) (rows_in g log))
 

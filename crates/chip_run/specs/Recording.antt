@@ -27,7 +27,7 @@ pub record Records (actors : List ActorKnown) (old new : Option (List ℕ)) (cut
   pub text : Appends old new (trace_text (map rows_kept actors))
   pub cut_is : cut ≡ is_any_cut actors
 
--- the same of a writer, if there is one; without one no row is cut
+-- the same for a writer, if there is one; without one no row is cut
 abbrev pub RecordsIfAsked : List ActorKnown → Option (Option (List ℕ)) → Option (Option (List ℕ)) → Bool → Type 0
 RecordsIfAsked actors None None cut = cut ≡ false
 RecordsIfAsked actors None (Some new) cut = ⊥

@@ -38,17 +38,17 @@ impl Gate for Always {
 pub struct RunOptions {
     /// The limits of the game.
     pub limits: Limits,
-    /// The most firings of a vertex.
+    /// The most firings of a vertex, 0 to 2^40.
     pub limit: u64,
     /// A plan that seals nothing.
     pub plan: Plan,
     pub sharing: Sharing,
 }
 
-/// Plays the game of a graph file, a chips file and a firing limit, within the standard limits, on `workers` threads,
-/// with rings of `ring` cells, each thread for at most `turns` turns. The chips of the file of feeds, if there is one,
-/// come while the vertices fire. If a trace is asked for, the rows that the actors wrote down, at most `trace_rows` of
-/// each vertex, are written before the report.
+/// Plays the game of a graph file, a chips file and a firing limit, within the standard limits, on `workers` threads (1
+/// to 64), with rings of `ring` cells (1 to 64), each thread for at most `turns` turns (1 to 2^40). The chips of the
+/// file of feeds, if there is one, come while the vertices fire. If a trace is asked for, the rows that the actors
+/// wrote down, at most `trace_rows` of each vertex (0 to 2^20), are written before the report.
 ///
 /// Its bytes and its status are those of `plain_engine` for the game that has all these chips at the start, however the
 /// threads were scheduled. The readers are read in order. The whole report is made before the first byte of either
@@ -143,7 +143,7 @@ pub fn run_engine_with<
     )
 }
 
-/// Plays a game, with these feeds if there are any: its report with the exit status, and who played it.
+/// Plays a game, with these feeds if there are any: its report with the exit status, and the actors that played it.
 fn play<R: Threads + Wait + Sync, K: Gate + Sync>(
     rt: &R,
     alloc: Global,

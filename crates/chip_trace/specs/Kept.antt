@@ -157,7 +157,7 @@ Finds g traces p v (finding.Waits edge) = (row : TraceRow) × (row_after traces 
 abbrev pub work_left : List (List TraceRow) → ReplayProgress → ReplayAgenda → ℕ
 work_left traces p a = rows_left traces p * 2 ^ 64 + a.due
 
--- a replay goes on from p and a to q and b: it keeps what it keeps, and has no more left to do
+-- a replay goes on from p and a to q and b: what is kept stays right, and no more is left to do
 pub record ReplayGoesOn (g : ChipGame) (traces : List (List TraceRow)) (p : ReplayProgress) (a : ReplayAgenda)
     (q : ReplayProgress) (b : ReplayAgenda) : Type 0 where
   pub kept : IsReplayKept g traces q

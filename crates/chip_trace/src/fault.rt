@@ -4,7 +4,8 @@ use thiserror::Error;
 /// Why recorded runs have no interleaving.
 #[derive(Clone, Copy, Debug, PartialEq, Eq, Error)]
 pub enum ReplayFault {
-    /// After maximal progress the next row of this vertex is wrong, or it waits if none is wrong.
+    /// After maximal progress this is the least vertex whose next row is wrong, or the least with a row left if none is
+    /// wrong.
     #[error("vertex {vertex} is stuck at its row {row}")]
     Stuck {
         vertex: u64,

@@ -138,8 +138,8 @@ fn settle(
     }
 }
 
-/// The firings of one interleaving of recorded runs, each with its vertex, in order. The time is linear in rows and
-/// edges.
+/// The firings of one interleaving of recorded runs, each with its vertex, in order; `Stuck` if there is none. The time
+/// is linear in rows and edges.
 ///
 /// `traces` has the rows of each vertex.
 pub fn replay(

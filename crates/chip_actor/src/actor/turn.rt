@@ -188,7 +188,7 @@ impl ActorState {
         if self.is_at_limit() {
             return sent + self.finish(medium, Cursor::Limit);
         }
-        // (a vertex that isn't engaged owes nothing)
+        // (a vertex that is not engaged owes nothing)
         if !self.detect.engaged() {
             return sent;
         }

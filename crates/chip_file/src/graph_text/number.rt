@@ -14,7 +14,7 @@ use serde_json::Number;
 /// A number with this many digits fits into 64 bits.
 const FEW_DIGITS: usize = 19;
 
-/// The number that the first digits of a text write, and their number: as many as surely fit.
+/// The value of the first digits of a text, and their number: as many as surely fit.
 #[inline(always)]
 pub fn leading_number(text: &[u8]) -> (u64, usize)
     ensures digits { AllDigits 10 (take result.1 text.now) }

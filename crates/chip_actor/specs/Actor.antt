@@ -89,7 +89,7 @@ pub record StandsFor (g : Setting) (s : Part) (a : Actor) : Type 0 where
 abbrev pub WhateverPart : Actor → (Setting → Part → Type 0) → Type 0
 WhateverPart a P = (g : Setting) (s : Part) → StandsFor g s a → P g s
 
--- it stands for some part, of which this holds
+-- it stands for some part with this property
 abbrev pub SomePart : Actor → (Setting → Part → Type 0) → Type 0
 SomePart a P = (g : Setting) × (s : Part) × StandsFor g s a × P g s
 

@@ -43,7 +43,7 @@ Serves old new act seen = (g : Setting) (v : ℕ) (ds : List Step) (s : Part) �
 
 -- ---- a turn
 
--- some record is held that leaves the part that the actor stands for, and a turn may stand there
+-- some record is held that leaves the part that the actor stands for, and a turn may be there
 abbrev pub Meets : Holding → Actor → Cursor → Type 0
 Meets held a cursor = (g : Setting) × (ds : List Step) × (s : Part) × held g a.vertex ds s × StandsFor g s a
     × IsAt g a.vertex cursor s

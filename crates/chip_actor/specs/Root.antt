@@ -130,7 +130,7 @@ pub record RootStandsFor (g : Setting) (s : Part) (r : Root) : Type 0 where
 abbrev pub WhateverRoot : Root → (Setting → Part → Type 0) → Type 0
 WhateverRoot r P = (g : Setting) (s : Part) → RootStandsFor g s r → P g s
 
--- it stands for some part, of which this holds
+-- it stands for some part with this property
 abbrev pub SomeRoot : Root → (Setting → Part → Type 0) → Type 0
 SomeRoot r P = (g : Setting) × (s : Part) × RootStandsFor g s r × P g s
 

@@ -17,7 +17,7 @@ mod turn;
 /// The state of one vertex of a running machine.
 ///
 /// Contracts see it as plain data (`specs/Actor.antt`) and say what it does to the part of the core that it stands for.
-/// A call takes time at most logarithmic in the vertex's edges, but a firing takes time linear in the edges out of it.
+/// An event takes time at most logarithmic in the vertex's edges, but a firing time linear in the edges out of it.
 #[derive(Drop)]
 pub struct ActorState {
     vertex: u64,

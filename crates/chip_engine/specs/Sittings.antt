@@ -28,7 +28,7 @@ AreResumed graph_text first [] last = first ≡ last
 AreResumed graph_text first (report ∷ reports) last =
     IsResumedTo graph_text first report × AreResumed graph_text report reports last
 
--- what `plain` writes reports a play from the start of its game
+-- the report of `plain` describes a play from the start of its game
 abbrev pub PlainTellsPlay : Type 0
 PlainTellsPlay =
     (limits : SizeLimits) (graph_text chips_text : List ℕ) (limit : ℕ) (report : List ℕ) (status : ℕ)

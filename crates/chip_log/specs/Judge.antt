@@ -29,7 +29,7 @@ stream_of is_control c = record { channel = c; is_control = is_control }
 abbrev pub NoWay : Bool → ℕ → Books → Type 0
 NoWay k n b = (c : ℕ) → c < n → count b.sent (stream_of k c) ≤ count b.taken (stream_of k c)
 
--- the least channel below n with one
+-- the least channel below n with a message in transit
 abbrev pub IsFirstWay : Bool → ℕ → Books → Option ℕ → Type 0
 IsFirstWay k n b None = NoWay k n b
 IsFirstWay k n b (Some c) = (c < n) × (count b.taken (stream_of k c) < count b.sent (stream_of k c)) × NoWay k c b
@@ -105,6 +105,6 @@ pub record IsKnown (log : List LogRow) (claim earlier : ClaimPlace) : Type 0 whe
 
 -- ---- rows
 
--- whether a process has a row, by what the processes with rows begin with
+-- whether a process has a row, by how the processes with rows begin
 abbrev pub has_row_at : List (Option Bool) → ℕ → Bool
 has_row_at beginners p = is_some (slice_index_or beginners p None)

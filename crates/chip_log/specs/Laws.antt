@@ -34,7 +34,7 @@ MostProgress = (log used other : List LogRow) → HasEnds log → IsGreatest log
 abbrev pub StuckOrder : Type 0
 StuckOrder = (log xs : List LogRow) (p i : ℕ) → HasEnds log → IsStuck log p i → IsInterleaving log xs → ⊥
 
--- and is stuck in one place
+-- a log is stuck in one place
 abbrev pub OnePlace : Type 0
 OnePlace = (log : List LogRow) (p i q j : ℕ) → HasEnds log → IsStuck log p i → IsStuck log q j → (p ≡ q) × (i ≡ j)
 
@@ -49,12 +49,12 @@ OneJudgment = (with_past : Bool) (log : List LogRow) (one two : JudgedLog) → H
     → IsJudgedLog with_past log one → IsJudgedLog with_past log two
     → (map told_of one.claims.items ≡ map told_of two.claims.items) × (one.end ≡ two.end)
 
--- nor does its first early claim
+-- the first early claim of a log does not depend on how the rows of processes are mixed
 abbrev pub SameFirst : Type 0
 SameFirst = (with_past : Bool) (log other : List LogRow) (found : Option ClaimVerdict)
     → ((p : ℕ) → steps_of p log ≡ steps_of p other) → IsFirstEarly with_past log found → IsFirstEarly with_past other found
 
--- and there is one
+-- a log has one first early claim, with one judgment
 abbrev pub OneFirst : Type 0
 OneFirst = (with_past : Bool) (log : List LogRow) (one two : Option ClaimVerdict) → HasEnds log
     → IsFirstEarly with_past log one → IsFirstEarly with_past log two → option_map told_of one ≡ option_map told_of two
@@ -64,6 +64,6 @@ abbrev pub OneAbsent : Type 0
 OneAbsent = (log other : List LogRow) (n : ℕ) (one two : Option ℕ) → ((p : ℕ) → steps_of p log ≡ steps_of p other)
     → IsFirstAbsent log n one → IsFirstAbsent other n two → one ≡ two
 
--- nor where it is stuck
+-- the place where a log is stuck does not depend on how its rows are mixed
 abbrev pub SameStuck : Type 0
 SameStuck = (log other : List LogRow) (p i : ℕ) → ((q : ℕ) → steps_of q log ≡ steps_of q other) → IsStuck log p i → IsStuck other p i

@@ -37,7 +37,7 @@ sends s steps = count_steps (is_out s) steps
 abbrev pub gets : Stream → List Step → ℕ
 gets s steps = count_steps (is_in s) steps
 
--- of these rows, of whatever processes
+-- the same for rows, of whatever processes
 abbrev pub count_rows : (Step → Bool) → List LogRow → ℕ
 count_rows test xs = count_steps test (map (λ x. x.step) xs)
 
@@ -74,12 +74,12 @@ is_enabled log before p (Out s) = if s.is_control then true else is_active log b
 is_enabled log before p (In s) = nat_lt (ins s before) (outs s before)
 is_enabled log before p _ = true
 
--- each row is enabled where it stands, after the rows before it
+-- each row is enabled at its place, after the rows before it
 abbrev pub AreEnabled : List LogRow → List LogRow → List LogRow → Type 0
 AreEnabled log before [] = Unit {0}
 AreEnabled log before (x ∷ xs) = (is_enabled log before x.process x.step ≡ true) × AreEnabled log (before ++ x ∷ []) xs
 
--- all rows of a log in one list: those of each process in their order, and each enabled where it stands
+-- all rows of a log in one list: those of each process in their order, and each enabled at its place
 pub record IsInterleaving (log xs : List LogRow) : Type 0 where
   pub whole : (p : ℕ) → steps_of p xs ≡ steps_of p log
   pub met : AreEnabled log [] xs

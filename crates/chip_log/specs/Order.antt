@@ -27,7 +27,7 @@ pub record IsWellFormed (sizes : Sizes) (log : List LogRow) : Type 0 where
 
 -- ---- progress
 
--- rows that were done: the first ones of each process, each enabled where it stands
+-- rows that were done: the first ones of each process, each enabled at its place
 pub record IsProgress (log used : List LogRow) : Type 0 where
   pub left : ℕ → List Step
   pub own : (p : ℕ) → steps_of p used ++ left p ≡ steps_of p log

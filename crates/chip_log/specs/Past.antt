@@ -31,7 +31,7 @@ pub record IsInOrder (sizes : Sizes) (rows : List LogRow) : Type 0 where
   pub fits : Fits sizes rows
   pub few : length rows < 2 ^ 32
 
--- a claim stands at this place
+-- a claim is at this place
 pub record IsPlace (log : List LogRow) (claim : ClaimPlace) : Type 0 where
   pub over : slice_get log claim.at ≡ Some (record { process = claim.process; step = Over })
   pub row : length (steps_of claim.process (take claim.at log)) ≡ claim.row

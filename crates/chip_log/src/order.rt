@@ -130,6 +130,7 @@ impl Order {
     }
 
     /// Makes steps until no next step is enabled.
+    ///
     /// Not proved: that the agenda, which only saves time, has each process whose next step is enabled. So all
     /// processes are visited once more when it is empty.
     fn settle(&mut self, sizes: Sizes) -> Result<(), AllocError>

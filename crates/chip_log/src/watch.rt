@@ -5,7 +5,7 @@ pub trait ClaimWatch {
     /// Called before a claim is judged, with its number, from 0, and the number of claims.
     fn judges(&mut self, _claim: usize, _claims: usize) {}
 
-    /// Called if the rows have no order, with the processes that wait for each other, from that of the fault on.
+    /// Called if the rows have no order, with processes of which each waits for the next, from that of the fault on.
     fn waits(&mut self, _waits: &Waits) {}
 }
 

@@ -40,7 +40,7 @@ SameBytes =
     → RunWrote graph_text chips_text None limit one s → PlainWrote graph_text chips_text limit other t
     → (one ≡ other) × (s ≡ t)
 
--- they also did if `run` is fed, and the files of `plain` have all those chips at the start
+-- the same if `run` is fed, and the files of `plain` have all those chips at the start
 abbrev pub SameBytesFed : Type 0
 SameBytesFed =
     (graph_text chips_text : List ℕ) (feed_text : Option (List ℕ)) (limit : ℕ) (whole_graph whole_chips : List ℕ)
@@ -48,7 +48,7 @@ SameBytesFed =
     → RunWrote graph_text chips_text feed_text limit one s → PlainWrote whole_graph whole_chips limit other t
     → (one ≡ other) × (s ≡ t)
 
--- what `run` writes reports a play from the start of the game that has all chips at the start, the fed ones too
+-- the report of `run` describes a play from the start of the game that has all chips at the start, the fed ones too
 abbrev pub RunTellsPlay : Type 0
 RunTellsPlay =
     (graph_text chips_text : List ℕ) (feed_text : Option (List ℕ)) (limit : ℕ) (report : List ℕ) (status : ℕ)

@@ -58,7 +58,7 @@ rows_used traces p v = take (runner_at p v).used (trace_of traces v)
 abbrev pub row_after : List (List TraceRow) → ReplayProgress → ℕ → Option TraceRow
 row_after traces p v = slice_get (trace_of traces v) (runner_at p v).used
 
--- the rows used so far stand in some list in which each is enabled, and the firings are those of that list
+-- some list has the rows used so far, each enabled, and these firings
 pub record IsReplayReached (g : ChipGame) (traces : List (List TraceRow)) (p : ReplayProgress)
     (xs : List Placed) : Type 0 where
   pub met : AreRowsEnabled g [] xs

@@ -56,7 +56,7 @@ named_apart number ts edges are rising = record {
   one_each = sym (length-map ts number);
 }
 
--- what is written in the place of an element has its number, so that all numbers are as they were
+-- what is written in the place of an element has its number, so that the numbers do not change
 pub same_numbers : {T : Type 0} (number : T → ℕ) (ts : List T) (i : ℕ) (old new : T) → i < length ts → old ≡ get_or ts i old
     → number new ≡ number old → map number (set ts i new) ≡ map number ts
 same_numbers number ts i old new within was same =
@@ -105,7 +105,7 @@ claim_keeps word count t = grind (arith, nat_tests)
 pub take_keeps : (cell : ℕ) (h : HeadState) → (head_after_take cell h).edge ≡ h.edge
 take_keeps cell h = grind (arith, nat_tests)
 
--- a claim that is answered by a message sent all that was pending
+-- a claim that returned a message sent all that was pending
 pub claim_taken : (word : ℕ) (o : OutEnd) (m : Message) → Some m ≡ message_claimed word o.pending o.link
     → (let n : OutEnd = record o { pending = 0; link = tail_after_claim word o.pending o.link } in n)
     ≡ out_after_claim word o

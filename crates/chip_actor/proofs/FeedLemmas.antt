@@ -1,5 +1,5 @@
 -- Serves Root.antt.
--- The root's feeder: what it knows of the root edges, and how a look, a claim and a put there change it.
+-- The root's feeder: what it keeps of the root edges, and how a look, a claim and a put there change it.
 use Rattle.std.proofs.lemmas.Bool.Decides.{nat_tests}
 use Rattle.std.proofs.Common.{rules, ◌≡◌, ◌≢◌, ℕ, ◌+◌, ◌-◌, ◌<◌, ◌≤◌, ◌^◌, true, false, cond, eqb, List, [], ◌∷◌}
 use Rattle.std.proofs.Common.{length, sum, get_or, set, slice_index, Option, Some, None, option_to_list, refl, sym, ap}
@@ -70,7 +70,7 @@ module _ (t : Tail) (count : ℕ) (none : t.held ≡ None) where
   claim_keeps kept some = let a = claim_sum in let b = claim_claims in let c = kept.counted in
       search (rules, arith, nat_tests)
 
--- ---- what is known of it
+-- ---- what it keeps
 
 module _ (g : Setting) (s : Part) (f : Feeder) (feeds : Feeds g s f) (v : ℕ) (l : v < g.game.graph.vertices) where
   abbrev link : Tail
@@ -344,7 +344,7 @@ feed_made r f' e count seen reply replied is = λ g s stands can.
           ∙ ap (feed_reply count) (tail_is g s r.feeder feeds v l) ∙ sym (cond_yes seen n _ Sealed sees),
     )
 
--- what a feed asks of the feeder
+-- what a feed requires of the feeder
 pub may_feed : (r : Root) (e count seen : ℕ)
     → SomeRoot r (λ g s. RootCanDo g s (Feed e count) seen)
     → (seen ≡ (tail_at r.feeder (e - r.graph_edges)).claims) × (claims_in seen ≡ seen)

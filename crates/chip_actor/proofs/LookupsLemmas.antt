@@ -1,5 +1,5 @@
 -- Serves Ends.antt.
--- What stands beside the numbers of edges, looked up by a number.
+-- The ends beside the numbers of edges, found by a number.
 use Rattle.chip_actor.proofs.Names.{nat_tests, ◌≡◌, ℕ, zero, suc, ◌<◌, cond, eqb, List, [], ◌∷◌, length, map, get_or}
 use Rattle.chip_actor.proofs.Names.{set, refl, sym, ◌∙◌, arith, Contains, IsStrictlyIncreasing, get_or_default}
 use Rattle.chip_actor.proofs.Names.{cond_yes, Ascends, ascends, ascends_tail, not_in_front, on_edge}

@@ -1,5 +1,5 @@
 -- Serves Medium.antt, Actor.antt, Ends.antt.
--- What the loops of a turn do at one edge: what the calls there ask, and how the turn goes on.
+-- What the loops of a turn do at one edge: what the calls there require, and how the turn goes on.
 use Rattle.chip_actor.proofs.Names.{◌≡◌, ◌≢◌, ℕ, ◌+◌, ◌-◌, ◌^◌, ◌<◌, ◌≤◌, ltb}
 use Rattle.chip_actor.proofs.Names.{length, get_or, set, Some, None, refl, arith, Message}
 use Rattle.chip_actor.proofs.Names.{HeadState, head_cell, head_after_take, message_taken, message_limit, Books, IsSound}
@@ -15,7 +15,7 @@ use Rattle.chip_part.specs.declared.act.Act.TheVariants as Do
 use Rattle.chip_part.specs.declared.cursor.Cursor.TheVariants as At
 use Rattle.chip_actor.proofs.EndLemmas as ends
 
--- an end out of the vertex as a loop over the ends finds it, and the number that it tells
+-- an end out of the vertex as a loop over the ends finds it, and the number that it has
 pub record FoundOut (a : Actor) (os : OutEnds) (index edge : ℕ) (end : OutEnd) : Type 0 where
   pub stands : Stands a
   pub same : os ≡ a.outs

@@ -1,5 +1,5 @@
 -- Serves Ends.antt, Actor.antt.
--- Each call that makes an event: what its parts ask, and what it comes to.
+-- Each call that makes an event: what its parts require, and its result.
 use Rattle.chip_actor.proofs.Names.{nat_tests, ◌≡◌, ◌≢◌, ℕ, zero, suc, ◌+◌, ◌-◌, ◌*◌, ◌<◌, ◌≤◌, ◌^◌, ◌%◌, Bool, cond}
 use Rattle.chip_actor.proofs.Names.{if◌then◌else◌, eqb, length, sum, Option, Some, None, IsTrue}
 use Rattle.chip_actor.proofs.Names.{option_to_list, refl, ap, ◌∙◌, arith, eq-eqb, Contains, sum_below}
@@ -20,7 +20,7 @@ use Rattle.chip_detect.specs.Acknowledging as detector
 
 -- ---- a take
 
--- a message came out of a cell that wasn't empty
+-- a message came out of a cell that was not empty
 pub message_seen : (seen : ℕ) (h : HeadState) (m : Message) → Some m ≡ message_taken seen h → seen ≢ 0
 message_seen seen h m is none = grind (arith, nat_tests)
 
@@ -99,7 +99,7 @@ clear_made a e seen os words is change = λ g s stands can.
 
 -- ---- a claim
 
--- terms of at most 1 make no more than there are
+-- terms of at most 1 add up to no more than their number
 few_terms : (n : ℕ) (t : ℕ → Bool) (f : ℕ → ℕ) → ((e : ℕ) → f e ≤ 1) → sum_below n (λ e. cond (t e) (f e) 0) ≤ n
 few_terms zero t f ones = omega arith
 few_terms (suc n) t f ones =

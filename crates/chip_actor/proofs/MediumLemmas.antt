@@ -49,7 +49,7 @@ moves_on {H} {K} {L} {a} {b} {c} {x} {y} {z} {n} {m} first second = record {
       );
 }
 
--- a phase with nothing to do: a turn that stands at one cursor stands at the other too
+-- a phase with nothing to do: a turn that is at one cursor is at the other too
 pub moves_past : {H : Holding} {a : Actor} {x y : Cursor}
     → ((g : Setting) (s : Part) → StandsFor g s a → IsAt g a.vertex x s → IsAt g a.vertex y s × Passes g a.vertex s x y)
     → Moves H a x H a y 0
@@ -91,12 +91,12 @@ pub over_then : {H K L : Holding} {a b c : Actor} {x y z : Cursor} {n : ℕ} →
 over_then {H} {K} {L} {a} {b} {c} {x} {y} {z} {n} over moves =
     let same : n ≡ 0 + n = omega arith in rw same (moves_on over moves)
 
--- if a turn stands at this cursor, the event of this operation is due, and it goes on to the other
+-- if a turn is at this cursor, the event of this operation is due, and it goes on to the other
 pub record DueBy (a : Actor) (x : Cursor) (act : Act) (y : Cursor) : Type 0 where
   pub here : (g : Setting) (s : Part) → StandsFor g s a → IsAt g a.vertex x s
       → GoesBy g a.vertex s x (event_of a.vertex act) y × (act ≡ act_of g (event_of a.vertex act) s)
 
--- how many steps a step counts for
+-- the count of a step
 abbrev pub one_if : Bool → ℕ
 one_if b = cond b 1 0
 
@@ -108,7 +108,7 @@ due_by due g s stands at =
 pub may_serve : {H : Holding} {a : Actor} {x y : Cursor} {act : Act} → Meets H a x → DueBy a x act y → MayServe H act
 may_serve {H} {a} (g, ds, s, held, stands, at) due = (g, a.vertex, ds, s, held, due_by due g s stands at)
 
--- what it answers fits
+-- what it returns fits
 pub can_apply : {H K : Holding} {a : Actor} {x y : Cursor} {act : Act} {seen : ℕ} → Meets H a x → DueBy a x act y
     → Serves H K act seen → SomePart a (λ g s. IsOperationDue g s a.vertex (record { act = act; seen = seen }))
 can_apply {H} {K} {a} (g, ds, s, held, stands, at) due serves =
@@ -151,7 +151,7 @@ meets_after {H} {K} {a} {b} {x} {y} (g, ds, s, held, stands, at) moves =
     let m = moves.goes g ds s held stands at in
     (g, reverse m.0 ++ ds, m.1, rw m.2.vertex m.2.held, m.2.stands, rw m.2.vertex m.2.fits)
 
--- a step counts for one at most
+-- a step counts at most 1
 pub one_few : (n : ℕ) (b : Bool) → n ≡ one_if b → n ≤ 1
 one_few n b is = grind (arith, nat_tests)
 

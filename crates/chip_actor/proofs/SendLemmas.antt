@@ -1,5 +1,5 @@
 -- Serves Medium.antt, Actor.antt, Ends.antt.
--- A send over a medium at one edge: what its calls ask, and how the turn goes on from each to the next.
+-- A send over a medium at one edge: what its calls require, and how the turn goes on from each to the next.
 use Rattle.chip_actor.proofs.Names.{nat_tests, ◌≡◌, ◌≢◌, ℕ, ◌+◌, ◌-◌, ◌^◌, ◌<◌, ◌≤◌, Bool, true, ◌&&◌, eqb}
 use Rattle.chip_actor.proofs.Names.{Option, length, slice_index, Some, None, refl, sym, subst, arith}
 use Rattle.chip_actor.proofs.Names.{length-set, get_or-set_same, set-set, Message, claims_in, TailState, tail_cell}
@@ -23,7 +23,7 @@ use Rattle.chip_actor.proofs.EndLemmas as ends
 abbrev pub sending : Actor → ℕ → OutEnd → ℕ → ℕ → Books → Actor
 sending a index end pending refused b = with_sent a (with_end a.outs index end) pending refused b
 
--- it stands for some part, and the edge is the one that the end tells
+-- it stands for some part, and the edge is the one of the end
 record SendsOn (a : Actor) (index edge : ℕ) (end : OutEnd) (pending refused : ℕ) (b : Books) : Type 0 where
   pub stands : Stands (sending a index end pending refused b)
   pub apart : AreApart a.outs.edges a.outs.ends
@@ -109,20 +109,20 @@ place_message t looked place word count is-place same =
     let told = place_told t looked place is-place in
     (record { edge = t.edge; place = t.claims; count = count }, grind (arith, nat_tests))
 
--- and one that saw another word is refused
+-- a claim that saw another word is refused
 place_refused : (t : TailState) (looked place word count : ℕ) → Some place ≡ place_for looked t → word ≢ place
     → None ≡ message_claimed word count (tail_after_clear looked t)
 place_refused t looked place word count is-place other =
     let told = place_told t looked place is-place in grind (arith, nat_tests)
 
--- what was claimed is put into the cell that was looked at
+-- what was claimed is put into the cell of the look
 stored_where_looked : (t : TailState) (looked place word count : ℕ) → Some place ≡ place_for looked t → word ≡ place
     → put_of (tail_after_claim word count (tail_after_clear looked t)) ≡ Some (tail_cell t, count)
 stored_where_looked t looked place word count is-place same =
     let told = place_told t looked place is-place in let z : (t.claims + 1) - 1 ≡ t.claims = omega arith in
     grind (arith, nat_tests)
 
--- a whole send at once is what its three steps come to
+-- a whole send at once is the result of its three steps
 sent_is : (t v : TailState) (looked place word count : ℕ) → Some place ≡ place_for looked t → word ≡ place
     → ((k : ℕ) → v ≡ tail_after_put (tail_after_claim t.claims k (tail_after_clear 0 t)))
     → v ≡ tail_after_put (tail_after_claim word count (tail_after_clear looked t))
@@ -131,7 +131,7 @@ sent_is t v looked place word count is-place same after =
 
 -- ---- a whole send
 
--- an actor stands before the look at the cell of an edge on which something is pending
+-- an actor is before the look at the cell of an edge on which something is pending
 pub record Looks (a : Actor) (index edge cell : ℕ) (end : OutEnd) (pending refused : ℕ) (b : Books)
     (H : Holding) : Type 0 where
   pub apart : AreApart a.outs.edges a.outs.ends

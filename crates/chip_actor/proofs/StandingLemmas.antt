@@ -1,5 +1,5 @@
 -- Serves Actor.antt.
--- What an actor that stands for a part knows of it.
+-- What follows for an actor that stands for a part.
 use Rattle.chip_actor.proofs.Names.{refl, nat_tests, ◌≡◌, ℕ, ◌<◌, ◌≤◌, ◌^◌, Bool, true, not, eqb, [], ◌∷◌, ◌++◌}
 use Rattle.chip_actor.proofs.Names.{length, Option, is_some, is_none, ap, ◌∙◌, arith, dite, dec_lt, Contains, sum_by}
 use Rattle.chip_actor.proofs.Names.{sum_by-append, edge_at, edges_out, edges_in, Setting, tested_ext, picked_sum}
@@ -11,7 +11,7 @@ use Rattle.chip_actor.proofs.Names.{picked_passes, among_new_outs, among_new_ins
 use Rattle.chip_detect.specs.Books as books
 use Rattle.chip_detect.specs.Acknowledging as detector
 
--- a vertex that isn't running is halted
+-- a vertex that is not running is halted
 not_running : (h : Option Cause) → is_some h ≡ not (is_none h)
 not_running h = grind (arith, nat_tests)
 

@@ -1,6 +1,6 @@
 -- Serves Ends.antt, Actor.antt.
--- An actor that makes an event stands for the part after it. Each lemma takes what the call changed in the actor's own
--- numbers.
+-- An actor that makes an event stands for the part after it. Each lemma takes the changes of the call in the actor's
+-- own numbers.
 use Rattle.chip_actor.proofs.Names.{◌≡◌, ◌≢◌, ℕ, ◌+◌, ◌-◌, ◌*◌, ◌≤◌, ◌^◌, true, false, ◌&&◌, cond, if◌then◌else◌, eqb}
 use Rattle.chip_actor.proofs.Names.{length, Option, Some, None, option_to_list, refl, sym, ap, ◌∙◌, arith, eq-eqb}
 use Rattle.chip_actor.proofs.Names.{mul_comm, rules, nat_tests, dite, ℕ_discrete, degree, Setting, tested_ext}
@@ -23,7 +23,7 @@ abbrev refused_count : Out → ℕ
 refused_count o = cond o.link.refused 1 0
 
 module _ (g : Setting) (s : Part) (a : Actor) (stands : StandsFor g s a) where
-  -- what it knows of the game is no matter of its numbers
+  -- what it knows of the game does not depend on its numbers
   knows_still : (chips fired : ℕ) (halt : Option Cause) (os : OutEnds) (is : InEnds) (b : Books) (p u r : ℕ)
       → os.edges ≡ a.outs.edges → is.edges ≡ a.ins.edges → edges_of b.outs ≡ edges_of a.detect.outs
       → edges_of b.ins ≡ edges_of a.detect.ins
@@ -157,7 +157,7 @@ module _ (g : Setting) (s : Part) (a : Actor) (stands : StandsFor g s a) where
       let fired = Rattle.chip_actor.proofs.StandingLemmas.few_fired g s a stands in
       grind (arith, nat_tests)
 
-  -- one edge out of the vertex is changed, and the others are as they were
+  -- one edge out of the vertex is changed, and the others are unchanged
   module _ (x : Event) (e seen : ℕ) (at : tail_of g e ≡ a.vertex) (mine : part_of g x ≡ a.vertex)
       (may : unmet_rule g x s ≡ None)
       (rest : (i : ℕ) → e ≢ i → (does g (saw x seen) s).out i ≡ s.out i)

@@ -95,7 +95,7 @@ no_fire {H} {a} may = moves_past (λ g s stands at. (
 
 -- ---- sends
 
--- nothing is left from before the turn, and the edges are gone through
+-- nothing is left from before the turn, and the edges are visited
 pub nothing_before : {H : Holding} {a : Actor} → (is_none a.halt && eqb a.unput 0 && eqb a.refused 0) ≡ true
     → Moves H a (At.Put 0) H a (At.Send 0) 0
 nothing_before {H} {a} may =
@@ -271,7 +271,7 @@ module _ {a : Actor} {edge : ℕ} (parent : a.detect.parent ≡ Some edge) where
     parent_none none = turn_ends (λ g s stands at.
         no_parent_due g a.vertex stands.knows.vertex s edge (is_parent stands) (rw (← parent_count g s stands) none))
 
--- a vertex that isn't engaged owes nothing
+-- a vertex that is not engaged owes nothing
 pub nothing_owed : {H : Holding} {a : Actor} → is_some a.detect.parent ≡ false → Moves H a (At.Ack 0) H a At.Over 0
 nothing_owed {H} {a} off = then_over {y = At.Parent}
     (moves_past (λ g s stands at.

@@ -18,7 +18,7 @@ use Rattle.chip_actor.specs.declared.ends.outs.OutEnd.{OutEnd}
 use Rattle.chip_actor.specs.Ends.{OutEnds, InEnds, out_on, in_on}
 
 -- what an `ActorState` shows. The last three are sums over the edges out of it, so that nobody has to add them up: what
--- is pending, how many messages are claimed and not put, and on how many edges a claim was refused
+-- is pending, the number of messages claimed and not put, and of edges on which a claim was refused
 pub record Actor : Type 0 where
   pub vertex : ℕ
   pub is_sink : Bool
@@ -60,7 +60,7 @@ pub record KnowsGame (g : Setting) (a : Actor) : Type 0 where
   pub detect_outs : out_edges a.detect ≡ edges_out g.game.graph a.vertex
   pub detect_ins : in_edges a.detect ≡ edges_in g.game.graph a.vertex ++ root_edge g a.vertex ∷ []
 
--- the actor's books of the detector say what the part says
+-- the actor's books of the detector are those of the part
 pub record KeepsBooks (g : Setting) (s : Part) (v : ℕ) (b : Books) : Type 0 where
   pub sound : IsSound b
   pub parent : b.parent ≡ s.parent
@@ -69,7 +69,7 @@ pub record KeepsBooks (g : Setting) (s : Part) (v : ℕ) (b : Books) : Type 0 wh
   pub sent : (e : ℕ) → tail_of g e ≡ v → sent_of b e ≡ claims_of (s.out e).link
   pub settled : (e : ℕ) → tail_of g e ≡ v → settled_of b e ≡ (s.out e).settled
 
--- the actor stands for the part s of its vertex: it keeps of every edge what the part says
+-- the actor stands for the part s of its vertex: it keeps the part's numbers for every edge
 pub record StandsFor (g : Setting) (s : Part) (a : Actor) : Type 0 where
   pub knows : KnowsGame g a
   pub kept : KeepsPart g a.vertex s
@@ -89,18 +89,18 @@ pub record StandsFor (g : Setting) (s : Part) (a : Actor) : Type 0 where
 abbrev pub WhateverPart : Actor → (Setting → Part → Type 0) → Type 0
 WhateverPart a P = (g : Setting) (s : Part) → StandsFor g s a → P g s
 
--- it stands for some part, of which this holds
+-- it stands for some part with this property
 abbrev pub SomePart : Actor → (Setting → Part → Type 0) → Type 0
 SomePart a P = (g : Setting) × (s : Part) × StandsFor g s a × P g s
 
--- what the actor makes of its own numbers: it is legal, and it is passive
+-- what the actor derives from its own numbers: it is legal, and it is passive
 abbrev pub is_legal_now : Actor → Bool
 is_legal_now a = not a.is_sink && nat_le a.degree a.chips
 
 abbrev pub is_passive_now : Actor → Bool
 is_passive_now a = a.unput == 0 && (is_some a.halt || (a.pending == 0 && not (is_legal_now a)))
 
--- the actor made this event and answered this: whatever part it stood for, it stands for that part after the event, at
+-- the actor made this event with this reply: whatever part it stood for, it stands for that part after the event, at
 -- the same vertex
 abbrev pub ActorMakes : Actor → Actor → Event → ℕ → Reply → Type 0
 ActorMakes old new x seen reply =

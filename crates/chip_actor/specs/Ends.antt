@@ -1,5 +1,5 @@
--- The ends of a vertex's edges as its actor keeps them: the numbers of the edges, ascending, and beside each what
--- stands at that place.
+-- The ends of a vertex's edges as its actor keeps them: the numbers of the edges, ascending, and for each what is at
+-- that place.
 use Rattle.std.specs.Prelude.{◌≡◌, ℕ, ◌+◌, ◌*◌, ◌<◌, ◌≤◌, ◌==◌, if◌then◌else◌, Bool, true, false, List, [], ◌∷◌, ◌++◌}
 use Rattle.std.specs.Prelude.{length, map, slice_index, slice_set, Option, Some, None}
 use Rattle.std.specs.List.{Contains}
@@ -8,7 +8,7 @@ use Rattle.chip_link.specs.Ends.{HeadState, new_tail, new_head, tail_after_clear
 use Rattle.chip_graph.specs.Multigraph.{Multigraph, edge_at, edges_out, edges_in}
 pub use Rattle.chip_actor.specs.declared.ends.outs.OutEnd.{OutEnd}
 
--- what stands beside the number of an edge, or else this
+-- what is at the place of an edge, or else this
 abbrev pub on_edge : {T : Type 0} → T → List ℕ → List T → ℕ → T
 on_edge none [] ts e = none
 on_edge none (x ∷ xs) [] e = none
@@ -36,7 +36,7 @@ in_ends_of ends = record { edges = map (λ (h : HeadState). h.edge) ends; ends =
 abbrev pub with_end : OutEnds → ℕ → OutEnd → OutEnds
 with_end os index end = record os { ends = slice_set os.ends index end }
 
--- nothing is known of an edge that isn't there
+-- the end of an edge that is not there
 abbrev pub no_out : OutEnd
 no_out = record { mult = 0; pending = 0; link = new_tail 0 1 }
 
@@ -68,20 +68,20 @@ pub record ChangesIn (old new : InEnds) (edge : ℕ) (f : HeadState → HeadStat
   pub edges : new.edges ≡ old.edges
   pub each : (e : ℕ) → in_on new e ≡ (if edge == e then f (in_on old e) else in_on old e)
 
--- the cell was looked at
+-- after a look at the cell
 abbrev pub out_after_clear : ℕ → OutEnd → OutEnd
 out_after_clear cell o = record o { link = tail_after_clear cell o.link }
 
--- a claim for all that is pending saw this word
+-- after a claim for all that is pending, which saw this word
 abbrev pub out_after_claim : ℕ → OutEnd → OutEnd
 out_after_claim word o =
     record o { pending = if word == o.link.claims then 0 else o.pending; link = tail_after_claim word o.pending o.link }
 
--- what was claimed is put
+-- after a put of what was claimed
 abbrev pub out_after_put : OutEnd → OutEnd
 out_after_put o = record o { link = tail_after_put o.link }
 
--- the vertex fired k times
+-- after k firings of the vertex
 abbrev pub out_after_fire : ℕ → OutEnd → OutEnd
 out_after_fire k o = record o { pending = k * o.mult }
 

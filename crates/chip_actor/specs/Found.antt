@@ -1,4 +1,4 @@
--- An event of a vertex: the slot of its edge among the vertex's, and what it comes to over a medium.
+-- An event of a vertex: the slot of its edge among the vertex's, and its result over a medium.
 use Rattle.std.specs.Prelude.{◌≡◌, ℕ, List, ◌∷◌, Option, Some, None}
 use Rattle.chip_detect.specs.Slot.{IsSlotOf}
 use Rattle.chip_part.specs.Setting.{Setting}
@@ -25,7 +25,8 @@ event_found v (At.Put slot) = Put slot.edge
 event_found v At.Halt = Halt v
 event_found v (At.Feed e k) = Feed e k
 
--- its slot is one of the edges into the vertex of a take and an acknowledgement, of other events one of those out of it
+-- its slot is one of the edges into the vertex for a take and an acknowledgement, for other events one of those out of
+-- it
 abbrev pub IsPlaced : Actor → Found → Type 0
 IsPlaced a (At.Take slot) = IsSlotOf a.ins.edges slot
 IsPlaced a (At.Ack slot) = IsSlotOf a.ins.edges slot
@@ -48,8 +49,8 @@ pub record KeepsSteps (now : Holding) (g : Setting) (v : ℕ) (ds : List Step) (
   pub stands : StandsFor g s b
   pub vertex : b.vertex ≡ v
 
--- what an event of the vertex v comes to, of whose rules this is the first that isn't met: nothing is made, or the
--- record is longer by the event
+-- the result of an event of the vertex v, given the first of its rules that is not met: if there is one nothing is
+-- made, else the record is longer by the event
 abbrev pub IsAnswered : Holding → Setting → ℕ → List Step → Part → Event → Actor → Reply → Option Rule → Type 0
 IsAnswered now g v ds s x b reply (Some rule) = KeepsSteps now g v ds s b × (reply ≡ NotNow rule)
 IsAnswered now g v ds s x b reply None = (seen : ℕ) × KeepsSteps now g v (saw x seen ∷ ds) (does g (saw x seen) s) b

@@ -1,6 +1,6 @@
--- A medium: whoever makes the operations of one vertex on shared words. It holds a record of the steps that the vertex
--- made, each with the word that it saw; an operation makes the record longer by one step, and the word that it answers
--- fits. A turn makes it longer by a turn.
+-- A medium makes the operations of one vertex on shared words. It holds a record of the steps that the vertex made,
+-- each with the word that it saw. An operation adds one step to the record, and the word that it returns fits. A turn
+-- adds a turn.
 use Rattle.std.specs.Prelude.{◌≡◌, ℕ, ◌+◌, List, [], ◌∷◌, ◌++◌, reverse, None}
 use Rattle.chip_part.specs.Setting.{Setting}
 use Rattle.chip_part.specs.declared.act.Act.{Act}
@@ -14,12 +14,12 @@ use Rattle.chip_part.specs.Cursor.{rest_of_turn, IsAt}
 use Rattle.chip_part.specs.Counting.{work_of}
 use Rattle.chip_actor.specs.Actor.{Actor, StandsFor}
 
--- what a medium holds: of a game that is set up so, for this vertex, these steps, the latest first, which leave this
+-- what a medium holds: for a game with this setting, for this vertex, these steps, the latest first, which leave this
 -- part
 abbrev pub Holding : Type 1
 Holding = Setting → ℕ → List Step → Part → Type 0
 
--- the operation is the one that an event of the vertex v needs, whose rules are met
+-- the operation is that of an event of the vertex v whose rules are met
 pub record IsDueBy (g : Setting) (v : ℕ) (s : Part) (act : Act) : Type 0 where
   pub mine : part_of g (event_of v act) ≡ v
   pub met : unmet_rule g (event_of v act) s ≡ None
@@ -43,7 +43,7 @@ Serves old new act seen = (g : Setting) (v : ℕ) (ds : List Step) (s : Part) �
 
 -- ---- a turn
 
--- some record is held that leaves the part that the actor stands for, and a turn may stand there
+-- some record is held that leaves the part that the actor stands for, and a turn may be there
 abbrev pub Meets : Holding → Actor → Cursor → Type 0
 Meets held a cursor = (g : Setting) × (ds : List Step) × (s : Part) × held g a.vertex ds s × StandsFor g s a
     × IsAt g a.vertex cursor s
@@ -66,8 +66,7 @@ pub record TurnGoesOn (now : Holding) (g : Setting) (v : ℕ) (ds : List Step) (
       → rest_of_turn g v from s (more ++ xs) after
   pub counted : (xs : List Step) → work_of g s (more ++ xs) ≡ count + work_of g t xs
 
--- whatever record was held, with the part that the actor stood for, a turn that stood at the first cursor went on to
--- the second
+-- whatever record was held, with the part that the actor stood for, a turn went on from the first cursor to the second
 pub record Moves (old : Holding) (a : Actor) (from : Cursor) (new : Holding) (b : Actor) (to : Cursor)
     (count : ℕ) : Type 0 where
   pub goes : (g : Setting) (ds : List Step) (s : Part) → old g a.vertex ds s → StandsFor g s a → IsAt g a.vertex from s

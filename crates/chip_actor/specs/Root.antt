@@ -27,8 +27,8 @@ pub record Feeder : Type 0 where
   pub fed : ℕ
   pub ended : Bool
 
--- what a `RootBooks` shows: how many edges the graph has; by vertices, how many messages of the root edge are settled;
--- how many are outstanding on all of them; and the feeder
+-- what a `RootBooks` shows: the number of edges of the graph; by vertices, the number of settled messages of the root
+-- edge; the number of outstanding ones on all of them; and the feeder
 pub record Root : Type 0 where
   pub graph_edges : ℕ
   pub settled : List ℕ
@@ -64,7 +64,7 @@ look_reply (Some words) = Done words.0
 abbrev pub feed_reply : ℕ → TailState → Reply
 feed_reply count t = Sent (record { edge = t.edge; place = t.claims; count = count })
 
--- the first rule that isn't met of a look at the cell of the root edge of v, of a put there, and of a feed
+-- the first rule that is not met of a look at the cell of the root edge of v, of a put there, and of a feed
 abbrev pub look_rule : ℕ → Feeder → Option Rule
 look_rule v f = need (not f.ended) Ended (need (is_none (tail_at f v).held) Unput None)
 
@@ -103,7 +103,7 @@ pub record KeepsTail (t : Tail) : Type 0 where
   pub counted : claims_of t ≤ sum (sent_counts t)
   pub quiet : t.clear ≡ true → t.held ≡ None
 
--- the feeder keeps what this part says
+-- the feeder keeps the numbers of this part
 pub record Feeds (g : Setting) (s : Part) (f : Feeder) : Type 0 where
   pub ended : f.ended ≡ s.ended
   pub fed : f.fed ≡ all_fed g s
@@ -117,7 +117,7 @@ pub record Feeds (g : Setting) (s : Part) (f : Feeder) : Type 0 where
   pub settled_few : (v : ℕ) → v < g.game.graph.vertices
       → (s.out (root_edge g v)).settled ≤ claims_of (s.out (root_edge g v)).link
 
--- the root keeps what this part says
+-- the root keeps the numbers of this part
 pub record RootStandsFor (g : Setting) (s : Part) (r : Root) : Type 0 where
   pub game : IsGame g.game
   pub edges : r.graph_edges ≡ graph_edges g
@@ -130,7 +130,7 @@ pub record RootStandsFor (g : Setting) (s : Part) (r : Root) : Type 0 where
 abbrev pub WhateverRoot : Root → (Setting → Part → Type 0) → Type 0
 WhateverRoot r P = (g : Setting) (s : Part) → RootStandsFor g s r → P g s
 
--- it stands for some part, of which this holds
+-- it stands for some part with this property
 abbrev pub SomeRoot : Root → (Setting → Part → Type 0) → Type 0
 SomeRoot r P = (g : Setting) × (s : Part) × RootStandsFor g s r × P g s
 
@@ -138,7 +138,7 @@ SomeRoot r P = (g : Setting) × (s : Part) × RootStandsFor g s r × P g s
 abbrev pub RootCanDo : Setting → Part → Event → ℕ → Type 0
 RootCanDo g s x seen = (is_of_root g x ≡ true) × (unmet_rule g x s ≡ None) × FitsRoot g s x seen
 
--- the root made this event and answered this: whatever part it stood for, it stands for that part after the event
+-- the root made this event with this reply: whatever part it stood for, it stands for that part after the event
 abbrev pub RootMakes : Root → Root → Event → ℕ → Reply → Type 0
 RootMakes old new x seen reply =
     WhateverRoot old (λ g s. RootCanDo g s x seen → RootStandsFor g (does g (saw x seen) s) new
@@ -149,6 +149,6 @@ abbrev pub RootSettles : Root → Root → ℕ → ℕ → ℕ → Type 0
 RootSettles old new v seen more = WhateverRoot old (λ g s. let x = Settle (root_edge g v) in RootCanDo g s x seen
     → RootStandsFor g (does g (saw x seen) s) new × (Done more ≡ reply_of g x seen s))
 
--- how many of the first vertices start with chips
+-- of the first vertices, the number that start with chips
 abbrev pub with_chips : List ℕ → ℕ → ℕ
 with_chips start count = sum_below count (λ v. if slice_index start v == 0 then 0 else 1)

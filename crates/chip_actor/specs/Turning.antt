@@ -1,4 +1,4 @@
--- Where an actor's turn stands, and how it goes on, of whatever part the actor stands for.
+-- The place of an actor's turn, and how it goes on, whatever part the actor stands for.
 use Rattle.std.specs.Prelude.{List, Option}
 use Rattle.chip_part.specs.declared.act.Act.{Act}
 use Rattle.chip_part.specs.Part.{Part}
@@ -22,6 +22,6 @@ TurnContinues a cursor act next = WhateverPart a (λ g s. Continues g a.vertex s
 abbrev pub DueAt : Actor → Cursor → Option (Event × Cursor) → Type 0
 DueAt a cursor due = WhateverPart a (λ g s. IsAt g a.vertex cursor s → IsDueAt g a.vertex s cursor due)
 
--- a turn may stand at this cursor
+-- a turn may be at this cursor
 abbrev pub MayBeAt : Actor → Cursor → Type 0
 MayBeAt a cursor = SomePart a (λ g s. IsAt g a.vertex cursor s)

@@ -17,23 +17,22 @@ mod turn;
 /// The state of one vertex of a running machine.
 ///
 /// Contracts see it as plain data (`specs/Actor.antt`) and say what it does to the part of the core that it stands for.
-/// A call takes time logarithmic in the vertex's edges at most, but that a firing takes time linear in the edges out of
-/// it.
+/// An event takes time at most logarithmic in the vertex's edges, but a firing time linear in the edges out of it.
 #[derive(Drop)]
 pub struct ActorState {
     vertex: u64,
     limit: u64,
     outs: Outs,
     ins: Ins,
-    // What a turn reads and writes stands together from here on.
+    // What a turn reads and writes is together from here on.
     is_sink: bool,
     halt: Option<Cause>,
     degree: u64,
     fired: u64,
     detect: Detect,
     chips: u64,
-    // What is pending on all edges out of the vertex, how many messages are claimed and not put, and on how many edges
-    // a claim was refused: so that nobody has to add them up.
+    // What is pending on all edges out of the vertex, the number of messages claimed and not put, and the number of
+    // edges on which a claim was refused: kept, so that nobody has to add them up.
     pending: u64,
     unput: u64,
     refused: u64,
@@ -93,7 +92,7 @@ impl ActorState {
         self.chips
     }
 
-    /// How often it fired.
+    /// How often the vertex fired.
     pub fn fired(&self) -> u64
         ensures value { result ≡ self.now.fired }
         ensures part { WhateverPart self.now (λ g s. result ≡ s.fired) }
@@ -101,7 +100,7 @@ impl ActorState {
         self.fired
     }
 
-    /// Why it halted, if it did.
+    /// Why the vertex halted, if it did.
     pub fn halted(&self) -> Option<Cause>
         ensures value { result ≡ self.now.halt }
         ensures part { WhateverPart self.now (λ g s. result ≡ s.halt) }
@@ -116,7 +115,7 @@ impl ActorState {
         &self.detect
     }
 
-    /// What is left to send of the last batch, on an edge out of the vertex.
+    /// The number of chips of the last batch that are left to send, on an edge out of the vertex.
     pub fn pending(&self, edge: u64) -> u64
         requires { SomePart self.now (λ g s. tail_of g edge ≡ self.now.vertex) }
         ensures { WhateverPart self.now (λ g s. tail_of g edge ≡ self.now.vertex → result ≡ (s.out edge).pending) }
@@ -141,7 +140,7 @@ impl ActorState {
         self.unput == 0 && (self.halt.is_some() || self.pending == 0 && !self.is_legal())
     }
 
-    // What is known of the edge at this slot of those out of the vertex.
+    // The edge at this slot of those out of the vertex.
     fn out_end(&self, slot: Slot) -> &OutEnd
         requires { IsSlotOf self.now.outs.edges slot }
         ensures { result.now ≡ out_on self.now.outs slot.edge }
@@ -149,14 +148,14 @@ impl ActorState {
         self.outs.at(slot.index)
     }
 
-    // It isn't the sink, and it has the chips for one firing.
+    // Whether the vertex is not the sink, and has the chips for one firing.
     fn is_legal(&self) -> bool
         ensures { result ≡ is_legal_now self.now }
     {
         !self.is_sink && self.chips >= self.degree
     }
 
-    // Why it may halt now, if it may.
+    // Why the vertex may halt now, if it may.
     fn cause(&self) -> Option<Cause>
         ensures { WhateverPart self.now (λ g s. result ≡ cause g self.now.vertex s) }
     {
@@ -169,7 +168,7 @@ impl ActorState {
         }
     }
 
-    // It has the chips for `k` firings.
+    // Whether the vertex has the chips for `k` firings.
     fn affords(&self, k: u64) -> bool
         ensures { result ≡ nat_le (k * self.now.degree) self.now.chips }
     {
@@ -180,7 +179,7 @@ impl ActorState {
         }
     }
 
-    // Nothing is pending, nor claimed and not put.
+    // Whether nothing is pending, and nothing claimed and not put.
     fn is_idle(&self) -> bool
         ensures { result ≡ (self.now.pending == 0 && self.now.unput == 0) }
     {
@@ -266,7 +265,7 @@ impl ActorState {
         ])
     }
 
-    // The first rule of an event of the vertex that isn't met.
+    // The first rule of an event of the vertex that is not met.
     #[inline(always)]
     fn broken_rule(&self, found: Found) -> Option<Rule>
         requires placed { IsPlaced self.now found }
@@ -333,7 +332,7 @@ impl ActorState {
         }
     }
 
-    // The same of an event whose edge is not found yet.
+    // The same for an event whose edge is not found yet.
     fn act(&self, event: &Event) -> Act
         requires { SomePart self.now
             (λ g s. (part_of g event.now ≡ self.now.vertex) × (unmet_rule g event.now s ≡ None)) }
@@ -343,7 +342,7 @@ impl ActorState {
         self.act_at(self.find(event))
     }
 
-    /// The operation that an event of this vertex needs, or the first of its rules that isn't met. Takes and
+    /// The operation that an event of this vertex needs, or the first of its rules that is not met. Takes and
     /// acknowledgements are of edges into the vertex, all others of the vertex itself or of edges out of it. No vertex
     /// feeds.
     pub fn may(&self, event: &Event) -> Result<Act, Rule>
@@ -358,7 +357,7 @@ impl ActorState {
         }
     }
 
-    /// A take of the edge at this slot, with what stood in its cell.
+    /// Notes a take of the edge at this slot, with the word that its cell had.
     fn take(&mut self, slot: Slot, seen: u64) -> Reply
         requires slot { IsSlotOf self.old.ins.edges slot }
         requires can { SomePart self.old (λ g s. CanDo g s self.old.vertex (Take slot.edge) seen) }
@@ -372,7 +371,7 @@ impl ActorState {
         Reply::Got(message)
     }
 
-    /// A settle of the edge at this slot, with its word of acknowledgements.
+    /// Notes a settle of the edge at this slot, with its word of acknowledgements.
     fn settle(&mut self, slot: Slot, seen: u64) -> Reply
         requires slot { IsSlotOf self.old.outs.edges slot }
         requires can { SomePart self.old (λ g s. CanDo g s self.old.vertex (Settle slot.edge) seen) }
@@ -393,7 +392,7 @@ impl ActorState {
         Reply::Done(self.fired)
     }
 
-    /// A look at the cell of the edge at this slot, with what stood in it.
+    /// Notes a look at the cell of the edge at this slot, with the word that it had.
     fn clear(&mut self, slot: Slot, seen: u64) -> Reply
         requires slot { IsSlotOf self.old.outs.edges slot }
         requires can { SomePart self.old (λ g s. CanDo g s self.old.vertex (Clear slot.edge) seen) }
@@ -405,7 +404,7 @@ impl ActorState {
         Reply::Done(place)
     }
 
-    /// A claim of the edge at this slot, with its word.
+    /// Notes a claim of the edge at this slot, with its word.
     fn claim(&mut self, slot: Slot, seen: u64) -> Reply
         requires slot { IsSlotOf self.old.outs.edges slot }
         requires can { SomePart self.old (λ g s. CanDo g s self.old.vertex (Claim slot.edge) seen) }
@@ -421,7 +420,7 @@ impl ActorState {
         Reply::Sent(message)
     }
 
-    /// A put on the edge at this slot.
+    /// Notes a put on the edge at this slot.
     fn put(&mut self, slot: Slot, seen: u64) -> Reply
         requires slot { IsSlotOf self.old.outs.edges slot }
         requires can { SomePart self.old (λ g s. CanDo g s self.old.vertex (Put slot.edge) seen) }
@@ -443,7 +442,7 @@ impl ActorState {
         Reply::Done(0)
     }
 
-    /// An acknowledgement of `count` messages of the edge at this slot, all that may be acknowledged there.
+    /// Notes an acknowledgement of `count` messages of the edge at this slot, all that may be acknowledged there.
     fn acknowledge(&mut self, slot: Slot, count: u64, seen: u64) -> Reply
         requires slot { IsSlotOf self.old.ins.edges slot }
         requires count { count ≡ may_ack self.old.detect slot.edge (is_passive_now self.old) }
@@ -455,8 +454,8 @@ impl ActorState {
         Reply::Done(count)
     }
 
-    /// The reply to an operation that was made, and the state after it. The operation is one that `may` gave for this
-    /// state, and the word that it saw fits: see `FitsSeen`.
+    /// Notes an operation that was made, and returns its reply. The operation is one that `may` gave for this state,
+    /// and the word that it saw fits: see `FitsSeen`.
     pub fn apply(&mut self, observed: Observed) -> Reply
         requires { SomePart self.old (λ g s. IsOperationDue g s self.old.vertex observed) }
         ensures { ActorMakes self.old self.new (event_of self.old.vertex observed.act) observed.seen result }
@@ -489,8 +488,8 @@ impl ActorState {
         }
     }
 
-    /// The state of a vertex at the opening, with rings of `ring` cells. It takes all the memory that the vertex ever
-    /// needs.
+    /// The state of a vertex at the opening, with rings of `ring` cells. It allocates all the memory that the vertex
+    /// ever needs.
     pub fn new(alloc: Global, game: &Game, vertex: u64, ring: u64) -> Result<ActorState, AllocError>
         requires vertex { vertex < game.now.graph.vertices }
         requires ring { IsRing ring }

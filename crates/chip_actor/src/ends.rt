@@ -1,4 +1,4 @@
-//! The ends of a vertex's edges, as one who keeps them finds them: by the number of an edge, or by its place.
+//! The ends of a vertex's edges, found by the number of an edge or by its place.
 
 mod ins;
 mod outs;

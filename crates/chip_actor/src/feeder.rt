@@ -40,8 +40,8 @@ impl FeederState {
     ghost use Rattle.chip_actor.specs.Root.{IsOpeningFeeder, look_reply, feed_reply};
     ghost use Rattle.chip_part.specs.declared.reply.Reply.TheVariants.{Done};
 
-    /// The feeder of a game that opens: what its vertices start with is given already, and if no chips are fed the end
-    /// is noted.
+    /// The feeder of a game that opens: the starting chips are given, and if no chips are fed the end of feeding is
+    /// noted.
     pub(crate) fn new(alloc: Global, setting: &Setting) -> Result<FeederState, AllocError>
         ensures { IfOk result (IsOpeningFeeder setting.now) }
     {
@@ -84,7 +84,7 @@ impl FeederState {
         &self.tails[vertex]
     }
 
-    /// The first rule that isn't met of a look at the next cell of a vertex's root edge.
+    /// The first rule that is not met of a look at the next cell of a vertex's root edge.
     pub(crate) fn look_rule(&self, vertex: usize) -> Option<Rule>
         requires { vertex < length self.now.tails }
         ensures { result ≡ look_rule vertex self.now }
@@ -93,7 +93,7 @@ impl FeederState {
         first_unmet(&[(!self.ended, Rule::Ended), (is_free, Rule::Unput)])
     }
 
-    /// The same of a put there.
+    /// The first rule that is not met of a put there.
     pub(crate) fn put_rule(&self, vertex: usize) -> Option<Rule>
         requires { vertex < length self.now.tails }
         ensures { result ≡ put_rule vertex self.now }
@@ -102,7 +102,7 @@ impl FeederState {
         first_unmet(&[(is_claimed, Rule::NotClaimed)])
     }
 
-    /// The same of a feed of `count` chips.
+    /// The first rule that is not met of a feed of `count` chips.
     pub(crate) fn feed_rule(&self, vertex: usize, count: u64) -> Option<Rule>
         requires vertex { vertex < length self.now.tails }
         requires few { self.now.fed ≤ max_total }
@@ -131,7 +131,7 @@ impl FeederState {
         }
     }
 
-    /// Notes a claim for `count` chips, which saw its own number of claims.
+    /// Notes a claim for `count` chips; the word that it saw is the tail's own number of claims.
     pub(crate) fn feed(&mut self, vertex: usize, count: u64, seen: u64) -> Reply
         requires vertex { (vertex < length self.old.tails) × (vertex < length self.old.given) }
         requires clear { (tail_at self.old vertex).clear ≡ true }

@@ -1,9 +1,9 @@
-//! The parts of a running machine. Of a vertex: its state, which events it may make, and a whole turn of it over any
-//! medium. Of the root: what it knows of its messages, and what it feeds if chips may be fed.
+//! The parts of a running machine. Of a vertex: its state, the events that it may make, and a whole turn of it over any
+//! medium. Of the root: its messages, and its feeder if chips may be fed.
 //!
-//! The definitions stand in `specs/`: what an actor keeps, and when it stands for a part of the core (`Actor`), where a
-//! turn of it stands (`Turning`), whoever makes its operations (`Medium`), and the root (`Root`). The part itself, its events
-//! and the order of a turn are those of `chip_part`.
+//! The definitions are in `specs/`: what an actor keeps, and when it stands for a part of the core (`Actor`), where its
+//! turn is (`Turning`), the medium that makes its operations (`Medium`), and the root (`Root`). The part itself, its
+//! events and the order of a turn are those of `chip_part`.
 #![tactic(auto)]
 
 mod actor;

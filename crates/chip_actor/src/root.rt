@@ -7,8 +7,8 @@ use chip_part::{Act, Reply, Rule, Setting, first_unmet};
 use std::alloc::{AllocError, Global};
 use std::marker::Model;
 
-/// The root at run time: of each root edge, by vertices, how many messages are settled, and how many are outstanding on
-/// all of them; and what it feeds chips with.
+/// The root at run time: for each root edge, by vertices, the number of settled messages; the number of outstanding
+/// messages on all of them; and the feeder.
 #[derive(Drop)]
 pub struct RootBooks {
     graph_edges: u64,
@@ -48,7 +48,7 @@ impl RootBooks {
     ghost use Rattle.chip_link.specs.declared.event.Event.TheVariants.{Clear, Put, Settle, Read, Feed, End};
 
     /// The root at the opening, with one message outstanding for each vertex that starts with chips. If no chips are
-    /// fed, the end of feeding is noted. It takes all the memory that the root ever needs.
+    /// fed, the end of feeding is noted. It allocates all the memory that the root ever needs.
     pub fn new(alloc: Global, setting: &Setting) -> Result<RootBooks, AllocError>
         ensures { IfOk result (RootStandsFor setting.now (opening_part setting.now)) }
     {
@@ -61,14 +61,14 @@ impl RootBooks {
         })
     }
 
-    /// How many messages are outstanding.
+    /// The number of outstanding messages.
     pub fn outstanding(&self) -> u64
         ensures { WhateverRoot self.now (λ g s. result ≡ deficit_of g (root g) s) }
     {
         self.outstanding
     }
 
-    /// Whether nothing more is fed, and no message is outstanding.
+    /// Whether feeding has ended, and no message is outstanding.
     pub fn closed(&self) -> bool
         ensures { WhateverRoot self.now (λ g s. result ≡ (deficit_of g (root g) s == 0 && s.ended)) }
     {
@@ -93,7 +93,7 @@ impl RootBooks {
         }
     }
 
-    // The first rule that isn't met of a look at the next cell of a root edge.
+    // The first rule that is not met of a look at the next cell of a root edge.
     fn look_rule(&self, edge: u64) -> Option<Rule>
         requires { SomeRoot self.now (λ g s. graph_edges g ≤ edge) }
         ensures { WhateverRoot self.now (λ g s. graph_edges g ≤ edge → result ≡ unmet_rule g (Clear edge) s) }
@@ -104,7 +104,7 @@ impl RootBooks {
         }
     }
 
-    // The same of a put there.
+    // The same for a put there.
     fn put_rule(&self, edge: u64) -> Option<Rule>
         requires { SomeRoot self.now (λ g s. graph_edges g ≤ edge) }
         ensures { WhateverRoot self.now (λ g s. graph_edges g ≤ edge → result ≡ unmet_rule g (Put edge) s) }
@@ -115,7 +115,7 @@ impl RootBooks {
         }
     }
 
-    // The same of a feed over an edge.
+    // The same for a feed over an edge.
     fn feed_rule(&self, edge: u64, count: u64) -> Option<Rule>
         requires { SomeRoot self.now (λ g s. ⊤) }
         ensures { WhateverRoot self.now (λ g s. result ≡ unmet_rule g (Feed edge count) s) }
@@ -126,7 +126,7 @@ impl RootBooks {
         }
     }
 
-    // The first rule of an event of the root that isn't met.
+    // The first rule of an event of the root that is not met.
     fn broken_rule(&self, event: &Event) -> Option<Rule>
         requires { SomeRoot self.now (λ g s. is_of_root g event.now ≡ true) }
         ensures { WhateverRoot self.now (λ g s. is_of_root g event.now ≡ true → result ≡ unmet_rule g event.now s) }
@@ -199,7 +199,7 @@ impl RootBooks {
         }
     }
 
-    /// The operation that an event of the root needs, or the first of its rules that isn't met. The event is a look, a
+    /// The operation that an event of the root needs, or the first of its rules that is not met. The event is a look, a
     /// put or a settle of a root edge, a feed, the end of feeding, or a read. A read is no operation on an edge: `End`.
     pub fn may(&self, event: &Event) -> Result<Act, Rule>
         requires { SomeRoot self.now (λ g s. is_of_root g event.now ≡ true) }
@@ -212,8 +212,8 @@ impl RootBooks {
         }
     }
 
-    /// The reply to an event that was made, and the state after it. The event is one that `may` has nothing against,
-    /// and the word that it saw fits: see `FitsRoot`.
+    /// Notes an event that was made, and returns its reply. The event is one that `may` allows, and the word that it
+    /// saw fits: see `FitsRoot`.
     pub fn apply(&mut self, event: &Event, seen: u64) -> Reply
         requires { SomeRoot self.old (λ g s. RootCanDo g s event.now seen) }
         ensures { RootMakes self.old self.new event.now seen result }
@@ -229,7 +229,7 @@ impl RootBooks {
         }
     }
 
-    /// A look at the next cell of a root edge, with what stood in it.
+    /// Notes a look at the next cell of a root edge, with the word that it had.
     fn look(&mut self, edge: u64, seen: u64) -> Reply
         requires { SomeRoot self.old (λ g s. RootCanDo g s (Clear edge) seen) }
         ensures { RootMakes self.old self.new (Clear edge) seen result }
@@ -238,7 +238,7 @@ impl RootBooks {
         self.feeder.look(vertex, seen)
     }
 
-    /// A put on a root edge.
+    /// Notes a put on a root edge.
     fn put(&mut self, edge: u64, seen: u64) -> Reply
         requires { SomeRoot self.old (λ g s. RootCanDo g s (Put edge) seen) }
         ensures { RootMakes self.old self.new (Put edge) seen result }
@@ -247,7 +247,7 @@ impl RootBooks {
         self.feeder.put(vertex)
     }
 
-    /// A claim of a root edge for `count` chips, with its word.
+    /// Notes a claim of a root edge for `count` chips, with its word.
     fn feed(&mut self, edge: u64, count: u64, seen: u64) -> Reply
         requires { SomeRoot self.old (λ g s. RootCanDo g s (Feed edge count) seen) }
         ensures { RootMakes self.old self.new (Feed edge count) seen result }
@@ -257,7 +257,7 @@ impl RootBooks {
         self.feeder.feed(vertex, count, seen)
     }
 
-    /// The end of feeding, with the word of acknowledgements of the first root edge.
+    /// Notes the end of feeding, with the word of acknowledgements of the first root edge.
     fn end(&mut self, seen: u64) -> Reply
         requires { SomeRoot self.old (λ g s. RootCanDo g s End seen) }
         ensures { RootMakes self.old self.new End seen result }
@@ -273,20 +273,20 @@ impl RootBooks {
         self.feeder.end();
     }
 
-    /// Counts the acknowledgements of a vertex's root edge up to the word that was seen, and gives how many of them are
-    /// new. It is what `apply` does with a settle of that edge.
+    /// Counts the acknowledgements of a vertex's root edge up to the word that was seen, and returns the number of new
+    /// ones. `apply` does so with a settle of that edge.
     pub fn settle(&mut self, vertex: usize, seen: u64) -> u64
         requires { SomeRoot self.old (λ g s. RootCanDo g s (Settle (root_edge g vertex)) seen) }
         ensures { RootSettles self.old self.new vertex seen result }
     {
-        // (mostly nothing is new: a poll looks at each root edge)
+        // (mostly nothing is new: a poll reads each root edge)
         if self.settled[vertex] == seen {
             return 0;
         }
         self.count(vertex, seen)
     }
 
-    /// The same of a root edge by its own number.
+    /// The same for a root edge by its own number.
     fn settle_edge(&mut self, edge: u64, seen: u64) -> Reply
         requires { SomeRoot self.old (λ g s. RootCanDo g s (Settle edge) seen) }
         ensures { RootMakes self.old self.new (Settle edge) seen result }
@@ -295,7 +295,7 @@ impl RootBooks {
         Reply::Done(self.settle(vertex, seen))
     }
 
-    /// Notes how many messages of a vertex's root edge are settled, and gives how many of them are new.
+    /// Notes how many messages of a vertex's root edge are settled, and returns the number of new ones.
     #[cold]
     fn count(&mut self, vertex: usize, settled: u64) -> u64
         requires vertex { vertex < length self.old.settled }
@@ -316,7 +316,7 @@ impl RootBooks {
 
 ghost use Rattle.chip_actor.specs.Root.{with_chips};
 
-/// How many vertices start with chips.
+/// The number of vertices that start with chips.
 fn with_chips(start: &[u64]) -> u64
     ensures value { result ≡ with_chips start.now (length start.now) }
     ensures few { result ≤ length start.now }

@@ -8,14 +8,15 @@ use Rattle.std.specs.Str.{bytes_eq}
 abbrev pub has_value : List ℕ → Bool
 has_value argument = starts_with nat_eq argument (codes "--") && list_any (λ byte. byte == 61) argument
 
--- how many places an argument takes, by whether only operands are left: the first `--` none, an option with its value two
+-- the number of places of an argument, by whether only operands are left: the first `--` none, an option with its value
+-- two
 abbrev pub places_of : Bool → List ℕ → ℕ
 places_of only_operands argument =
     if only_operands then 1
     else if bytes_eq argument (codes "--") then 0
     else if has_value argument then 2 else 1
 
--- how many places each argument takes
+-- the number of places of each argument
 abbrev pub argument_places : Bool → List (List ℕ) → List ℕ
 argument_places only_operands [] = []
 argument_places only_operands (argument ∷ more) =

@@ -24,7 +24,7 @@ const USUAL_RING: u64 = 1;
 const USUAL_WORKERS: u64 = 2;
 
 const USUAL_TURNS: u64 = 1 << 30;
-/// If there is a trace. Else it is 0.
+/// The usual number of rows of a trace, if there is one. Else it is 0.
 const USUAL_TRACE_ROWS: u64 = 1024;
 
 /// A file that an argument names.
@@ -35,7 +35,7 @@ pub struct FileArgument<'a> {
     pub number: u64,
 }
 
-/// A game, and what it starts with.
+/// A game, and the file of its start.
 #[derive(Clone, Copy)]
 pub struct GameArguments<'a> {
     pub graph: FileArgument<'a>,
@@ -75,9 +75,9 @@ pub struct AvalancheArguments<'a> {
 pub struct SimulationArguments<'a> {
     pub game: GameArguments<'a>,
     pub schedule: FileArgument<'a>,
-    /// How many cells the ring of an edge has, 1 to 64.
+    /// The number of cells of an edge's ring, 1 to 64.
     pub ring: u64,
-    /// 0 to 2^40.
+    /// The most rounds, 0 to 2^40.
     pub rounds: u64,
     pub books: bool,
     pub fed: bool,
@@ -87,16 +87,16 @@ pub struct SimulationArguments<'a> {
 #[derive(Clone, Copy)]
 pub struct RunArguments<'a> {
     pub game: GameArguments<'a>,
-    /// How many cells the ring of an edge has, 1 to 64.
+    /// The number of cells of an edge's ring, 1 to 64.
     pub ring: u64,
-    /// How many threads, 1 to 64.
+    /// The number of threads, 1 to 64.
     pub workers: u64,
     pub dealt: bool,
-    /// How many turns each thread makes at most, 1 to 2^40.
+    /// The most turns of each thread, 1 to 2^40.
     pub turns: u64,
     pub feed: Option<FileArgument<'a>>,
     pub trace: Option<FileArgument<'a>>,
-    /// How many rows of each vertex the trace has room for, 0 to 2^20.
+    /// The most rows of each vertex in the trace, 0 to 2^20.
     pub trace_rows: u64,
 }
 
@@ -124,7 +124,7 @@ pub struct JudgeArguments<'a> {
     pub past: bool,
     /// Whether to end at the first early claim.
     pub first: bool,
-    /// How many processes have to have a row, 0 to 2^22.
+    /// The number of processes that must have a row, 0 to 2^22.
     pub processes: u64,
     pub large: bool,
     pub progress: bool,
@@ -139,12 +139,12 @@ pub enum Request<'a> {
     Plain(PlainArguments<'a>),
     Avalanches(AvalancheArguments<'a>),
     Recurrent(GameArguments<'a>),
-    /// Of the group of this graph.
+    /// Asks for the group of this graph.
     Identity(GraphArguments<'a>),
     Simulate(SimulationArguments<'a>),
     Run(RunArguments<'a>),
     Replay(ReplayArguments<'a>),
-    /// Its start is a report.
+    /// Starts from a report.
     Resume(GameArguments<'a>),
     Verify(VerifyArguments<'a>),
     Judge(JudgeArguments<'a>),
@@ -155,7 +155,7 @@ pub enum Request<'a> {
 }
 
 impl Request<'_> {
-    /// Whether it asks for lines of progress.
+    /// Whether lines of progress are asked for.
     pub fn has_progress(&self) -> bool
         ensures { result ≡ asks_progress self.now }
     {
@@ -171,7 +171,7 @@ impl Request<'_> {
     }
 }
 
-/// Reads the arguments of a process, the program's own name first.
+/// Reads the arguments of a process, of which the first is the program's own name.
 pub fn parse<'a>(alloc: Global, arguments: &'a [String]) -> Result<Request<'a>, ArgumentsFault> {
     match program(alloc)?.try_get_matches_from(arguments) {
         Ok(matches) => request_of(alloc, &matches, arguments),
@@ -179,7 +179,7 @@ pub fn parse<'a>(alloc: Global, arguments: &'a [String]) -> Result<Request<'a>, 
     }
 }
 
-/// What the arguments ask for if the command-line library did not take them.
+/// The request of arguments that the command-line library refused.
 fn answer_of<'a>(alloc: Global, error: &Error) -> Result<Request<'a>, ArgumentsFault> {
     match error.kind() {
         ErrorKind::DisplayHelp | ErrorKind::DisplayVersion => {
@@ -190,7 +190,7 @@ fn answer_of<'a>(alloc: Global, error: &Error) -> Result<Request<'a>, ArgumentsF
     }
 }
 
-/// What the arguments ask for if the command-line library took them.
+/// The request of arguments that the command-line library accepted.
 fn request_of<'a>(
     alloc: Global,
     matches: &ArgMatches<'a>,
@@ -213,7 +213,7 @@ struct Found<'m, 'a> {
 }
 
 impl<'m, 'a> Found<'m, 'a> {
-    /// What is asked of the command with this name.
+    /// The request of the command with this name.
     fn request(&self, name: &str) -> Option<Request<'a>> {
         match name {
             "check" => Some(Request::Check(self.graph())),
@@ -298,7 +298,7 @@ impl<'m, 'a> Found<'m, 'a> {
         }))
     }
 
-    /// Of a fault, or after the word `rule` of a rule.
+    /// Asks for a fault, or after the word `rule` for a rule.
     fn explanation(&self) -> Option<Request<'a>> {
         let rule = self.matches.get_one::<u64>(RULE_NUMBER.name);
         match self.matches.get_str(FAULT_NUMBER.name) {
@@ -312,7 +312,7 @@ impl<'m, 'a> Found<'m, 'a> {
         }
     }
 
-    /// The graph that is asked for.
+    /// The requested graph.
     fn graph(&self) -> GraphArguments<'a> {
         GraphArguments {
             graph: self.file(GRAPH),
@@ -320,7 +320,7 @@ impl<'m, 'a> Found<'m, 'a> {
         }
     }
 
-    /// The game that is asked for, which starts with the file of this operand.
+    /// The requested game, which starts with the file of this operand.
     fn game(&self, start: &ArgumentRow) -> GameArguments<'a> {
         GameArguments {
             graph: self.file(GRAPH),
@@ -331,7 +331,7 @@ impl<'m, 'a> Found<'m, 'a> {
         }
     }
 
-    /// The file of an argument that is there, as each operand with a file is.
+    /// The file of an argument that must be there, as of each operand with a file.
     fn file(&self, row: &ArgumentRow) -> FileArgument<'a> {
         let place = self.matches.index_of(row.name).unwrap_or(0);
         FileArgument {
@@ -355,7 +355,7 @@ impl<'m, 'a> Found<'m, 'a> {
     }
 }
 
-/// The number of the argument after the command that has this place, from 1; 0 if none has it.
+/// The number of the argument after the command with this place, from 1; 0 if none has it.
 ///
 /// The command-line library counts places from 1. An argument takes one, but an option with its value after `=` takes
 /// two, and the first `--` takes none: only operands follow it.
@@ -380,7 +380,7 @@ fn number_at(arguments: &[String], place: usize) -> u64
     0
 }
 
-/// How many places an argument takes.
+/// The number of places of an argument.
 fn places_of(only_operands: bool, argument: &str) -> usize
     ensures { result ≡ places_of only_operands argument.now }
 {

@@ -1,4 +1,4 @@
-//! The commands of the program: a table of their operands, their options and what the help says of them.
+//! The commands of the program: a table of their operands, their options and their help.
 
 use crate::limits::{
     MAX_LIMIT, MAX_PROCESSES, MAX_RING, MAX_ROUNDS, MAX_TRACE_ROWS, MAX_TURNS, MAX_WORKERS,
@@ -17,13 +17,13 @@ pub struct CommandRow {
 
 /// An operand or an option of a command.
 pub struct ArgumentRow {
-    /// Of an option, without the two hyphens before it.
+    /// The name of an option, without the two hyphens before it.
     pub name: &'static str,
     pub help: &'static str,
     pub is: Argument,
 }
 
-/// What an argument is.
+/// The kind of an argument.
 pub enum Argument {
     /// An operand, a file that must be named.
     File,
@@ -31,11 +31,11 @@ pub enum Argument {
     Word,
     /// An operand, a number that may be missing.
     Number,
-    /// An option that takes nothing.
+    /// An option without a value.
     Flag,
-    /// An option that takes the name of a file.
+    /// An option with the name of a file.
     FileOption,
-    /// An option that takes a number: the letter that the help calls it by, the least and the most.
+    /// An option with a number: the letter for it in the help, the least and the most.
     NumberOption(&'static str, u64, u64),
 }
 

@@ -6,10 +6,10 @@ use thiserror::Error;
 /// Why arguments ask for nothing.
 #[derive(Debug, Drop, Error)]
 pub enum ArgumentsFault {
-    /// They are not as the help says. The text is what the command-line library says of them, or empty.
+    /// They are not as the help says. The text is the message of the command-line library, or empty.
     #[error("the arguments are not as `--help` says")]
     Usage(String),
-    /// There is no memory for them.
+    /// Memory for them ran out.
     #[error("there is no memory for the arguments")]
     NoMemory,
 }

@@ -1,6 +1,6 @@
 //! The arguments of the program: what they ask for, and the help.
 //!
-//! The crate waits for no engine. What it reads is tested on the program.
+//! The crate depends on no engine. Its reading of arguments is tested on the program.
 #![tactic(auto)]
 
 pub use arguments::{

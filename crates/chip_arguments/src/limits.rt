@@ -1,4 +1,4 @@
-//! The most that the numbers of options may be. The program is built only if engines with such a limit agree.
+//! The limits of the numbers of options. The program is built only if engines with such a limit agree.
 
 pub const MAX_LIMIT: u64 = 1 << 40;
 

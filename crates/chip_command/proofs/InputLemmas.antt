@@ -19,7 +19,7 @@ pub at_some : {A : Type 0} (P : A → Type 0) (o : Option A) (x : A) → o ≡ S
 at_some P None x is known = cc
 at_some P (Some y) x is known = let same : y ≡ x = cc in rw same at known
 
--- what reading answers where the text is known
+-- the result of reading where the text is known
 pub known : {T : Type 0} {limits : SizeLimits} {M : List ℕ → T → Type 0} {F : List ℕ → FileFault → Type 0}
     {old new : Option (List ℕ)} {result : Result T FileFault} → ReadsText limits M F old new result
     → (text : List ℕ) → old ≡ Some text → AnswersInput limits text (M text) (F text) result

@@ -1,4 +1,5 @@
--- Serves OneReport.antt, PlainCommand.antt: all that is reported of a game is read off the game, and texts mean one game.
+-- Serves OneReport.antt, PlainCommand.antt: all that is reported of a game follows from the game, and texts mean one
+-- game.
 use Rattle.std.proofs.Common.{◌≡◌, ◌<◌, ℕ, List, length, Option, refl, sym, ap, ◌∙◌, slice_index, unwrap_or, arith}
 use Rattle.std.proofs.Common.{Result, Ok, Err}
 use Rattle.std.proofs.lemmas.List.{same_lists, get_or_default}

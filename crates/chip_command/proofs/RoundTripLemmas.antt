@@ -285,7 +285,7 @@ read_is_in_graph G text traces meant =
     } in
     rw fine.1 at are
 
--- ---- whatever is answered
+-- ---- any result
 
 answered : (G : Multigraph) (traces : List (List TraceRow)) (file : List ℕ)
     (answer : Result (List (List TraceRow)) FileFault) → traces_of_text G file ≡ Some traces

@@ -1,5 +1,5 @@
 -- Serves Sitting.antt.
--- What the report of a first sitting tells.
+-- What the report of a first stage says.
 use Rattle.std.proofs.Common.{◌≡◌, ℕ, List, length, slice_index, sym, ◌∙◌, subst, arith, inl, inr}
 use Rattle.std.specs.Prelude.{replicate}
 use Rattle.std.proofs.lemmas.Grind.{common_steps}
@@ -21,11 +21,11 @@ use Rattle.chip_command.specs.Sitting.{TellsPlayFrom}
 none_before : (n v : ℕ) → slice_index (replicate n 0) v ≡ 0
 none_before n v = grind (arith, common_steps)
 
--- what an outcome tells leads from x to its chips
+-- what an outcome reports leads from x to its chips
 abbrev Leads : Multigraph → (ℕ → ℕ) → Content → Type 0
 Leads G x t = LeadsTo G x (slice_index t.fired) (slice_index t.chips)
 
--- the report of an outcome whose counts lead to its chips tells a play
+-- the report of an outcome whose counts lead to its chips describes a play
 pub first_tells : (G : Multigraph) (x : ℕ → ℕ) (o : Outcome) → IsOutcome o
     → LeadsTo G x (slice_index o.fired.items) (slice_index o.chips.items)
     → (report : List ℕ) → report ≡ report_text o → TellsPlayFrom G x report
@@ -38,7 +38,7 @@ first_tells G x o fits leads report spelled r (inl first) =
 first_tells G x o fits leads report spelled r (inr two) =
     absurd (not_both report o r (record { reportable = fits; spelled = spelled }) two)
 
--- the report of a game played to its end tells a play from its start
+-- the report of a game played to its end describes a play from its start
 pub report_tells : (g : ChipGame) → IsGame g → (text : List ℕ) (status : ℕ) → Reports g text status
     → TellsPlayFrom g.graph (slice_index g.start) text
 report_tells g fits text status (o, played, spelled, s) =

@@ -1,4 +1,4 @@
--- What a command answers, by what it may write and why it may refuse.
+-- The results of a command, by what it may write and why it may refuse.
 use Rattle.std.specs.Prelude.{◌≡◌, ◌⊎◌, ℕ, List, false, MatchResult, Option, Result, Ok, Err}
 use Rattle.std.specs.Io.KnownBytes.{Appends, Keeps}
 use Rattle.chip_report.specs.Written.{WritesAll}
@@ -14,7 +14,7 @@ pub record Spec (A : Type 0) : Type 1 where
   pub gives : A → Type 0
   pub refuses : Fault → Type 0
 
--- a computation, and then another by what the first gave
+-- a computation, and then another, which depends on the result of the first
 abbrev pub bind : {A B : Type 0} → Spec A → (A → Spec B) → Spec B
 bind {A} first next = record {
   gives = λ b. (a : A) × first.gives a × (next a).gives b;
@@ -34,7 +34,7 @@ abbrev pub GivesAnswer : Spec (List ℕ × ℕ) → Result Answer Fault → Type
 GivesAnswer spec result =
     MatchResult result (λ answer. spec.gives (answer.text.items, number_of_status answer.status)) spec.refuses
 
--- a text that it may write went out, with its status; or it refuses, and nothing is written; or the output failed
+-- a text that it may write is written, with its status; or it refuses, and nothing is written; or the output failed
 abbrev pub AnswersBy : Spec (List ℕ × ℕ) → Option (List ℕ) → Option (List ℕ) → Result Ended Fault → Type 0
 AnswersBy spec old new (Ok ended) =
     (text : List ℕ) × spec.gives (text, ended.status) × Appends old new text × (ended.cut ≡ false)
@@ -43,7 +43,7 @@ AnswersBy spec old new (Err fault) =
     ⊎ ((text : List ℕ) × (status : ℕ) × spec.gives (text, status)
     × (w : WriteFault) × (fault ≡ Write w) × WritesAll old new text (Err w))
 
--- what a command answers
+-- the results of a command
 pub record CommandAnswers (spec : Spec (List ℕ × ℕ)) (old new : Option (List ℕ))
     (result : Result Ended Fault) : Type 0 where
   pub answer : AnswersBy spec old new result

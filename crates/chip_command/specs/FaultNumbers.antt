@@ -1,4 +1,4 @@
--- The numbers under which faults are printed, and where each is.
+-- The numbers under which faults are printed, and the place of each.
 use Rattle.std.specs.Prelude.{ℕ, Option, Some, None, List, [], ◌++◌, codes}
 use Rattle.std.specs.Fmt.{decimal}
 use Rattle.chip_graph.specs.FaultNumbers.{game_fault_number}
@@ -16,12 +16,12 @@ use Rattle.chip_command.specs.declared.fault.Location.TheVariants.{Nowhere, At, 
 use Rattle.chip_command.specs.declared.status.Status.{Status}
 use Rattle.chip_command.specs.declared.status.Status.TheVariants.{Failed, Unfinished}
 
--- the location of a fault of a library that names this place
+-- the location of a library's fault that names this place
 abbrev pub location_at : Option ℕ → Location
 location_at None = Nowhere
 location_at (Some number) = At number
 
--- a fault of a command as it is printed: its number, which is that of the library whose fault it is, and where it is; an
+-- a fault of a command as it is printed: its number, which is that of the library whose fault it is, and its place; an
 -- output failed after a number of bytes
 abbrev pub print_fault : Fault → ℕ × Location
 print_fault (fault.File f) = (file_fault_number f, location_at (file_fault_place f))
@@ -48,7 +48,7 @@ print_fault fault.WriteFile = (trace_fault_number trace.Write, Nowhere)
 abbrev pub command_fault_number : Fault → ℕ
 command_fault_number f = (print_fault f).0
 
--- where a fault of a command is
+-- the place of a fault of a command
 abbrev pub location_of : Fault → Location
 location_of f = (print_fault f).1
 

@@ -14,17 +14,17 @@ use Rattle.chip_trace.specs.declared.fault.TraceFault.TheVariants as trace
 use Rattle.chip_command.specs.declared.fault.Fault.{Fault}
 use Rattle.chip_command.specs.declared.fault.Fault.TheVariants.{File, Stuck, WriteFile, NotReport, Resume, NoMemory}
 
--- want of memory is one fault, whoever met it
+-- want of memory is one fault, whichever library has it
 abbrev pub fault_of_file : FileFault → Fault
 fault_of_file file.NoMemory = NoMemory
 fault_of_file fault = File fault
 
--- the fault of recorded runs that do not fit together
+-- the fault of recorded runs without an interleaving
 abbrev pub fault_of_replay : ReplayFault → Fault
 fault_of_replay (replay.Stuck vertex row) = Stuck vertex row
 fault_of_replay replay.NoMemory = NoMemory
 
--- the fault of the rows of a log that do not fit together
+-- the fault of the rows of a log without an interleaving
 abbrev pub fault_of_order : OrderFault → Fault
 fault_of_order (order.Stuck process row) = Stuck process row
 fault_of_order order.NoMemory = NoMemory

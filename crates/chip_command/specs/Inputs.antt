@@ -20,7 +20,7 @@ use Rattle.chip_command.specs.declared.fault.Fault.TheVariants.{Game}
 abbrev pub ReadsWithin : SizeLimits → List ℕ → Type 0 → Type 0
 ReadsWithin limits text meaning = (length text ≤ limits.bytes) × meaning
 
--- two texts and a limit name these numbers of a game, be it within the limits of a game or not
+-- two texts and a limit name these numbers of a game, whether or not it is within the limits of a game
 pub record NamesGame (limits : SizeLimits) (graph_text chips_text : List ℕ) (limit : ℕ) (g : ChipGame) : Type 0 where
   pub graph : ReadsWithin limits graph_text (MeansGraph limits graph_text g.graph)
   pub start : ReadsWithin limits chips_text (chips_of_text g.graph.vertices chips_text ≡ Some g.start)
@@ -41,7 +41,7 @@ IsInputRefused limits text IsFault f =
 abbrev pub RefusesText : SizeLimits → List ℕ → (FileFault → Type 0) → Fault → Type 0
 RefusesText limits text IsFault fault = (f : FileFault) × (fault ≡ fault_of_file f) × IsInputRefused limits text IsFault f
 
--- what reading a text by its meanings and its faults may give, of a reader that may know it
+-- the results of reading a text by its meanings and its faults, of a reader whose text may be known
 abbrev pub reading : {A : Type 0} → SizeLimits → (List ℕ → A → Type 0) → (List ℕ → FileFault → Type 0) → Option (List ℕ)
     → Spec A
 reading limits IsMeant IsFault known = record {
@@ -49,7 +49,7 @@ reading limits IsMeant IsFault known = record {
   refuses = λ fault. ForSome known (λ text. RefusesText limits text (IsFault text) fault);
 }
 
--- what reading a graph may give
+-- the results of reading a graph
 abbrev pub reading_graph : SizeLimits → Option (List ℕ) → Spec Multigraph
 reading_graph limits graph = reading limits (MeansGraph limits) (IsGraphTextFault limits) graph
 
@@ -62,17 +62,17 @@ RefusesInputs limits graph_text chips_text limit fault =
     ⊎ ((g : ChipGame) × NamesGame limits graph_text chips_text limit g
     × (f : GameFault) × (fault_of_game g ≡ Some f) × (fault ≡ Game f))
 
--- two readers and a limit gave this game: if they know their texts, it is the one that these mean
+-- two readers and a limit gave this game: if their texts are known, it is the one that these mean
 pub record GaveGame (limits : SizeLimits) (graph chips : Option (List ℕ)) (limit : ℕ) (g : ChipGame) : Type 0 where
   pub game : IsGame g
   pub means : ForSome graph (λ graph_text. ForSome chips (λ chips_text. MeansGame limits graph_text chips_text limit g))
 
--- they gave none: if they know their texts, this is why
+-- they gave none: if their texts are known, this is why
 abbrev pub GaveNoGame : SizeLimits → Option (List ℕ) → Option (List ℕ) → ℕ → Fault → Type 0
 GaveNoGame limits graph chips limit fault =
     ForSome graph (λ graph_text. ForSome chips (λ chips_text. RefusesInputs limits graph_text chips_text limit fault))
 
--- what reading the inputs may give
+-- the results of reading the inputs
 abbrev pub reading_game : SizeLimits → Option (List ℕ) → Option (List ℕ) → ℕ → Spec ChipGame
 reading_game limits graph chips limit =
     record { gives = GaveGame limits graph chips limit; refuses = GaveNoGame limits graph chips limit }

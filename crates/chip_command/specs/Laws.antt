@@ -30,7 +30,7 @@ abbrev pub ReadIsInGraph : Type 0
 ReadIsInGraph = (G : Multigraph) (text : List ℕ) (traces : List (List TraceRow)) → traces_of_text G text ≡ Some traces
     → AreTracesIn G traces
 
--- whatever `read_trace` may answer at a file that `write_trace` wrote of traces in a graph: these traces, or that the
+-- whatever `read_trace` may return for a file that `write_trace` wrote of traces in a graph: these traces, or that the
 -- machine failed, or that the file has more bytes than are read
 abbrev pub FileIsReadBack : Type 0
 FileIsReadBack = (G : Multigraph) (traces : List (List TraceRow)) → IsGraph G → AreTracesIn G traces

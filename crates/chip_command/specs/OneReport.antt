@@ -10,7 +10,7 @@ use Rattle.chip_command.specs.declared.ended.Ended.{Ended}
 abbrev pub OneReport : Type 0
 OneReport = (g : ChipGame) (one other : List ℕ) (s t : ℕ) → Reports g one s → Reports g other t → (one ≡ other) × (s ≡ t)
 
--- `plain` wrote this report of the game that the texts mean, by whatever limits of its size, and answered this status
+-- `plain` wrote this report of the game that the texts mean, by whatever limits of its size, and ended with this status
 abbrev pub PlainWrote : (graph_text chips_text : List ℕ) → ℕ → List ℕ → ℕ → Type 0
 PlainWrote graph_text chips_text limit report status =
     (limits : SizeLimits) × (ended : Ended)

@@ -15,11 +15,11 @@ use Rattle.chip_command.specs.declared.fault.Fault.TheVariants.{NoMemory}
 abbrev pub playing : ChipGame → Spec (List ℕ × ℕ)
 playing g = record { gives = λ (text, status). Reports g text status; refuses = λ fault. fault ≡ NoMemory }
 
--- what `plain` may give: the report of the game of its inputs
+-- the results of `plain`: the report of the game of its inputs
 abbrev pub plain_spec : SizeLimits → Option (List ℕ) → Option (List ℕ) → ℕ → Spec (List ℕ × ℕ)
 plain_spec limits graph chips limit = bind (reading_game limits graph chips limit) playing
 
--- what `plain` answers by these limits, whose readers may know their texts
+-- the results of `plain` by these limits, for readers whose texts may be known
 abbrev pub PlainAnswers : SizeLimits → Option (List ℕ) → Option (List ℕ) → ℕ → Option (List ℕ) → Option (List ℕ)
     → Result Ended Fault → Type 0
 PlainAnswers limits graph chips limit old new result =
@@ -31,7 +31,7 @@ PlainWrites limits graph_text chips_text limit old new ended =
     (g : ChipGame) × MeansGame limits graph_text chips_text limit g
     × (text : List ℕ) × Reports g text ended.status × Appends old new text
 
--- the same by what the readers have left, if that is known
+-- the same by the texts that the readers have left, if these are known
 abbrev pub PlainReports : SizeLimits → Option (List ℕ) → Option (List ℕ) → ℕ → Option (List ℕ) → Option (List ℕ)
     → Result Ended Fault → Type 0
 PlainReports limits graph chips limit old new result = ForSome graph (λ graph_text. ForSome chips (λ chips_text.

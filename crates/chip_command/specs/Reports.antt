@@ -1,4 +1,4 @@
--- The report of a game played to its end, the exit status of who wrote it, and how a text goes out.
+-- The report of a game played to its end, the exit status of its command, and how a text is written.
 use Rattle.std.specs.Prelude.{◌≡◌, ℕ, List, Option, Result, Ok, Err, if◌then◌else◌}
 use Rattle.std.specs.Io.KnownBytes.{Appends}
 use Rattle.chip_graph.specs.ChipGame.{ChipGame}
@@ -27,7 +27,7 @@ abbrev pub Reports : ChipGame → List ℕ → ℕ → Type 0
 Reports g text status =
     (outcome : Outcome) × IsPlayed g outcome × (text ≡ report_text outcome) × (status ≡ plain_status outcome)
 
--- a text went out whole and the command ended so, or the output failed
+-- a text was written whole and the command ended so, or the output failed
 abbrev pub Delivers : Option (List ℕ) → Option (List ℕ) → List ℕ → Ended → Result Ended Fault → Type 0
 Delivers old new text ended (Ok told) = (told ≡ ended) × Appends old new text
 Delivers old new text ended (Err fault) = (w : WriteFault) × (fault ≡ Write w) × WritesAll old new text (Err w)

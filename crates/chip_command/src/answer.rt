@@ -1,4 +1,4 @@
-//! What a command answers.
+//! The result of a command.
 
 ghost use Rattle.std.specs.Prelude.{◌≡◌, IfOk, false, string_bytes};
 ghost use Rattle.chip_command.specs.Reports.{Delivers};
@@ -24,7 +24,7 @@ impl Answer {
     ghost use Rattle.chip_command.specs.Reports.{status_of_outcome};
     ghost use Rattle.chip_command.specs.declared.status.Status.TheVariants.{Done};
 
-    /// These lines, with status `Done`.
+    /// An answer of these lines, with status `Done`.
     pub fn of_lines(lines: String) -> Answer
         ensures text { result.text.items ≡ string_bytes lines }
         ensures status { result.status ≡ Done }
@@ -35,7 +35,7 @@ impl Answer {
         }
     }
 
-    /// The report of a game that ended so, with the status that says whether some vertex halted.
+    /// The report of a game with this outcome, and the status that says whether some vertex halted.
     pub fn of_outcome(alloc: Global, outcome: &Outcome) -> Result<Answer, AllocError>
         ensures text { IfOk result (λ answer. answer.text.items ≡ report_text outcome.now) }
         ensures status { IfOk result (λ answer. answer.status ≡ status_of_outcome outcome.now) }
@@ -47,7 +47,7 @@ impl Answer {
     }
 }
 
-/// Writes the answer of a command.
+/// Writes the text of a command's answer.
 pub fn deliver<W: Write>(output: &mut W, answer: Answer) -> Result<Ended, Fault>
     ensures { Delivers (W.contents output.old) (W.contents output.new) answer.text.items
         (record { status = number_of_status answer.status; cut = false }) result }

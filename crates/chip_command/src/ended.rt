@@ -20,7 +20,7 @@ pub struct Ended {
 }
 
 impl Ended {
-    /// With this exit status, and no trace that was cut.
+    /// The end with this exit status, and no trace that was cut.
     pub fn of(status: Status) -> Ended
         ensures { result ≡ record { status = number_of_status status; cut = false } }
     {
@@ -31,7 +31,7 @@ impl Ended {
     }
 }
 
-/// Writes the whole text, and answers `ended`.
+/// Writes the whole text, and returns `ended`.
 pub fn conclude<W: Write>(output: &mut W, text: &[u8], ended: Ended) -> Result<Ended, Fault>
     ensures { Delivers (W.contents output.old) (W.contents output.new) text.now ended result }
 {

@@ -1,4 +1,4 @@
-//! What can go wrong with a command, and the line under which it is printed.
+//! The faults of commands, and the line in which each is printed.
 
 use crate::status::Status;
 use crate::table::name_of;
@@ -21,17 +21,17 @@ pub enum Fault {
     Game(GameFault),
     /// The bytes are no report.
     NotReport,
-    /// The play of a report does not go on.
+    /// The play of a report cannot go on.
     Resume(ResumeFault),
     /// The limit of firings stopped the stabilization of this row of chips.
     Stopped(u64),
-    /// A report has another end of a game, and this is the least vertex that differs.
+    /// A report has another end of the game. This is the least vertex that differs.
     Differs(u64),
-    /// A number of the plan for a crew is out of its range.
+    /// A number of the plan for a crew is out of range.
     Plan,
-    /// All turns of a crew were made, and this many of the root's messages are not acknowledged.
+    /// All turns of a crew were made, and this number of the root's messages is not acknowledged.
     Unfinished(u64),
-    /// A gate let no worker pass.
+    /// A gate refused a worker's turn.
     GateShut,
     /// The actor of this vertex was lost among the threads.
     Lost(u64),
@@ -39,16 +39,16 @@ pub enum Fault {
     Doubled(u64),
     /// A thread could not be started.
     Spawn,
-    /// The recorded runs of a trace, or the rows of a log, do not fit together, and this row of this vertex, or of this
+    /// The recorded runs of a trace, or the rows of a log, have no interleaving. This row of this vertex, or of this
     /// process, is to blame.
     Stuck { vertex: u64, row: u64 },
-    /// This process is expected, and a log has no row of it.
+    /// This process is expected, and the log has no row of it.
     Absent(u64),
     /// The file of `--trace` or `--report` could not be written to its end.
     WriteFile,
     /// The output could not be written to its end.
     Write(WriteFault),
-    /// The arguments are no command.
+    /// The arguments do not form a command.
     Usage,
     /// The file that this argument names could not be opened. Arguments count from 1 after the command.
     Open(u64),
@@ -187,11 +187,11 @@ impl<T: Drop> From<AllocFailed<T>> for Fault {
     }
 }
 
-/// Where a fault is: the numbers that are printed after its name.
+/// The place of a fault: the numbers that are printed after its name.
 #[derive(Clone, Copy)]
 pub enum Location {
     Nowhere,
-    /// An edge, a vertex, a row, an argument, or how many bytes or messages.
+    /// An edge, a vertex, a row, an argument, or a number of bytes or messages.
     At(u64),
     AtRow { vertex: u64, row: u64 },
 }
@@ -200,7 +200,7 @@ impl Location {
     ghost use Rattle.std.specs.Prelude.{◌≡◌};
     ghost use Rattle.chip_command.specs.FaultNumbers.{location_at};
 
-    /// That of a fault of a library that names this place.
+    /// The location of a library's fault that names this place.
     fn of(place: Option<u64>) -> Location
         ensures { result ≡ location_at place }
     {
@@ -223,7 +223,7 @@ impl fmt::Display for Location {
     }
 }
 
-/// What is printed of a fault: its number, its name, and where it is.
+/// The printed parts of a fault: its number, its name, and its place.
 #[derive(Clone, Copy)]
 pub struct FaultLine {
     pub number: u64,
@@ -250,7 +250,7 @@ impl Fault {
     ghost use Rattle.std.specs.Prelude.{◌≡◌};
     ghost use Rattle.chip_command.specs.FaultNumbers.{print_fault, command_fault_number, location_of, status_of_fault};
 
-    /// The exit status of a command that failed so: turns that were too few are no failure of the inputs.
+    /// The exit status of a command that failed so: 3 for too few turns, which is no fault of the inputs, else 1.
     pub fn status(&self) -> Status
         ensures { result ≡ status_of_fault self.now }
     {
@@ -260,7 +260,7 @@ impl Fault {
         }
     }
 
-    /// This fault as it is printed.
+    /// The parts of the line in which the fault is printed.
     pub fn line(&self) -> FaultLine
         ensures number { result.number ≡ command_fault_number self.now }
         ensures location { result.location ≡ location_of self.now }

@@ -9,7 +9,7 @@ use chip_graph::{Game, Limits};
 use std::alloc::Global;
 use std::io::Read;
 
-/// The game within these limits that two files and a firing limit mean, or their first fault.
+/// Reads the game within these limits that two files and a firing limit mean, or returns their first fault.
 pub fn read_game<G: Read, C: Read>(
     alloc: Global,
     limits: Limits,

@@ -1,10 +1,10 @@
-//! The laws of what commands share: functions that do nothing, whose contracts are the laws.
+//! The laws of what commands share: functions without code, whose contracts are the laws.
 
 ghost use Rattle.chip_command.specs.Laws.{WrittenIsRead, FileIsReadBack, ReadIsInGraph};
 ghost use Rattle.chip_command.specs.OneReport.{OneReport};
 ghost use Rattle.chip_command.specs.Worked.{TwoTracesComeBack, StatusesAreNumbered};
 
-/// What `write_trace` writes, `read_trace` reads back: all traces in the graph. It reads no other traces.
+/// `read_trace` reads back what `write_trace` writes: all traces in the graph. It reads no other traces.
 pub fn written_traces()
     ensures meaning { WrittenIsRead }
     ensures answer { FileIsReadBack }

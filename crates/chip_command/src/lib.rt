@@ -1,7 +1,7 @@
-//! What all commands share: the game that their files mean, what can go wrong, and how they end.
+//! What all commands share: the game of their files, their faults, and how they end.
 //!
-//! The line of a `Fault` has its number, its name and where it is. That number and place are right is proved
-//! (`specs/FaultNumbers.antt`). What the tables say of faults and rules is tested.
+//! The line of a `Fault` has its number, its name and its place. Number and place are proved right
+//! (`specs/FaultNumbers.antt`); what the tables say of faults and rules is tested.
 #![tactic(auto)]
 
 pub use answer::{Answer, deliver};

@@ -5,11 +5,11 @@ ghost use Rattle.chip_graph.specs.Limits.{standard};
 
 use chip_graph::Limits;
 
-/// How large a game may be, and how often a vertex may fire.
+/// The limits of a game, and how often a vertex may fire.
 #[derive(Clone, Copy)]
 pub struct PlayOptions {
     pub limits: Limits,
-    /// How often a vertex may fire at most.
+    /// The most firings of a vertex, 0 to 2^40.
     pub limit: u64,
 }
 

@@ -5,7 +5,7 @@ ghost use Rattle.std.specs.Prelude.{◌≡◌};
 /// How a command ended.
 #[derive(Clone, Copy)]
 pub enum Status {
-    /// It did all that it should, and no vertex of a game halted.
+    /// The command did all that it should, and no vertex of a game halted.
     Done = 0,
     Failed = 1,
     /// The game closed, and some vertex halted.
@@ -17,7 +17,7 @@ pub enum Status {
 impl Status {
     ghost use Rattle.chip_command.specs.Statuses.{number_of_status};
 
-    /// The number with which the process ends, 0 to 3.
+    /// The exit status of the process, 0 to 3.
     pub fn number(self) -> u8
         ensures { result ≡ number_of_status self }
     {

@@ -1,16 +1,16 @@
 //! The table of faults: what each means, and what to do.
 
-/// What the numbers after a fault's name are.
+/// The meaning of the numbers after a fault's name.
 #[derive(Clone, Copy)]
 pub struct Place {
-    /// A letter for each number, after a space each.
+    /// A letter for each number, each after a space.
     pub letters: &'static str,
     /// What the letters mean, as lines.
     pub reading: &'static str,
 }
 
 impl Place {
-    /// There are no numbers.
+    /// No numbers.
     pub const NOWHERE: Place = Place {
         letters: "",
         reading: "",
@@ -57,7 +57,7 @@ i is a drop or a configuration, from 0 on.
 ",
     };
 
-    /// A vertex or a process, and a row among its own in a trace or a log, from 0.
+    /// A vertex or a process, and one of its own rows in a trace or a log, from 0.
     pub const OWN_ROW: Place = Place {
         letters: " v i",
         reading: "\
@@ -75,7 +75,7 @@ their values count.
 ",
     };
 
-    /// How many bytes were written.
+    /// The number of bytes written.
     pub const BYTES: Place = Place {
         letters: " n",
         reading: "\
@@ -83,7 +83,7 @@ n bytes were written before.
 ",
     };
 
-    /// How many messages of the root are not acknowledged.
+    /// The number of messages of the root that are not acknowledged.
     pub const MESSAGES: Place = Place {
         letters: " n",
         reading: "\
@@ -92,12 +92,12 @@ n messages of the root were not acknowledged yet.
     };
 }
 
-/// A row of the table.
+/// A row of a table of faults or rules.
 #[derive(Clone, Copy)]
 pub struct Explanation {
     pub number: u64,
     pub name: &'static str,
-    /// What the numbers after the name are.
+    /// The numbers after the name.
     pub place: Place,
     /// What is wrong, on one line.
     pub meaning: &'static str,
@@ -105,7 +105,7 @@ pub struct Explanation {
     pub advice: &'static str,
 }
 
-/// A row of a table: its number, its name, what the numbers after that are, what is wrong, and the advice.
+/// A row of a table: its number, its name, the numbers after that, what is wrong, and the advice.
 macro_rules! row {
     ($number:literal $name:ident $place:ident: $meaning:literal, $advice:literal) => {
         Explanation {

@@ -1,5 +1,5 @@
--- What a command answers to its arguments: that one of its files could not be opened, or what its engine answers, by the
--- limits and options that are asked for, of the bytes that the files of these arguments give.
+-- The results of a command for its arguments: one of its files could not be opened, or those of its engine, by the
+-- limits and options of the arguments, for the bytes of their files.
 use Rattle.std.specs.Prelude.{◌≡◌, ◌⊎◌, ◌∷◌, [], ℕ, List, Contains, IsErr, IsOk, IsSome, Option, Some}
 use Rattle.std.specs.Prelude.{None, MatchOption, Result, Err, is_some, option_map}
 use Rattle.chip_arguments.specs.declared.arguments.FileArgument.{FileArgument}
@@ -58,11 +58,11 @@ DropsNothing asked old new result =
     IsUnopened (asked.game.graph.number ∷ asked.game.start.number ∷ asked.drops.number ∷ []) old new result
     ⊎ (IsSome asked.report × IsErr result × (new ≡ old))
 
--- the report is put in its place, or it cannot be
+-- the report is moved to its place, or it cannot be
 abbrev pub IsPut : Result Ended Fault → Result Ended Fault → Type 0
 IsPut ended result = (result ≡ ended) ⊎ (IsOk ended × (result ≡ Err WriteFile))
 
--- the engine answers, with a report if one is asked for, and that is put in its place
+-- the result of the engine, with a report if asked, and that is moved to its place
 abbrev pub DropsAll : Known → AvalancheArguments → Option (List ℕ) → Option (List ℕ) → Result Ended Fault → Type 0
 DropsAll known asked old new result =
     (ended : Result Ended Fault) × (before : Option (Option (List ℕ))) × (after : Option (Option (List ℕ)))
@@ -100,7 +100,7 @@ RunsNothing asked old new result =
     ⊎ ((fault : Fault) × (IsUnopenedOption asked.feed fault ⊎ IsUnopenedOption asked.trace fault)
     × (result ≡ Err fault) × (new ≡ old))
 
--- the engine answers, with a trace if one is asked for
+-- the result of the engine, with a trace if asked
 abbrev pub RunsAll : Known → RunArguments → Option (List ℕ) → Option (List ℕ) → Result Ended Fault → Type 0
 RunsAll known asked old new result =
     let options = run_options asked in

@@ -14,7 +14,7 @@ use Rattle.chip_engine.specs.declared.simulate.SimulateOptions.{SimulateOptions}
 use Rattle.chip_crew.specs.declared.plan.Sharing.TheVariants.{Dealt, Queue}
 use Rattle.chip_run.specs.declared.running.RunOptions.{RunOptions}
 
--- how large a graph and the files of its game may be
+-- the limits of a graph and of the files of its game
 abbrev pub limits_of : Bool → SizeLimits
 limits_of is_large = if is_large then large else standard
 

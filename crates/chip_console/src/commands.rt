@@ -1,7 +1,7 @@
 //! The commands of one thread: each opens the files that its arguments name and calls its engine.
 //!
-//! What a file gives no clause can name. So a command takes who opens its files, and its clause is about files of which
-//! the bytes are known.
+//! No contract can name the bytes of a real file. So a command gets its opener as an argument, and its contract is
+//! about files whose bytes are known.
 
 ghost use Rattle.std.specs.Prelude.{◌≡◌, ◌⊎◌, IfErr, IfOk};
 ghost use Rattle.chip_console.specs.Commands.{ChecksFiles, DropsFiles, IdentifiesFiles, JudgesFiles, PlaysFiles, ReplaysFiles, RepresentsFiles, ResumesFiles};
@@ -102,7 +102,7 @@ impl<R: Files<File = File> + Input + Clock + Eprint + AllocGlobal> Console<'_, R
         }
     }
 
-    /// Finds the recurrent configuration that is equivalent to chips.
+    /// Finds the recurrent configuration that is equivalent to a file's chips.
     pub fn represent<O: Opener, W: Write>(
         &self,
         files: &O,
@@ -121,7 +121,7 @@ impl<R: Files<File = File> + Input + Clock + Eprint + AllocGlobal> Console<'_, R
         )
     }
 
-    /// Finds the identity of the group of a graph.
+    /// Finds the identity of the sandpile group of a graph.
     pub fn identify<O: Opener, W: Write>(
         &self,
         files: &O,
@@ -199,7 +199,7 @@ impl<R: Files<File = File> + Input + Clock + Eprint + AllocGlobal> Console<'_, R
         )
     }
 
-    /// Says whether a report is true of a game.
+    /// Says whether a report is that of a game.
     pub fn verify<O: Opener, W: Write>(
         &self,
         files: &O,
@@ -221,7 +221,7 @@ impl<R: Files<File = File> + Input + Clock + Eprint + AllocGlobal> Console<'_, R
         )
     }
 
-    /// Judges the claims of a log. If its rows fit in no order, `waits` gets where the waits lead.
+    /// Judges the claims of a log. If its rows have no order, `waits` gets a line that says where the waits lead.
     pub fn judge<O: Opener, W: Write>(
         &self,
         files: &O,
@@ -245,7 +245,7 @@ impl<R: Files<File = File> + Input + Clock + Eprint + AllocGlobal> Console<'_, R
     }
 }
 
-/// Opens the graph of a game, and then what the game starts with.
+/// Opens the graph of a game, and then the file of its start.
 pub(crate) fn open_game<O: Opener>(
     files: &O,
     game: &GameArguments<'_>,
@@ -258,7 +258,7 @@ pub(crate) fn open_game<O: Opener>(
     Ok((files.open(&game.graph)?, files.open(&game.start)?))
 }
 
-/// What a simulation does, if its ring can be.
+/// The options of a simulation. `None` if a ring cannot have this number of cells.
 fn simulate_options(asked: &SimulationArguments<'_>) -> Option<SimulateOptions>
     ensures { result ≡ simulate_options asked.now }
 {
@@ -271,7 +271,7 @@ fn simulate_options(asked: &SimulationArguments<'_>) -> Option<SimulateOptions>
     })
 }
 
-/// How a recorded run is replayed.
+/// The options of a replay.
 fn replay_options(asked: &ReplayArguments<'_>) -> ReplayOptions
     ensures { result ≡ replay_options asked.now }
 {
@@ -281,7 +281,7 @@ fn replay_options(asked: &ReplayArguments<'_>) -> ReplayOptions
     }
 }
 
-/// How large a log may be, and whether pasts are listed.
+/// The options of a judgment.
 fn judge_options(asked: &JudgeArguments<'_>) -> JudgeOptions
     ensures { result ≡ judge_options asked.now }
 {
@@ -293,7 +293,7 @@ fn judge_options(asked: &JudgeArguments<'_>) -> JudgeOptions
     }
 }
 
-/// How large a game may be, and how often a vertex may fire.
+/// The options of a play.
 fn play_options(game: &GameArguments<'_>) -> PlayOptions
     ensures { result ≡ play_options game.now }
 {
@@ -303,7 +303,7 @@ fn play_options(game: &GameArguments<'_>) -> PlayOptions
     }
 }
 
-/// How large a graph and the files of its game may be.
+/// The limits of a graph and of the files of its game.
 pub(crate) fn limits_of(is_large: bool) -> Limits
     ensures { result ≡ limits_of is_large }
 {

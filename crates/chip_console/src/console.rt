@@ -25,12 +25,12 @@ const PAUSE: u64 = 1000;
 #[derive(Drop)]
 struct Pace {
     start: Instant,
-    /// When the last line was, in milliseconds from the start.
+    /// The time of the last line, in milliseconds from the start.
     last: AtomicU64,
 }
 
 impl Pace {
-    /// From now on. `None` if the clock cannot be read.
+    /// The clock from now on. `None` if the time cannot be read.
     fn start(clock: &impl Clock) -> Option<Pace> {
         Some(Pace {
             start: Instant::now(clock).ok()?,
@@ -38,7 +38,7 @@ impl Pace {
         })
     }
 
-    /// Whether a line is due. If several threads ask at once, one of them writes.
+    /// Whether a line is due. If several threads ask at once, only one gets `true`.
     fn is_due(&self, clock: &impl Clock) -> bool {
         let Ok(passed) = self.start.elapsed(clock) else {
             return false;
@@ -60,12 +60,12 @@ pub struct Console<'a, R: Clock + Eprint> {
     pace: Option<Pace>,
     /// The number of the argument whose file was opened or read last, or 0.
     last: AtomicU64,
-    /// Whether standard input is read.
+    /// Whether standard input was taken.
     has_standard: AtomicBool,
 }
 
 impl<'a, R: Clock + Eprint> Console<'a, R> {
-    /// From now on, with lines of progress if they are asked for.
+    /// A console from now on, with lines of progress if asked.
     pub fn start(rt: &'a R, has_progress: bool) -> Console<'a, R> {
         Console {
             rt,
@@ -88,7 +88,7 @@ impl<'a, R: Clock + Eprint> Console<'a, R> {
         }
     }
 
-    /// The index of the process's argument that names what was opened or read last.
+    /// The index among the process's arguments of the one that names what was opened or read last.
     pub fn last_argument(&self) -> Option<usize> {
         match self.last.load(SeqCst) {
             0 => None,
@@ -109,7 +109,7 @@ pub trait Opener {
         ensures refused { IfErr result (λ fault. fault ≡ Fault.Open file.now.number) };
 }
 
-/// A file that is read, and told from one that is written.
+/// A file that is read, which can be compared with one to be written.
 pub trait Opened: Read + Drop {
     /// Whether it is the file with this metadata.
     fn is_file(&self, found: &Metadata) -> bool;
@@ -120,8 +120,8 @@ impl<'a, R: Files<File = File> + Input + Clock + Eprint> Opener for &'a Console<
 
     ghost known = { λ _. None };
 
-    /// Opens the file that an argument names, or takes standard input, which can be taken once. This allocates nothing, so
-    /// if the system is out of memory the fault is `Open`.
+    /// Opens the file that an argument names, or takes standard input, once. Nothing is allocated, so if the system is
+    /// out of memory the fault is `Open`.
     fn open(&self, file: &FileArgument<'_>) -> Result<Reader<'a, R>, Fault> {
         self.note(file);
         let source = if file.path != STANDARD_INPUT {
@@ -150,8 +150,8 @@ impl<R: Clock + Eprint> Console<'_, R> {
     }
 }
 
-/// A file may get the number of a closed standard stream. Then it would be read in its place, or get a fault's line. So a
-/// copy gets another number.
+/// Gives a file a number above those of the standard streams. If one of these is closed, the file may have got its
+/// number, and would be read in its place or get the line of a fault.
 pub(crate) fn above_streams(file: File) -> io::Result<File> {
     if file.as_raw_fd() > 2 {
         return Ok(file);
@@ -159,21 +159,21 @@ pub(crate) fn above_streams(file: File) -> io::Result<File> {
     file.try_clone()
 }
 
-/// Where bytes are read from.
+/// The source of bytes.
 #[derive(Drop)]
 enum Source {
     File(File),
     Standard,
 }
 
-/// What a command reads. Its console notes each read, and says how many bytes were read.
+/// What a command reads. Its console notes each read, and reports the number of bytes read.
 #[derive(Drop)]
 pub struct Reader<'a, R: Input + Clock + Eprint> {
     console: &'a Console<'a, R>,
     /// The number of the argument that names it.
     argument: u64,
     source: Source,
-    /// How many bytes were read, up to 2^64 - 1.
+    /// The number of bytes read, at most 2^64 - 1.
     bytes: u64,
 }
 
@@ -187,7 +187,7 @@ impl<R: Files<File = File> + Input + Clock + Eprint> Opened for Reader<'_, R> {
     }
 }
 
-/// Whether metadata were found, of the same file.
+/// Whether the metadata were found and are those of the same file.
 pub(crate) fn is_same(now: &io::Result<Metadata>, found: &Metadata) -> bool {
     match now {
         Ok(now) => now.dev() == found.dev() && now.ino() == found.ino(),

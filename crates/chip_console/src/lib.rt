@@ -1,5 +1,5 @@
-//! What the program does, and what people see of it: it opens files, calls the commands, and writes progress and what a
-//! fault means to standard error.
+//! The program's work, and what people see of it: it opens files, calls the commands, and writes progress and the
+//! meaning of a fault to standard error.
 //!
 //! Most of it is tested on the program.
 #![tactic(auto)]

@@ -1,6 +1,6 @@
-//! Lines on standard error about long work, one a second at most.
+//! Lines on standard error about long work, at most one a second.
 //!
-//! They change nothing of it. If the clock cannot be read there is no line, and a line that cannot be written is left
+//! They do not change the work. If the clock cannot be read there is no line, and a line that cannot be written is left
 //! out.
 
 use crate::console::Console;
@@ -11,18 +11,18 @@ use chip_fire::{GivenUse, Play, Search, Watch};
 use chip_graph::Game;
 use std::rt::Clock;
 
-/// Writes how far a play on one thread is: what it does, its rounds and its firings.
+/// Writes the progress of a play on one thread: what it does, its rounds and its firings.
 #[derive(Drop)]
 pub struct RoundProgress<'a, R: Clock + Eprint> {
     console: &'a Console<'a, R>,
     rounds: u64,
-    /// How many steps the searches made that are over, and the one that is told of.
+    /// The number of steps of the finished searches, and of the current one.
     searched: u64,
     steps: u64,
 }
 
 impl<'a, R: Clock + Eprint> RoundProgress<'a, R> {
-    /// Before the first round.
+    /// The progress before the first round.
     pub fn start(console: &'a Console<'a, R>) -> RoundProgress<'a, R> {
         RoundProgress {
             console,
@@ -94,16 +94,16 @@ impl<R: Clock + Eprint> Watch for RoundProgress<'_, R> {
     }
 }
 
-/// Writes which claim of a log is judged, and keeps what there is to say of waits.
+/// Writes which claim of a log is judged, and keeps the line about waits.
 #[derive(Drop)]
 pub struct ClaimProgress<'a, R: Clock + Eprint> {
     console: &'a Console<'a, R>,
-    /// Where the waits of a log lead that is in no order, if there is memory for that.
+    /// Where the waits of a log without an order lead, if there is memory for that.
     pub waits: String,
 }
 
 impl<'a, R: Clock + Eprint + AllocGlobal> ClaimProgress<'a, R> {
-    /// Before the first claim.
+    /// The progress before the first claim.
     pub fn start(console: &'a Console<'a, R>) -> ClaimProgress<'a, R> {
         ClaimProgress {
             console,
@@ -127,7 +127,7 @@ impl<R: Clock + Eprint> ClaimWatch for ClaimProgress<'_, R> {
     }
 }
 
-/// Lets every worker pass, and writes how many turns worker 0 has made and how many of the root's messages are not
+/// Admits every turn, and writes how many turns worker 0 has made and how many of the root's messages are not
 /// acknowledged.
 #[derive(Drop)]
 pub struct TurnProgress<'a, R: Clock + Eprint> {
@@ -135,7 +135,7 @@ pub struct TurnProgress<'a, R: Clock + Eprint> {
 }
 
 impl<'a, R: Clock + Eprint> TurnProgress<'a, R> {
-    /// Before the first turn.
+    /// The progress before the first turn.
     pub fn start(console: &'a Console<'a, R>) -> TurnProgress<'a, R> {
         TurnProgress { console }
     }

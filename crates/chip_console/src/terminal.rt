@@ -1,4 +1,4 @@
-//! What a person at a terminal reads of a fault, after its line.
+//! What a person at a terminal reads after the line of a fault.
 
 use chip_command::{Fault, Location, explanations};
 use chip_engine::Waits;
@@ -6,13 +6,13 @@ use std::alloc::AllocError;
 use std::env::{Env, FillError};
 use std::io;
 
-/// How many bytes a word has at most that is looked at.
+/// The most bytes of a word that are read.
 const MOST_OF_WORD: usize = 4096;
 
-/// How many processes of a cycle are named.
+/// The most processes of a cycle that are named.
 const MOST_NAMED: usize = 8;
 
-/// Says that the last argument is not taken, as the command-line library says it of the others.
+/// Says that the last argument was not expected, as the command-line library says it of the others.
 pub fn say_unexpected(about: &mut String, arguments: &[String]) -> Result<(), AllocError> {
     match arguments.last() {
         Some(word) => {
@@ -46,7 +46,7 @@ pub fn say_no_text<R: Env>(about: &mut String, rt: &R) -> Result<(), AllocError>
     Ok(())
 }
 
-/// Says where waits lead: to a cycle, or to a process whose message nobody is left to send.
+/// Says where waits lead: to a cycle, or to a process whose message has no sender left.
 pub fn say_waits(words: &mut String, waits: &Waits) -> Result<(), AllocError> {
     for (place, process) in waits.processes.iter().enumerate() {
         if Some(*process) == waits.sender {
@@ -56,7 +56,7 @@ pub fn say_waits(words: &mut String, waits: &Waits) -> Result<(), AllocError> {
     say_last(words, waits)
 }
 
-/// Says which processes are the cycle that begins at this place.
+/// Says which processes form the cycle that begins at this place.
 fn say_cycle(words: &mut String, processes: &[u32], place: usize) -> Result<(), AllocError> {
     if let Some(first) = processes.get(place) {
         if place > 0 {

@@ -80,7 +80,7 @@ fn open_feed<O: Opener>(
     }
 }
 
-/// How the threads play.
+/// The options of a run on threads.
 fn run_options(asked: &RunArguments<'_>) -> RunOptions
     ensures { result ≡ run_options asked.now }
 {

@@ -14,19 +14,19 @@ use std::os::unix::fs::MetadataExt;
 use std::rt::{Clock, Files};
 use std::{fs, io};
 
-/// The folder in which the system says which files standard output and standard error are.
+/// The folder of the links to the files that standard output and standard error are.
 const STREAMS: [&str; 2] = ["/dev/stdout", "/dev/stderr"];
 
-/// How many names are tried for a new file beside another one.
+/// The most names that are tried for a new file beside another one.
 const MOST_NAMES: u64 = 1000;
 
-/// The file of `--report`. Its place is tried at once, and it is made when the first bytes come: beside its place if that
-/// can be, and put there once it is whole.
+/// The file of `--report`. Its place is tried at once, and the file is made when the first bytes come: beside its place
+/// if possible, and moved there once it is whole.
 #[derive(Drop)]
 pub(crate) struct ReportFile<'a, R> {
     rt: &'a R,
     path: &'a str,
-    /// Whether it is made beside its place, and the name that it has there.
+    /// Whether it is made beside its place, and its name there.
     is_beside: bool,
     name: String,
     /// `None` until it is made, or held open.
@@ -54,7 +54,7 @@ impl<R: Files<File = File>> Write for ReportFile<'_, R> {
 }
 
 impl<'a, R: Files<File = File> + AllocGlobal> ReportFile<'a, R> {
-    /// That of this path, if it can be made there. Nothing is left of the trial.
+    /// The file of this path, if it can be made there. The trial leaves nothing.
     fn try_at(rt: &'a R, file: &FileArgument<'a>) -> Result<ReportFile<'a, R>, Fault> {
         let mut report = ReportFile {
             rt,
@@ -74,8 +74,8 @@ impl<'a, R: Files<File = File> + AllocGlobal> ReportFile<'a, R> {
         Ok(report)
     }
 
-    /// What is in the place and no regular file, as a pipe, opened for good. A regular file is opened, as it is, and closed
-    /// again, and a new one is removed again.
+    /// Opens what is in the place and keeps it open if it is no regular file, such as a pipe. A regular file is opened,
+    /// left as it is, and closed again, and a new one is removed again.
     fn open_in_place(&self) -> io::Result<Option<File>> {
         let is_new = fs::metadata(self.rt, self.path).is_err();
         let mut options = File::options();
@@ -94,8 +94,8 @@ impl<'a, R: Files<File = File> + AllocGlobal> ReportFile<'a, R> {
 }
 
 impl<R: Files<File = File>> ReportFile<'_, R> {
-    /// A new file beside the place, whose name is noted. `None` if none can be made there, or if what is in the place is
-    /// another thing than a file that can be written, of the same owner, with no other name.
+    /// A new file beside the place, whose name is noted. `None` if none can be made there, or if the place has
+    /// something other than a file that can be written, of the same owner, with no other name.
     fn create_beside(&mut self) -> Result<Option<File>, AllocError> {
         let old = match fs::symlink_metadata(self.rt, self.path) {
             Ok(old) if old.is_file() && old.nlink() == 1 => Some(old),
@@ -120,7 +120,8 @@ impl<R: Files<File = File>> ReportFile<'_, R> {
         Ok(None)
     }
 
-    /// A new file with the mode of the one that it will replace, if it has the same owner. Otherwise it is removed.
+    /// The new file, with the mode and the owner of the one that it will replace. If it cannot have these, it is
+    /// removed.
     fn replacing(&self, made: File, old: Option<Metadata>) -> Option<File> {
         let made = above_streams(made).ok().filter(|made| match &old {
             Some(old) => takes_after(made, old),
@@ -132,7 +133,7 @@ impl<R: Files<File = File>> ReportFile<'_, R> {
         made
     }
 
-    /// Puts it in place after a command that ended well, and removes what is beside after a fault.
+    /// Moves the file to its place after a command that ended well, and removes it after a fault.
     pub(crate) fn put(self, ended: Result<Ended, Fault>) -> Result<Ended, Fault>
         ensures { IsPut ended result }
     {
@@ -143,7 +144,7 @@ impl<R: Files<File = File>> ReportFile<'_, R> {
         if ended.is_ok() && fs::rename(self.rt, beside, self.path).is_ok() {
             return ended;
         }
-        // A place that cannot be renamed into, as one where something is mounted, may still be written.
+        // A place that cannot be replaced by renaming, such as a mount point, may still be written.
         let is_put = ended.is_ok() && fs::copy(self.rt, beside, self.path).is_ok();
         let _ = fs::remove_file(self.rt, beside);
         if is_put || ended.is_err() {
@@ -187,7 +188,7 @@ impl<R: Files<File = File> + Input + Clock + Eprint + AllocGlobal> Console<'_, R
         Ok(Some(ReportFile::try_at(self.rt, file)?))
     }
 
-    /// Refuses a file to be written that is one of these inputs, or a file into which a standard stream goes.
+    /// Refuses a file to be written that is one of these inputs, or the file of a standard stream.
     fn refuse_used<I: Opened>(&self, file: &FileArgument<'_>, inputs: &[&I]) -> Result<(), Fault>
         ensures { IfErr result (λ fault. fault ≡ Open file.now.number) }
     {
@@ -219,7 +220,7 @@ impl<R: Files<File = File> + Input + Clock + Eprint + AllocGlobal> Console<'_, R
     }
 }
 
-/// Gives a new file the mode of an old one; whether it has its owner, and that could be done.
+/// Gives a new file the mode of an old one; whether that could be done, and the owner is the same.
 fn takes_after(made: &File, old: &Metadata) -> bool {
     match made.metadata() {
         Ok(now) => {

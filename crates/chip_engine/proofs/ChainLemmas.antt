@@ -23,7 +23,7 @@ use Rattle.chip_core.specs.Positions.{chips_given}
 use Rattle.chip_engine.specs.Sittings.{PlainTellsPlay, SimulateTellsPlay, ResumedPlaysAddUp}
 use Rattle.chip_engine.proofs.SittingLemmas.{none_legal, leads_on}
 
--- ---- a first sitting
+-- ---- a first stage
 
 -- a text means one graph, whatever the limits of its size
 same_graph : (limits others : SizeLimits) (graph_text : List ℕ) (G H : Multigraph) → MeansGraph limits graph_text G
@@ -43,9 +43,9 @@ simulate_tells_play g log end report status ends is =
     )
     report (append_cancel_left (codes "root closed\n") report (report_text ends.outcome) (sym is ∙ ends.reported))
 
--- ---- sittings that went on
+-- ---- later stages
 
--- what a sitting tells leads from x to its chips
+-- the counts of a stage lead from x to its chips
 abbrev LeadsInAll : Multigraph → (ℕ → ℕ) → SittingContent → Type 0
 LeadsInAll G x t = LeadsTo G x (λ v. slice_index t.prior v + slice_index t.last.fired v) (slice_index t.last.chips)
 
@@ -54,7 +54,7 @@ abbrev LeavesNone : Multigraph → SittingContent → Type 0
 LeavesNone G t = (is_empty t.last.over && is_empty t.last.sealed) ≡ true
     → (v : ℕ) → IsLegal G (slice_index t.last.chips) v → ⊥
 
--- whichever sitting is read from the report of one tells the same
+-- any two stages that are read from one report agree
 read_again : (report : List ℕ) (s : Resumed) → IsResumed s → report ≡ report_two_text s
     → (r : Resumed) → IsAnyReportOf report r → sitting_content s ≡ sitting_content r
 read_again report s fits spelled r (inl first) =
@@ -63,7 +63,7 @@ read_again report s fits spelled r (inr two) = one_sitting s r fits two.reportab
 
 module _ (limits : SizeLimits) (graph_text : List ℕ) (G : Multigraph)
     (reads : ReadsWithin limits graph_text (MeansGraph limits graph_text G)) (x : ℕ → ℕ) where
-  -- a report that `resume` wrote on one that tells a play tells the play that goes on
+  -- a report that `resume` wrote, given one of a play, is one of the play that goes on
   goes_on : (before : List ℕ) → TellsPlayFrom G x before → (report : List ℕ) → IsResumedTo graph_text before report
       → (r : Resumed) → IsAnyReportOf report r → LeadsToTheEnd G x r
   goes_on before tells report (others, limit, ended, resumed) r is =
@@ -76,7 +76,7 @@ module _ (limits : SizeLimits) (graph_text : List ℕ) (G : Multigraph)
       (subst (LeadsInAll G x) same (on.adds_up x (tells earlier (told.0 before refl).1.0)).leads)
       (subst (LeavesNone G) same (none_legal _ on.resumed.outcome on.goes_on.played))
 
-  -- and so do all that follow
+  -- and so are all that follow
   all_tell : (first : List ℕ) → TellsPlayFrom G x first → (reports : List (List ℕ)) (last : List ℕ)
       → AreResumed graph_text first reports last → TellsPlayFrom G x last
   all_tell first tells [] last are = subst (TellsPlayFrom G x) are tells

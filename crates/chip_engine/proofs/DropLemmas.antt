@@ -1,5 +1,5 @@
 -- Serves AvalanchesCommand.antt.
--- Drops that a file names, and what playing them comes to.
+-- Drops that a file names, and the result of playing them.
 use Rattle.std.proofs.Common.{◌≡◌, ℕ, ◌<◌, Bool, true, false, List, [], ◌∷◌, length, map, take, slice_index, None, Some}
 use Rattle.std.proofs.Common.{All, sym, ◌∙◌, subst, inl, inr}
 use Rattle.std.proofs.lemmas.Bool.{false_from_ne_true}

@@ -1,5 +1,5 @@
 -- Serves DropRows.antt.
--- The rows of drops on a pile, and the bytes that go out.
+-- The rows of drops on a pile, and the bytes that are written.
 use Rattle.std.proofs.Common.{◌≡◌, ℕ, ◌+◌, ◌-◌, ◌<◌, ◌≤◌, cond, eqb, List, [], ◌∷◌, length, get_or}
 use Rattle.std.proofs.Common.{slice_index, refl, ap, ◌∙◌, arith, ◌^◌, take, ◌++◌}
 use Rattle.std.proofs.Common.{rules, Option, take-add, length-append}
@@ -89,7 +89,7 @@ module _ (old now : Option (List ℕ)) (pending : List ℕ) (written : ℕ) (all
     rest = drop-append-le written all more (omega arith) ∙ ap (λ (l : List ℕ). l ++ more) is.rest;
   }
 
-  -- the pending ones go out
+  -- the pending ones are written
   pub out_all : (now' : Option (List ℕ)) (written' : ℕ) → Appends now now' pending → written' ≡ written + length pending
       → IsOut old now' [] written' all
   out_all now' written' went counted =
@@ -101,7 +101,7 @@ module _ (old now : Option (List ℕ)) (pending : List ℕ) (written : ℕ) (all
         rest = drop_all written' all full;
       }
 
-  -- a front of them does
+  -- only a prefix of them is
   pub out_part : (now' : Option (List ℕ)) (n : ℕ) → n < length pending → Appends now now' (take n pending)
       → ((written + n < length all) × Appends old now' (take (written + n) all))
       × (length all ≤ written + n + most_held)

@@ -24,7 +24,7 @@ pub no_report : (limits : SizeLimits) (vertices : ℕ) (text : List ℕ) (f : Re
 no_report limits vertices text f (inl none) = inr (ap fault_of_report none)
 no_report limits vertices text f (inr nothing) = inl (inl (nothing.1, ap fault_of_report nothing.0))
 
--- what is so of the bytes that were read is so of the text
+-- what holds of the bytes that were read holds of the text
 pub at_text : (limits : SizeLimits) (guess : Option (List ℕ)) (bytes : List ℕ)
     → ((text : List ℕ) → guess ≡ Some text → (length text ≤ limits.bytes) × (bytes ≡ text))
     → (P : List ℕ → Type 0) → P bytes → ForSome guess (λ text. ReadsWithin limits text (P text))

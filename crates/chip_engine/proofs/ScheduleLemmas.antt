@@ -32,7 +32,7 @@ HasRun books g done w text = StandsForLog g (log_after g [] done) w × (text ≡
 regroup : (text reply board : List ℕ) → (text ++ reply) ++ board ≡ text ++ ((reply ++ board) ++ [])
 regroup text reply board = simp (append_assoc, append-nil)
 
--- one event more, its answer and the books
+-- one more event, its reply and the books
 pub one_answer_more : (g : Setting) (done : List Event) (x : Event) (old new : WorldState) (reply : Reply)
     (text middle text' : List ℕ) → HasRun true g done old text → Steps old new x reply → middle ≡ text ++ reply_text reply
     → WhateverLog new (λ h log. text' ≡ middle ++ board_text h log) → HasRun true g (done ++ x ∷ []) new text'
@@ -44,7 +44,7 @@ one_answer_more g done x old new reply text middle text' (stands, text_is) steps
           (board_text g (step g (log_after g [] done) x).0)),
     )
 
--- a stretch of events more, and its replies
+-- one more stretch of events, and its replies
 pub one_stretch_more : (g : Setting) (done stretch : List Event) (old new : WorldState) (r : Record)
     (text text' : List ℕ) → HasRun false g done old text → WhateverLog old (λ h log. RunsEvents h log stretch new r)
     → text' ≡ text ++ flat_map reply_text r.replies.items → HasRun false g (done ++ stretch) new text'

@@ -1,5 +1,5 @@
 -- Serves SimulateReport.antt.
--- What a schedule fed is what the replies to it tell, and so the report is that of the whole game.
+-- What a schedule fed is what its replies report, and so the report is that of the whole game.
 use Rattle.std.proofs.Common.{◌≡◌, ◌≢◌, ℕ, ◌<◌, ◌⊎◌, Bool, true, false, List, [], ◌∷◌, ◌++◌}
 use Rattle.std.proofs.Common.{Contains, Option, Some, None, Result, Ok, Err, refl, sym, ap, ◌∙◌, subst, arith, inl, inr}
 use Rattle.std.proofs.Common.{append_assoc, append-nil}

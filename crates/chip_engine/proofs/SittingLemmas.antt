@@ -1,5 +1,5 @@
 -- Serves ResumeCommand.antt.
--- Plays that go on, from the report of one sitting to the report of the next.
+-- Plays that go on, from the report of one stage to the report of the next.
 use Rattle.std.proofs.Common.{◌≡◌, ◌⊎◌, ℕ, ◌≤◌, true, List, [], ◌∷◌, Contains, length, slice_index}
 use Rattle.std.proofs.Common.{refl, sym, ap, ◌∙◌, subst, arith, inl, inr}
 use Rattle.std.specs.Prelude.{All}
@@ -24,7 +24,7 @@ use Rattle.chip_file.specs.declared.fault.FileFault.TheVariants as file_fault
 use Rattle.chip_command.specs.Faults.{fault_of_report}
 use Rattle.chip_engine.specs.ResumeCommand.{LeadsToTheEnd, RefusesReport}
 
--- a sitting that some report tells is in range
+-- the stage of a report is in range
 pub resumed_of_report : (bytes : List ℕ) (r : Resumed) → IsAnyReportOf bytes r → IsResumed r
 resumed_of_report bytes r (inl first) = record {
   outcome_fits = first.0.reportable;
@@ -38,7 +38,7 @@ empty_nil : (l : List ℕ) → is_empty l ≡ true → l ≡ []
 empty_nil [] is = refl
 empty_nil (x ∷ xs) is = cc
 
--- a sitting that closed left no vertex legal
+-- a stage that closed left no vertex legal
 abbrev pub LeavesNoneLegal : Multigraph → Outcome → Type 0
 LeavesNoneLegal G o = is_closed o ≡ true → (v : ℕ) → IsLegal G (slice_index o.chips.items) v → ⊥
 
@@ -51,7 +51,7 @@ none_legal g o played closed v can =
     ((legal_vertices_law g.graph (slice_index o.chips.items) v).1 can) in
     let past = has.1 in omega arith
 
--- a play that leads from x to a sitting leads to the end of the play that was never stopped
+-- a play that leads from x to a stage leads to the end of the play that was never stopped
 pub leads_on : (G : Multigraph) → IsGraph G → (x : ℕ → ℕ) (r : Resumed) → IsPlayFrom G x r
     → LeavesNoneLegal G r.outcome → LeadsToTheEnd G x r
 leads_on G good x r leads none =

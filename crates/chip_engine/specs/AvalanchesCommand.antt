@@ -22,7 +22,7 @@ use Rattle.chip_command.specs.declared.ended.Ended.{Ended}
 use Rattle.chip_command.specs.declared.fault.Fault.{Fault}
 use Rattle.chip_command.specs.declared.fault.Fault.TheVariants.{Game, Write, WriteFile, NoMemory}
 
--- what reading the drops for a game may give: they have a fault, or there are too many chips with them
+-- what reading the drops for a game may give: they have a fault, or the chips in all are too many
 abbrev pub reading_drops : SizeLimits → Option (List ℕ) → ChipGame → Spec (List (ℕ × ℕ))
 reading_drops limits drops g =
     let named = reading limits (λ text ds. drops_of_text g.graph.vertices text ≡ Some ds)
@@ -43,9 +43,9 @@ abbrev pub TellsDrops : ChipGame → List (ℕ × ℕ) → List ℕ → Type 0
 TellsDrops g ds text = Closes g ds × (outcome : Outcome) × IsPlayed g outcome
     × (left : ℕ → ℕ) × TellsRows g.graph (slice_index outcome.chips.items) ds text left
 
--- what the drops come to: a text with a row for each, and the game with all their chips; or the limit stopped the play of
--- the drop at i, the text has the rows before it, and the game the chips up to it; or the limit stopped the game itself,
--- and the text is the first line
+-- what the drops result in: a text with a row for each, and the game with all their chips; or the limit stopped the
+-- play of the drop at i, the text has the rows before it, and the game the chips up to it; or the limit stopped the
+-- game itself, and the text is the first line
 abbrev pub DropsComeTo : ChipGame → List (ℕ × ℕ) → List ℕ → ChipGame → Outcome → Type 0
 DropsComeTo g ds text g' outcome =
     (TellsDrops g ds text × HasMore g ds g')
@@ -58,8 +58,8 @@ pub record RowOutputs : Type 0 where
   pub rows : Option (List ℕ)
   pub report : Option (Option (List ℕ))
 
--- what playing the game and then the drops answers: the outcome of the game with the chips that were dropped; or there
--- was no memory for the play, or a fault came after a front of the first line, or of the rows of some drops
+-- the results of playing the game and then the drops: the outcome of the game with the dropped chips; or there was no
+-- memory for the play, or a fault came after a prefix of the first line, or of the rows of some drops
 abbrev pub PlaysDrops : ChipGame → List (ℕ × ℕ) → Option (List ℕ) → Option (List ℕ) → Result Outcome Fault → Type 0
 PlaysDrops g ds old new (Ok outcome) = (text : List ℕ) × (g' : ChipGame) × DropsComeTo g ds text g' outcome
     × IsPlayed g' outcome × Appends old new text
@@ -68,11 +68,11 @@ PlaysDrops g ds old new (Err fault) =
     ⊎ ((w : WriteFault) × (fault ≡ Write w) × WritesAll old new (rows_text []) (Err w))
     ⊎ ((n : ℕ) × (text : List ℕ) × TellsDrops g (take n ds) text × FailsOut old new text fault)
 
--- how a command ends that tells an outcome
+-- how a command ends that reports an outcome
 abbrev pub ended_of : Outcome → Ended
 ended_of outcome = record { status = plain_status outcome; cut = false }
 
--- what writing the report answers, if one is asked for: it goes out; or just a front of it does, or there is no memory
+-- the results of writing the report, if asked for: all of it is written; or only a prefix, or there is no memory
 abbrev pub ReportAnswer : Option (Option (List ℕ)) → Option (Option (List ℕ)) → Outcome → Result Ended Fault → Type 0
 ReportAnswer None None outcome result = result ≡ Ok (ended_of outcome)
 ReportAnswer (Some old) (Some new) outcome (Ok ended) = (ended ≡ ended_of outcome) × Appends old new (report_text outcome)
@@ -81,15 +81,15 @@ ReportAnswer (Some old) (Some new) outcome (Err WriteFile) =
 ReportAnswer (Some old) (Some new) outcome (Err NoMemory) = Keeps old new
 ReportAnswer _ _ outcome result = ⊥
 
--- what dropping chips on a game answers: the rows went out, and then the report is written; or the rows failed
+-- the results of dropping chips on a game: the rows are written, and then the report; or writing the rows failed
 abbrev pub DropsAnswer : ChipGame → List (ℕ × ℕ) → RowOutputs → RowOutputs → Result Ended Fault → Type 0
 DropsAnswer g ds old new result =
     ((outcome : Outcome) × PlaysDrops g ds old.rows new.rows (Ok outcome)
     × ReportAnswer old.report new.report outcome result)
     ⊎ IsErrAnd result (λ fault. PlaysDrops g ds old.rows new.rows (Err fault) × (new.report ≡ old.report))
 
--- what `avalanches` answers by these limits: the inputs make no game, or the drops have a fault, or there are too many
--- chips with them, and nothing went out; or else what dropping them answers
+-- the results of `avalanches` by these limits: the inputs make no game, or the drops have a fault, or the chips in all
+-- are too many, and nothing was written; or those of dropping the chips
 abbrev pub AvalanchesAnswers : SizeLimits → (graph chips drops : Option (List ℕ)) → ℕ → RowOutputs → RowOutputs
     → Result Ended Fault → Type 0
 AvalanchesAnswers limits graph chips drops limit old new result =

@@ -1,4 +1,4 @@
--- The board: what stands in the books of the detector, as the lines that `simulate` writes behind a reply.
+-- The board: the books of the detector, as the lines that `simulate` writes after a reply.
 use Rattle.std.specs.Prelude.{ℕ, zero, suc, List, [], ◌++◌, ◌==◌, if◌then◌else◌, codes, flat_map, Option, Some, None}
 use Rattle.std.specs.Fmt.{decimal}
 use Rattle.chip_graph.specs.Multigraph.{edges_in}
@@ -7,13 +7,13 @@ use Rattle.chip_part.specs.Part.{owed_on, deficit_of}
 use Rattle.chip_part.specs.Edges.{root, root_edge}
 use Rattle.chip_core.specs.Core.{Log, part_in, into_in}
 
--- an edge with how many acknowledgements its head owes on it, if it owes some
+-- an edge with the number of acknowledgements that its head owes on it, if any
 abbrev pub owed_text : Setting → Log → ℕ → List ℕ
 owed_text g log e =
     if owed_on (into_in g log e) == 0 then []
     else (codes " " ++ decimal e ++ codes ":" ++ decimal (owed_on (into_in g log e)))
 
--- the beginning of a vertex's line: its parent edge and its deficit
+-- the start of a vertex's line: its parent edge and its deficit
 abbrev pub books_text : ℕ → ℕ → ℕ → List ℕ
 books_text v parent deficit =
     codes "  vertex " ++ decimal v ++ codes " parent " ++ decimal parent

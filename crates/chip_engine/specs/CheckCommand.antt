@@ -34,6 +34,6 @@ showing G = record {
   refuses = λ fault. fault ≡ NoMemory;
 }
 
--- what `check` answers by these limits, of a reader that may tell its text
+-- the results of `check` by these limits, of a reader whose text may be known
 abbrev pub CheckAnswers : SizeLimits → Option (List ℕ) → Option (List ℕ) → Option (List ℕ) → Result Ended Fault → Type 0
 CheckAnswers limits graph old new result = CommandAnswers (bind (reading_graph limits graph) showing) old new result

@@ -30,18 +30,18 @@ abbrev pub TellsRows : Multigraph → (ℕ → ℕ) → List (ℕ × ℕ) → Li
 TellsRows G x ds text y = (told : List ((ℕ × ℕ) × Avalanche)) × (map (λ t. t.0) told ≡ ds)
     × AreAvalanches G x told y × (text ≡ rows_text told)
 
--- how many bytes are held back at most: a stretch of 65,536, and a row of 128
+-- the most bytes that are held back: a stretch of 65,536, and a row of 128
 abbrev pub most_held : ℕ
 most_held = 65664
 
--- of all bytes the first `written` were written, and the others are pending
+-- the first `written` of all bytes were written, and the others are pending
 pub record IsOut (old now : Option (List ℕ)) (pending : List ℕ) (written : ℕ) (all : List ℕ) : Type 0 where
   pub counted : written + length pending ≡ length all
   pub held : length pending ≤ most_held
   pub went : Appends old now (take written all)
   pub rest : drop written all ≡ pending
 
--- a fault says how many bytes were written, or there was no memory after a front of them; and few were held back
+-- a fault says how many bytes were written, or there was no memory after a prefix of them; and few were held back
 abbrev pub FailsOut : Option (List ℕ) → Option (List ℕ) → List ℕ → Fault → Type 0
 FailsOut old now all (Write w) = WritesAll old now all (Err w) × (length all ≤ w.written + most_held)
 FailsOut old now all NoMemory = (k : ℕ) × Appends old now (take k all) × (length all ≤ k + most_held)
@@ -54,7 +54,7 @@ pub record LeavesRows (p : Pile) (ds : List (ℕ × ℕ)) (p' : Pile) (text : Li
   pub game : HasMore p.game ds p'.game
   pub rows : TellsRows p.game.graph (slice_index p.chips.items) ds text (slice_index p'.chips.items)
 
--- the first n drops are all, and have left p'; or one more was made, and the limit has stopped its play
+-- the first n drops are all, and left p'; or one more was made, and the limit stopped its play
 abbrev pub EndsAt : Pile → List (ℕ × ℕ) → ℕ → Pile → Pile → Bool → Type 0
 EndsAt p ds n left p' true = (take n ds ≡ ds) × (p' ≡ left)
 EndsAt p ds n left p' false = (n < length ds) × IsPile p' × HasMore p.game (take (n + 1) ds) p'.game
@@ -64,8 +64,8 @@ EndsAt p ds n left p' false = (n < length ds) × IsPile p' × HasMore p.game (ta
 abbrev pub HasDrops : Pile → List (ℕ × ℕ) → ℕ → Pile → Type 0
 HasDrops p ds n p' = HasMore p.game (take n ds) p'.game ⊎ HasMore p.game (take (n + 1) ds) p'.game
 
--- what writing rows answers with the pile p': the rows of the first n drops went out; or there is a fault, and all of them
--- went out but for what may be held back, when no more drops were made than one after them
+-- the results of writing rows, with the pile p': the rows of the first n drops are written; or there is a fault, and
+-- all of them are written except what may be held back, when at most one more drop was made
 abbrev pub WritesRows : Pile → List (ℕ × ℕ) → Option (List ℕ) → Option (List ℕ) → Pile → Result Bool Fault → Type 0
 WritesRows p ds old new p' (Ok all) = (n : ℕ) × (text : List ℕ) × (left : Pile) × LeavesRows p (take n ds) left text
     × EndsAt p ds n left p' all × Appends old new text

@@ -33,18 +33,18 @@ table_rows table = map (λ row. row.now) table
 abbrev pub row_with : List Explanation → ℕ → Option Explanation
 row_with table number = find (λ row. row.number == number) table
 
--- what a table has to say: in the row with a number, if there is one; in all rows if no number is given
+-- what a table says: of the row with a number, if there is one; of all rows if no number is given
 abbrev pub explanation : List ℕ → List Explanation → Option ℕ → Option (List ℕ)
 explanation what table (Some number) = option_map (row_text what) (row_with table number)
 explanation what table None = Some (table_text what table)
 
--- telling what there is to say gives that, with status 0; or there is nothing, or no memory
+-- the results of explaining: what the table says, with status 0; or it says nothing, or there is no memory
 abbrev pub telling : Option (List ℕ) → Spec (List ℕ × ℕ)
 telling said = record {
   gives = λ (text, status). (said ≡ Some text) × (status ≡ 0);
   refuses = λ fault. MatchOption said (fault ≡ Usage) (λ text. fault ≡ NoMemory);
 }
 
--- what `explain` answers
+-- the results of `explain`
 abbrev pub ExplainAnswers : Option (List ℕ) → Option (List ℕ) → Option (List ℕ) → Result Ended Fault → Type 0
 ExplainAnswers said old new result = CommandAnswers (telling said) old new result

@@ -16,11 +16,11 @@ use Rattle.chip_command.specs.declared.ended.Ended.{Ended}
 use Rattle.chip_command.specs.declared.fault.Fault.{Fault}
 use Rattle.chip_command.specs.declared.fault.Fault.TheVariants.{NotReport, Resume}
 
--- the first byte of a text is a brace, as that of a report
+-- the first byte of a text is a brace, as in a report
 abbrev pub has_brace : List ℕ → Bool
 has_brace text = slice_index text 0 == 123
 
--- a report of `vertices` vertices tells these counts, in all its sittings
+-- a report of `vertices` vertices has these counts, in all its stages
 pub record TellsCounts (limits : SizeLimits) (vertices : ℕ) (text counts : List ℕ) : Type 0 where
   pub told : Resumed
   pub report : IsAnyReportWithin limits text told
@@ -38,14 +38,13 @@ abbrev pub IsOfOthers : SizeLimits → ℕ → List ℕ → Type 0
 IsOfOthers limits vertices text =
     (told : Resumed) × IsAnyReportWithin limits text told × (length told.outcome.fired.items ≢ vertices)
 
--- taking the counts of a text with a brace failed by this fault: it is no report, or one of another number of vertices, or
--- there is no memory
+-- reading the counts of a text with a brace failed by this fault: it is no report, or one of another number of
+-- vertices, or there is no memory
 abbrev pub RefusesTold : SizeLimits → ℕ → List ℕ → Fault → Type 0
 RefusesTold limits vertices text = OrMemory (λ fault. (IsNoReportAtAllWithin limits text × (fault ≡ NotReport))
     ⊎ (IsOfOthers limits vertices text × (fault ≡ Resume Mismatch)))
 
--- reading a guess failed by this fault: the input could not be taken whole, or something is wrong with its rows, or with
--- its report
+-- reading a guess failed by this fault: the input could not be read whole, or its rows or its report are wrong
 abbrev pub RefusesGuess : SizeLimits → ℕ → List ℕ → Fault → Type 0
 RefusesGuess limits vertices text fault =
     RefusesText limits text (λ f. (has_brace text ≡ false) × (guess_text_fault vertices text ≡ Some f)) fault
@@ -58,7 +57,7 @@ reading_guess limits vertices guess = record {
   refuses = λ fault. ForSome guess (λ text. RefusesGuess limits vertices text fault);
 }
 
--- what `plain` answers with a guess by these limits: what it answers without one, if the guess is one
+-- the results of `plain` with a guess by these limits: those without one, if the guess is one
 abbrev pub GuessAnswers : SizeLimits → (graph chips guess : Option (List ℕ)) → ℕ → Option (List ℕ) → Option (List ℕ)
     → Result Ended Fault → Type 0
 GuessAnswers limits graph chips guess limit old new result = CommandAnswers

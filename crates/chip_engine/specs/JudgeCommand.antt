@@ -34,7 +34,7 @@ verdict_text (verdict.OnItsWay channel message) =
     codes " early: message " ++ decimal message ++ codes " of channel " ++ decimal channel ++ codes " is on its way\n"
 verdict_text (verdict.Active process) = codes " early: process " ++ decimal process ++ codes " is active\n"
 
--- the line of the rows of a process in a past
+-- the line of the rows of a process in a causal past
 abbrev pub past_text : PastRows → List ℕ
 past_text past = codes "past " ++ decimal past.process ++ codes " " ++ decimal past.rows ++ codes "\n"
 
@@ -62,31 +62,31 @@ abbrev pub status_of_judged : JudgedLog → Status
 status_of_judged judged =
     if list_any (λ claim. is_early claim.verdict) judged.claims.items then Halted else status_of_end judged.end
 
--- a text and a status tell the verdicts on all claims of a log, and its end
+-- a text and a status report the verdicts on all claims of a log, and its end
 pub record JudgesAll (past : Bool) (log : List LogRow) (text : List ℕ) (status : ℕ) : Type 0 where
   pub judged : JudgedLog
   pub is_judged : IsJudgedLog past log judged
   pub lines : text ≡ flat_map claim_text judged.claims.items ++ end_text judged.end
   pub status_is : status ≡ number_of_status (status_of_judged judged)
 
--- a text and a status tell the first early claim alone
+-- a text and a status report the first early claim alone
 pub record JudgesFirst (past : Bool) (log : List LogRow) (text : List ℕ) (status : ℕ) : Type 0 where
   pub claim : ClaimVerdict
   pub is_first : IsFirstEarly past log (Some claim)
   pub lines : text ≡ claim_text claim ++ codes "end early\n"
   pub status_is : status ≡ number_of_status Halted
 
--- all claims; or if the first early one is asked for that one, and all if none is early
+-- all claims; or, if asked, the first early one, and all if none is early
 abbrev pub JudgesBy : Bool → Bool → List LogRow → List ℕ → ℕ → Type 0
 JudgesBy false past log text status = JudgesAll past log text status
 JudgesBy true past log text status = JudgesFirst past log text status
     ⊎ (IsFirstEarly past log None × JudgesAll past log text status)
 
--- the rows have no order in which each is met
+-- the rows have no order in which each is enabled
 abbrev pub IsUnordered : List LogRow → Fault → Type 0
 IsUnordered log fault = (process : ℕ) × (row : ℕ) × (fault ≡ Stuck process row) × IsStuck log process row
 
--- judging a log tells its verdicts; or a process that is expected has no row, or the rows have no order, or there is no
+-- judging a log reports its verdicts; or an expected process has no row, or the rows have no order, or there is no
 -- memory
 abbrev pub judging : JudgeOptions → List LogRow → Spec (List ℕ × ℕ)
 judging options log = record {
@@ -106,10 +106,10 @@ reading_log limits log =
       refuses = read.refuses;
     }
 
--- the same of the log of a reader
+-- the same for the log of a reader
 abbrev pub judging_from : JudgeOptions → Option (List ℕ) → Spec (List ℕ × ℕ)
 judging_from options log = bind (reading_log options.limits log) (λ (rows, _). judging options rows)
 
--- what `judge` answers: the verdict on each claim, and the end
+-- the results of `judge`: the verdict on each claim, and the end
 abbrev pub JudgeAnswers : Option (List ℕ) → JudgeOptions → Option (List ℕ) → Option (List ℕ) → Result Ended Fault → Type 0
 JudgeAnswers log options old new result = CommandAnswers (judging_from options log) old new result

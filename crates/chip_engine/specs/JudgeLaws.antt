@@ -1,4 +1,4 @@
--- What is told of a log is one.
+-- The report on a log is unique.
 use Rattle.std.specs.Prelude.{◌≡◌, ℕ, Bool, List, [], Some, Result, Ok, Err}
 use Rattle.chip_graph.specs.Limits.{SizeLimits}
 use Rattle.chip_log.specs.declared.row.LogRow.{LogRow}
@@ -27,7 +27,7 @@ pub record MeanSame (limits : SizeLimits) (one two : List ℕ) : Type 0 where
   pub two_is : log_of_text limits two ≡ Some (other, others)
   pub same : (p : ℕ) → steps_of p log ≡ steps_of p other
 
--- two ends of the command that are one: the same bytes and status, or the same process is absent
+-- two ends of the command agree: the same bytes and status, or the same process is absent
 abbrev pub AreOne : (text again : List ℕ) → (one two : Result Ended Fault) → Type 0
 AreOne text again (Ok ended) (Ok other) = (text ≡ again) × (ended ≡ other)
 AreOne text again (Err (Absent p)) (Err (Absent q)) = p ≡ q

@@ -18,7 +18,7 @@ use Rattle.chip_command.specs.declared.ended.Ended.{Ended}
 use Rattle.chip_command.specs.declared.fault.Fault.{Fault}
 use Rattle.chip_command.specs.declared.fault.Fault.TheVariants.{Game, Stopped, NoMemory}
 
--- the fault of a command, by that of a stabilization
+-- the fault of a command for that of a stabilization
 abbrev pub fault_of_row : RowFault → Fault
 fault_of_row (row_fault.Total row) = Game game_fault.Total
 fault_of_row (row_fault.Stopped row) = Stopped row
@@ -32,7 +32,7 @@ IsFaultBy IsFault fault = (row : RowFault) × (fault ≡ fault_of_row row) × Is
 abbrev pub TellsWhether : Type 0 → ℕ → Type 0
 TellsWhether P status = ((status ≡ 0) × P) ⊎ ((status ≡ 2) × (P → ⊥))
 
--- looking for the recurrent representative of the chips of a game gives it, and a status that says whether these chips are
+-- finding the recurrent representative of the chips of a game gives it, and a status that says whether these chips are
 -- recurrent; or it has a fault
 abbrev pub representing : ChipGame → Spec (List ℕ × ℕ)
 representing g = record {
@@ -42,20 +42,20 @@ representing g = record {
   refuses = IsFaultBy (IsFaultOfRepresentative g.graph Recurrent (slice_index g.start));
 }
 
--- looking for the identity gives it, with status 0; or it has a fault
+-- finding the identity gives it, with status 0; or it has a fault
 abbrev pub identifying : Multigraph → Spec (List ℕ × ℕ)
 identifying G = record {
   gives = λ (text, status). (c : List ℕ) × IsFoundIdentity G c × (text ≡ text_of_chips c) × (status ≡ 0);
   refuses = IsFaultBy (IsFaultOfIdentity G);
 }
 
--- what `recurrent` answers by these limits
+-- the results of `recurrent` by these limits
 abbrev pub RecurrentAnswers : SizeLimits → (graph chips : Option (List ℕ)) → Option (List ℕ) → Option (List ℕ)
     → Result Ended Fault → Type 0
 RecurrentAnswers limits graph chips old new result =
     CommandAnswers (bind (reading_game limits graph chips max_limit) representing) old new result
 
--- what `identity` answers by these limits
+-- the results of `identity` by these limits
 abbrev pub IdentityAnswers : SizeLimits → Option (List ℕ) → Option (List ℕ) → Option (List ℕ) → Result Ended Fault
     → Type 0
 IdentityAnswers limits graph old new result = CommandAnswers (bind (reading_graph limits graph) identifying) old new result

@@ -36,11 +36,11 @@ abbrev pub status_of_left : List Left → Status
 status_of_left [] = Done
 status_of_left (first ∷ others) = Halted
 
--- what is written to be left when all rows of the traces are used: all that is, if it is asked for
+-- what is written as left when all rows of the traces are used: all of it, if asked
 abbrev pub told_left : Bool → ChipGame → List (List TraceRow) → List Left
 told_left complete g traces = if complete then left_after g (trace_of traces) else []
 
--- a text and a status tell of the traces the firings of some interleaving, and what is left if it is asked for
+-- a text and a status report the firings of some interleaving of the traces, and what is left if asked
 pub record ReplaysTraces (complete : Bool) (g : ChipGame) (traces : List (List TraceRow)) (text : List ℕ)
     (status : ℕ) : Type 0 where
   pub fired : List (ℕ × ℕ)
@@ -48,21 +48,21 @@ pub record ReplaysTraces (complete : Bool) (g : ChipGame) (traces : List (List T
   pub lines : text ≡ flat_map firing_text fired ++ flat_map left_text (told_left complete g traces)
   pub status_is : status ≡ number_of_status (status_of_left (told_left complete g traces))
 
--- replaying traces tells what they come to; or they have no interleaving, or there is no memory
+-- replaying traces reports their result; or they have no interleaving, or there is no memory
 abbrev pub replaying : Bool → ChipGame → List (List TraceRow) → Spec (List ℕ × ℕ)
 replaying complete g traces = record {
   gives = λ (text, status). ReplaysTraces complete g traces text status;
   refuses = OrMemory (λ fault. (vertex : ℕ) × (row : ℕ) × (fault ≡ Stuck vertex row) × IsStuck g traces vertex row);
 }
 
--- the same of the traces of a reader
+-- the same for the traces of a reader
 abbrev pub replaying_from : ReplayOptions → Option (List ℕ) → ChipGame → Spec (List ℕ × ℕ)
 replaying_from options trace g =
     bind (reading options.play.limits (λ text traces. traces_of_text g.graph text ≡ Some traces)
     (λ text f. trace_text_fault g.graph text ≡ Some f) trace) (replaying options.complete g)
 
--- what `replay` answers: the firings of an interleaving, and what is left if it is asked for; the status is 2 if that
--- is something, and else 0
+-- the results of `replay`: the firings of an interleaving, and what is left if asked; the status is 2 if anything is,
+-- and else 0
 abbrev pub ReplayAnswers : (graph chips trace : Option (List ℕ)) → ReplayOptions
     → Option (List ℕ) → Option (List ℕ) → Result Ended Fault → Type 0
 ReplayAnswers graph chips trace options old new result = CommandAnswers

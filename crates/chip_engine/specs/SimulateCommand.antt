@@ -47,11 +47,11 @@ reply_text Full = codes "full\n"
 reply_text Sealed = codes "sealed\n"
 reply_text (NotNow rule) = codes "not-now " ++ decimal (rule_number rule) ++ codes "\n"
 
--- the reply after which a log stands, and behind it the board if it is asked for
+-- the reply after which a log stands, followed by the board if asked
 abbrev pub answer_text : Bool → Setting → Log → Reply → List ℕ
 answer_text books g log reply = reply_text reply ++ (if books then board_text g log else [])
 
--- the replies to these events, each with the board after it if it is asked for
+-- the replies to these events, each followed by the board if asked
 abbrev pub answers_text : Bool → Setting → Log → List Event → List ℕ
 answers_text books g log [] = []
 answers_text books g log (x ∷ xs) =
@@ -62,8 +62,8 @@ abbrev pub IsRunThrough : Setting → List Event → WorldState → Type 0
 IsRunThrough g events w = StandsForLog g (log_after g [] events) w
 
 -- the end of a closed run: the report of its outcome and the status that `plain` has for it. The firings of the run
--- lead to this outcome, so that a play can go on from it; and unless a vertex halted by a seal, it is what `plain`
--- writes for the game that has all chips that were given from the start, and its status
+-- lead to this outcome, so that a play can go on from it. Unless a seal halted a vertex, it is what `plain` writes for
+-- the game that has all given chips from the start, and its status
 pub record EndsClosed (g : Setting) (log : Log) (end : List ℕ) (status : ℕ) : Type 0 where
   pub is_setting : IsSetting g
   pub legal : IsLegalLog g log
@@ -81,7 +81,7 @@ EndsBy g log Closed end status = EndsClosed g log end status
 EndsBy g log (Unfinished rounds) end status = (end ≡ codes "root open\n") × (status ≡ 3)
 
 -- `rounds` rounds close the game after this schedule: it noted the end of feeding, no message of the root is claimed
--- and not put, and they are at least as many as the game with all chips that were given needs
+-- and not put, and they are at least the number that the game with all given chips needs
 pub record HasEnoughRounds (g : Setting) (rounds : ℕ) (events : List Event) : Type 0 where
   pub end : HasEnd g (log_after g [] events)
   pub put : RootHasPut g (log_after g [] events)
@@ -109,7 +109,7 @@ simulating options g events = record {
   refuses = λ fault. fault ≡ NoMemory;
 }
 
--- what `simulate` answers
+-- the results of `simulate`
 abbrev pub SimulateAnswers : (graph chips schedule : Option (List ℕ)) → SimulateOptions → Option (List ℕ) → Option (List ℕ)
     → Result Ended Fault → Type 0
 SimulateAnswers graph chips schedule options old new result = let o = options.play in CommandAnswers

@@ -30,7 +30,7 @@ abbrev pub fed_by_replies : ChipGame → List Event → List Reply → List (ℕ
 fed_by_replies game (x ∷ xs) (reply ∷ replies) = fed_by_reply game x reply ++ fed_by_replies game xs replies
 fed_by_replies game _ _ = []
 
--- lines that tell replies, each with the board behind it while there are boards
+-- lines that report replies, each followed by the board while there are boards
 abbrev pub told_text : List Reply → List (List ℕ) → List ℕ
 told_text [] boards = []
 told_text (reply ∷ replies) [] = reply_text reply ++ told_text replies []

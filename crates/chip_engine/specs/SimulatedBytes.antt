@@ -1,4 +1,4 @@
--- What `simulate` writes of a game, beside what `plain` writes.
+-- What `simulate` writes of a game, compared with what `plain` writes.
 use Rattle.std.specs.Prelude.{◌≡◌, ◌⊎◌, ℕ, List, [], Some}
 use Rattle.chip_graph.specs.Limits.{SizeLimits}
 use Rattle.chip_graph.specs.ChipGame.{ChipGame}
@@ -17,7 +17,7 @@ IsWhatPlainWrites g o status =
     → (report : List ℕ) (t : ℕ) → PlainWrote graph_text chips_text g.limit report t → (report_text o ≡ report) × (status ≡ t)
 
 -- whatever `simulate` wrote that ended well: the root is open; or it is closed, and the report is the one that `plain`
--- writes for the whole game, with all chips at the start that the game had or that a reply tells to be fed, unless it
+-- writes for the whole game, with all chips at the start that the game had or that a reply reports as fed, unless it
 -- names a sealed vertex
 abbrev pub SimulatedBytes : Type 0
 SimulatedBytes =

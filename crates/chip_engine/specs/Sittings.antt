@@ -1,4 +1,4 @@
--- A play in several sittings, by the reports that the commands write.
+-- A play in several stages, by the reports that the commands write.
 use Rattle.std.specs.Prelude.{◌≡◌, ℕ, List, [], ◌∷◌, ◌++◌, codes, slice_index, Some, Ok}
 use Rattle.chip_graph.specs.Limits.{SizeLimits}
 use Rattle.chip_graph.specs.Multigraph.{Multigraph}
@@ -28,21 +28,21 @@ AreResumed graph_text first [] last = first ≡ last
 AreResumed graph_text first (report ∷ reports) last =
     IsResumedTo graph_text first report × AreResumed graph_text report reports last
 
--- what `plain` writes tells a play from the start of its game
+-- the report of `plain` describes a play from the start of its game
 abbrev pub PlainTellsPlay : Type 0
 PlainTellsPlay =
     (limits : SizeLimits) (graph_text chips_text : List ℕ) (limit : ℕ) (report : List ℕ) (status : ℕ)
     → PlainWrote graph_text chips_text limit report status → (g : ChipGame)
     → MeansGame limits graph_text chips_text limit g → TellsPlayFrom g.graph (slice_index g.start) report
 
--- and so does the report of a simulation that closed, from the chips that were given in it, whatever halted its vertices
+-- so does the report of a simulation that closed, from the chips that were given in it, whatever halted its vertices
 abbrev pub SimulateTellsPlay : Type 0
 SimulateTellsPlay =
     (g : Setting) (log : Log) (end report : List ℕ) (status : ℕ) → EndsClosed g log end status
     → end ≡ codes "root closed\n" ++ report → TellsPlayFrom g.game.graph (chips_given g log) report
 
--- however often a play was resumed since a report that tells it from x, and once more: the last report leads to the end
--- of the play that was never stopped
+-- however often a play was resumed since a report of it from x, and once more: the last report leads to the end of the
+-- play that was never stopped
 abbrev pub ResumedPlaysAddUp : Type 0
 ResumedPlaysAddUp =
     (limits : SizeLimits) (graph_text : List ℕ) (G : Multigraph) → ReadsWithin limits graph_text (MeansGraph limits graph_text G)

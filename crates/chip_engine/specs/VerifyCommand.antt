@@ -14,22 +14,21 @@ use Rattle.chip_command.specs.declared.fault.Fault.{Fault}
 use Rattle.chip_command.specs.declared.fault.Fault.TheVariants.{Resume, Differs}
 use Rattle.chip_engine.specs.ResumeCommand.{reading_sitting}
 
--- a sitting and an outcome tell the same of v: how often it fired in all, its chips, and whether a limit or a seal halted it
+-- a stage and an outcome agree at v: how often it fired in all, its chips, and whether a limit or a seal halted it
 pub record SittingAgreesAt (told : Resumed) (o : Outcome) (v : ℕ) : Type 0 where
   pub fired : fired_in_all told v ≡ slice_index o.fired.items v
   pub chips : slice_index told.outcome.chips.items v ≡ slice_index o.chips.items v
   pub over : Contains told.outcome.over.items v ↔ Contains o.over.items v
   pub sealed : Contains told.outcome.sealed.items v ↔ Contains o.sealed.items v
 
--- v is the least vertex of which they do not tell the same
+-- v is the least vertex at which they differ
 pub record IsFirstDisagreement (told : Resumed) (o : Outcome) (v : ℕ) : Type 0 where
   pub is_vertex : v < length o.fired.items
   pub differs : SittingAgreesAt told o v → ⊥
   pub agrees_below : (u : ℕ) → u < v → SittingAgreesAt told o u
 
--- verifying a sitting says that it tells the outcome of the game, whatever was fired before it; or it has another
--- number of vertices than the game, or it tells another outcome, and this is the least vertex that differs, or there is
--- no memory
+-- verifying a stage says that it has the outcome of the game, whatever was fired before it; or it has another number of
+-- vertices than the game, or another outcome, and this is the least vertex that differs, or there is no memory
 abbrev pub verifying : ChipGame → Resumed → Spec (List ℕ × ℕ)
 verifying g told = record {
   gives = λ (text, status). (o : Outcome) × IsPlayed g o × (length told.outcome.fired.items ≡ g.graph.vertices)
@@ -39,7 +38,7 @@ verifying g told = record {
       × (v : ℕ) × (fault ≡ Differs v) × IsFirstDisagreement told o v));
 }
 
--- what `verify` answers by these limits
+-- the results of `verify` by these limits
 abbrev pub VerifyAnswers : SizeLimits → (graph chips report : Option (List ℕ)) → ℕ → Option (List ℕ) → Option (List ℕ)
     → Result Ended Fault → Type 0
 VerifyAnswers limits graph chips report limit old new result = CommandAnswers

@@ -28,7 +28,7 @@ use Rattle.chip_engine.specs.ExplainCommand.{explanation}
 use Rattle.chip_command.specs.declared.fault.Fault.TheVariants.{NotReport}
 use Rattle.chip_command.specs.declared.fault.Location.TheVariants.{Nowhere, At}
 
--- the triangle with five chips on vertex 0, which was stopped behind the counts 2, 1 and 0
+-- the triangle with five chips on vertex 0, stopped after the counts 2, 1 and 0
 pub record WentOn (r : Resumed) : Type 0 where
   pub prior : r.prior.items ≡ 2 ∷ 1 ∷ 0 ∷ []
   pub fired : r.outcome.fired.items ≡ 1 ∷ 0 ∷ 0 ∷ []
@@ -40,7 +40,7 @@ pub record WentOn (r : Resumed) : Type 0 where
 abbrev pub never_stopped : List ℕ
 never_stopped = 0 ∷ 0 ∷ 1 ∷ 0 ∷ []
 
--- its totals are those of the play that is never stopped, and so are its chips; its status, and its report
+-- its totals and its chips are those of the play that is never stopped; its status, and its report
 pub record IsToldAsWentOn (r : Resumed) : Type 0 where
   pub counted : on_each (fired_in_all r) ≡ on_each (counts never_stopped)
   pub position : on_each (slice_index r.outcome.chips.items)
@@ -51,11 +51,11 @@ pub record IsToldAsWentOn (r : Resumed) : Type 0 where
       ≡ codes "{\"chips\":[0,1,4],\"closed\":true,\"fired\":[1,0,0],\"over\":[],\"prior\":[2,1,0],\"sealed\":[],"
       ++ codes "\"version\":2}\n"
 
--- the triangle, gone on with
+-- the triangle, resumed
 abbrev pub TriangleGoesOn : Type 0
 TriangleGoesOn = (r : Resumed) → WentOn r → IsToldAsWentOn r
 
--- the refusals of going on, by their numbers and where they are
+-- the refusals of `resume`, by their numbers and places
 abbrev pub RefusalsAreNumbered : Type 0
 RefusalsAreNumbered =
     (command_fault_number NotReport ≡ 50)
@@ -72,7 +72,7 @@ pub record SaysLoop (row : Explanation) : Type 0 where
   pub meaning : row.meaning.now ≡ codes "edge i is a loop"
   pub advice : row.advice.now ≡ codes "Leave it out.\n"
 
--- what a table of faults with this row alone has to say of fault 6, of fault 7 and of all faults
+-- what a table of faults with this row alone says of fault 6, of fault 7 and of all faults
 pub record IsExplained (row : Explanation) : Type 0 where
   pub asked : explanation (codes "fault") (row ∷ []) (Some 6)
       ≡ Some (codes "fault 6 Loop i: edge i is a loop\n\ni is an edge.\nLeave it out.\n")
@@ -94,7 +94,7 @@ abbrev pub begun : List (List TraceRow)
 begun = (Take 4 4 ∷ Fire 1 ∷ []) ∷ (Take 0 1 ∷ []) ∷ [] ∷ []
 
 -- what is left of these rows, as it is written with a limit of two firings and of one, its status, and what is written
--- unasked
+-- if not asked
 pub record TriangleLeaves : Type 0 where
   pub can_fire : flat_map left_text (told_left true (triangle_within 2) begun)
       ≡ codes "left: edge 1 has 1 messages\nleft: vertex 0 can fire\n"
@@ -111,7 +111,7 @@ two_feeds = Clear 4 ∷ Feed 4 3 ∷ Feed 5 2 ∷ []
 abbrev pub their_replies : List Reply
 their_replies = Done 0 ∷ Sent (message_of 4 0 3) ∷ NotNow NotCleared ∷ []
 
--- only the first feed was sent; the lines of the replies tell it, with a board or without
+-- only the first feed was sent; the lines of the replies say so, with a board or without
 abbrev pub OneFeedIsSent : Type 0
 OneFeedIsSent =
     (fed_by_replies (triangle_within 2) two_feeds their_replies ≡ (0, 3) ∷ [])

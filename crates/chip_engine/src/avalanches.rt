@@ -1,4 +1,4 @@
-//! `avalanches`: chips dropped one after another, and the avalanche that each sets off.
+//! `avalanches`: chips dropped one after another, and the avalanche that each drop starts.
 
 ghost use Rattle.std.specs.Prelude.{◌≡◌, MatchResult, option_map};
 ghost use Rattle.chip_graph.specs.Limits.{standard};
@@ -18,12 +18,12 @@ use chip_sequence::Outcome;
 use std::alloc::Global;
 use std::io::{Read, Write};
 
-/// Plays the game of a graph file, a chips file and a firing limit to its end, within the standard limits, and then drops
-/// the chips of a third file on it, one row after another, each played to its end. The rows of the avalanches go out, and
-/// then, if one is asked for, the report of the game that has all these chips at the start.
+/// Plays the game of a graph file, a chips file and a firing limit to its end, within the standard limits, and then
+/// drops the chips of a third file on it, row by row, each played to its end. Writes the rows of the avalanches, and
+/// then, if asked, the report of the game that has all these chips at the start.
 ///
 /// All files are read before the first byte is written. The limit counts all firings of a vertex. A drop whose play it
-/// stops has no row, and nothing is dropped after it.
+/// stops has no row, and ends the command.
 pub fn avalanches_engine<G: Read, C: Read, D: Read, W: Write, T: Write>(
     alloc: Global,
     graph: &mut G,
@@ -49,8 +49,8 @@ pub fn avalanches_engine<G: Read, C: Read, D: Read, W: Write, T: Write>(
     )
 }
 
-/// Does what `avalanches_engine` does, by these options, and tells now and then how far the play before the drops has
-/// come, and a slow one after a drop, and of the report. Its answer and its bytes are the same, whoever watches.
+/// Does what `avalanches_engine` does, by these options. Reports progress to `watch` during the play before the drops,
+/// after a slow drop, and during the report. The watcher changes neither the result nor the bytes.
 pub fn avalanches_engine_with<G: Read, C: Read, D: Read, P: Watch, W: Write, T: Write>(
     alloc: Global,
     graph: &mut G,
@@ -73,7 +73,7 @@ pub fn avalanches_engine_with<G: Read, C: Read, D: Read, P: Watch, W: Write, T: 
     write_report(alloc, &outcome, watch, report)
 }
 
-/// The drops of a file for a game, each a vertex and how many chips are added there.
+/// The drops of a file for a game, each a vertex and the number of chips added there.
 fn read_drops<D: Read>(
     alloc: Global,
     limits: Limits,
@@ -91,7 +91,7 @@ fn read_drops<D: Read>(
     Ok(drops)
 }
 
-/// Plays drop after drop on a game that has come to this; the outcome of the game with the chips that were dropped.
+/// Drops chips one after another on a pile; the outcome of the game with the dropped chips.
 fn play_drops<P: Watch, W: Write>(
     alloc: Global,
     game: Game,
@@ -118,7 +118,7 @@ fn play_drops<P: Watch, W: Write>(
     }
 }
 
-/// Writes the report of an outcome, if one is asked for.
+/// Writes the report of an outcome, if asked.
 fn write_report<P: Watch, T: Write>(
     alloc: Global,
     outcome: &Outcome,

@@ -1,4 +1,4 @@
-//! The board: what stands in the books of the detector, as lines.
+//! The board: the books of the detector, as lines.
 
 ghost use Rattle.std.specs.Prelude.{◌≡◌, ◌++◌, ◌<◌, IfOk, flat_map, string_bytes};
 ghost use Rattle.std.specs.List.{All};
@@ -46,7 +46,7 @@ fn push_root(lines: &mut String, deficit: u64) -> Result<(), AllocError>
     write!(lines, "  root deficit {deficit}\n")
 }
 
-/// Appends the beginning of a vertex's line.
+/// Appends the start of a vertex's line.
 fn push_books(lines: &mut String, vertex: u64, parent: u64, deficit: u64) -> Result<(), AllocError>
     ensures { IfOk result
         (λ _. string_bytes lines.new ≡ string_bytes lines.old ++ books_text vertex parent deficit) }
@@ -69,7 +69,7 @@ fn push_all_owed(lines: &mut String, world: &World, edges: &[u64]) -> Result<(),
     Ok(())
 }
 
-/// Appends what is owed on this edge, if something is.
+/// Appends what is owed on this edge, if anything.
 fn push_owed(lines: &mut String, world: &World, edge: u64) -> Result<(), AllocError>
     requires { edge < all_edges world.now.setting }
     ensures { IfOk result (λ _. WhateverLog world.now

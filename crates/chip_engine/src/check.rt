@@ -1,4 +1,4 @@
-//! `check`: a valid graph, shown in lines.
+//! `check`: the lines that show a valid graph.
 
 ghost use Rattle.std.specs.Prelude.{◌≡◌, ◌++◌, IfOk, string_bytes};
 ghost use Rattle.chip_graph.specs.Limits.{standard};
@@ -11,8 +11,8 @@ use chip_graph::{Graph, Limits};
 use std::alloc::{AllocError, Global};
 use std::io::{Read, Write};
 
-/// Shows the graph of a file within the standard limits: its numbers of vertices and edges, its sink, and each vertex with
-/// its out-degree and its distance to the sink, a line each.
+/// Shows the graph of a file within the standard limits: its numbers of vertices and edges, its sink, and one line for
+/// each vertex with its out-degree and its distance to the sink.
 pub fn check_engine<G: Read, W: Write>(
     alloc: Global,
     graph: &mut G,

@@ -1,4 +1,4 @@
-//! The rows of drops, each of a vertex, its chips and the avalanche.
+//! The rows of drops, each with a vertex, its chips and the avalanche.
 
 ghost use Rattle.std.specs.Prelude.{◌≡◌, ℕ, ◌+◌, ◌<◌, ◌≤◌, ◌++◌, [], IfOk, List, sum, slice_index};
 ghost use Rattle.std.specs.Prelude.{string_bytes, length, true, Option, MatchResult};
@@ -17,22 +17,22 @@ use std::io::Write;
 /// The first line.
 pub const HEADER: &str = "vertex,chips,size,extent,lost\n";
 
-/// How many bytes are put together before they are written.
+/// The number of bytes that are gathered before they are written.
 const STRETCH: usize = 65_536;
 
-/// How many bytes a row has at most.
+/// The most bytes of a row.
 const ROW: usize = 128;
 
-/// Rows that are put together until they are written.
+/// Rows that are gathered until they are written.
 #[derive(Drop)]
 struct Rows {
     text: String,
-    /// How many bytes were written.
+    /// The number of bytes written.
     written: u64,
 }
 
 impl Rows {
-    /// The first line, which is to be written.
+    /// The first line, not yet written.
     fn new(alloc: Global) -> Result<Rows, AllocError>
         ensures { IfOk result (λ rows. (string_bytes rows.text ≡ rows_text []) × (rows.written ≡ 0)) }
     {
@@ -41,7 +41,7 @@ impl Rows {
         Ok(Rows { text, written: 0 })
     }
 
-    /// Writes what was put together.
+    /// Writes what was gathered.
     fn write<W: Write>(&mut self, output: &mut W) -> Result<(), Fault>
         ensures flushed { IfOk result (λ _. string_bytes self.new.text ≡ []) }
         ensures bytes { (old : Option (List ℕ)) (all : List ℕ)
@@ -65,7 +65,7 @@ impl Rows {
         }
     }
 
-    /// Writes what was put together, if it is time.
+    /// Writes what was gathered, if it is time.
     fn write_if<W: Write>(&mut self, is_time: bool, output: &mut W) -> Result<(), Fault>
         ensures flushed { is_time ≡ true → IfOk result (λ _. string_bytes self.new.text ≡ []) }
         ensures fewer { IfOk result (λ _. length (string_bytes self.new.text) ≤ length (string_bytes self.old.text)) }
@@ -78,7 +78,7 @@ impl Rows {
         if is_time { self.write(output) } else { Ok(()) }
     }
 
-    /// Puts a row to them, and writes them if there are enough.
+    /// Adds a row, and writes all rows if there are enough.
     fn push<W: Write>(
         &mut self,
         vertex: u64,
@@ -115,12 +115,12 @@ fn push_row(
     writeln!(text, "{vertex},{count},{size},{extent},{lost}")
 }
 
-/// Drops chips one after another on a pile, each a vertex and a count, and writes a row for each when its play has ended.
-/// Nothing is dropped after one whose play the limit has stopped, and it has no row.
+/// Drops chips one after another on a pile, each a vertex and a count, and writes a row for each when its play has
+/// ended. A drop whose play the limit stops has no row and is the last.
 ///
-/// It gives the pile back, with whether all drops were made and none was stopped. After a fault the last play may not have
-/// ended. Rows go out at most 65,664 bytes behind the drops. Before a play that no work list comes to the end of, all rows
-/// that are there go out, and the watcher is told how it goes on.
+/// Returns the pile, and whether all drops were made and none was stopped. After a fault the last play may not have
+/// ended. At most 65,664 bytes of rows are held back. Before a play that no work list finishes, all rows are written
+/// and the watcher is called.
 pub fn write_rows<P: Watch, W: Write>(
     alloc: Global,
     mut pile: Pile,

@@ -1,4 +1,4 @@
-//! `explain`: what a fault or a rule means, how to read its numbers and what to do, from a table of such.
+//! `explain`: what a fault or a rule means, how to read its numbers and what to do, from a table.
 
 ghost use Rattle.std.specs.Prelude.{◌≡◌, ◌++◌, IfOk, option_map, string_bytes};
 ghost use Rattle.chip_command.specs.CommandAnswers.{GivesAnswer};
@@ -9,10 +9,10 @@ use chip_command::{Answer, Ended, Explanation, Fault, deliver};
 use std::alloc::{AllocError, Global};
 use std::io::Write;
 
-/// Explains the row of a table with this number, or lists all its rows, a line each, if no number is given. `what`
-/// says what the rows are of: `fault` or `rule`.
+/// Explains the row of a table with this number, or lists all its rows, a line each, if no number is given. `what` says
+/// what the rows are: `fault` or `rule`.
 ///
-/// `Fault::Usage` if no row of the table has the number.
+/// Fails with `Fault::Usage` if no row has the number.
 pub fn explain_engine<W: Write>(
     alloc: Global,
     what: &str,

@@ -1,4 +1,4 @@
-//! Guesses of how often each vertex fires.
+//! Guesses of the firing counts.
 
 ghost use Rattle.std.specs.Prelude.{◌≡◌, ℕ, ◌<◌, IfOk, MatchResult, length, slice_index};
 ghost use Rattle.chip_sequence.specs.Sittings.{IsResumed, fired_in_all};
@@ -30,14 +30,14 @@ pub(crate) fn read_guess<R: Read>(
     }
 }
 
-/// Whether the first byte is a brace, as that of a report.
+/// Whether the first byte is a brace, as in a report.
 fn has_brace(text: &[u8]) -> bool
     ensures { result ≡ has_brace text.now }
 {
     text.first().copied().unwrap_or(0) == b'{'
 }
 
-/// How often each of `vertices` vertices fired in all sittings that a report within the limits tells.
+/// How often each of `vertices` vertices fired in all stages of a report within the limits.
 fn counts_of_report(
     alloc: Global,
     limits: Limits,
@@ -54,7 +54,7 @@ fn counts_of_report(
     Ok(counts_in_all(alloc, &told)?)
 }
 
-/// How often each vertex fired in all sittings.
+/// How often each vertex fired in all stages.
 pub(crate) fn counts_in_all(alloc: Global, told: &Resumed) -> Result<Vec<u64>, AllocError>
     requires { IsResumed told.now }
     ensures { IfOk result (λ counts. (length counts.items ≡ length told.now.prior.items)

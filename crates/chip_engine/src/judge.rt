@@ -18,22 +18,22 @@ use chip_log::{
 use std::alloc::{AllocError, Global};
 use std::io::{Read, Write};
 
-/// The options of a judgement.
+/// The options of a judgment.
 #[derive(Clone, Copy)]
 pub struct JudgeOptions {
-    /// How large the log may be: twice as many processes and channels as a graph has vertices and edges.
+    /// The limits of the log: at most twice as many processes and channels as a graph has vertices and edges.
     pub limits: Limits,
-    /// Whether each early claim says how many rows of each process are in its least past.
+    /// Whether to list, for each early claim, the number of rows of each process in its causal past.
     pub past: bool,
-    /// Whether the first early claim alone is told, if there is one.
+    /// Whether to report the first early claim alone, if there is one.
     pub first: bool,
-    /// How many processes, from 0 on, have to have a row.
+    /// The number of processes, from 0 on, that must have a row.
     pub processes: u64,
 }
 
-/// Judges the claims of a log by these options, and writes a line for each, by process and row, and one for its end. The
-/// status is 0 if a claim is right and none early, 2 if one is early, and 3 if there is none. Before each claim it tells
-/// which it is; its answer is the same, whoever watches.
+/// Judges the claims of a log by these options, and writes a line for each, by process and row, and one for the end of
+/// the log. The status is 0 if a claim is right and none early, 2 if one is early, and 3 if there is no claim. Reports
+/// each claim to `watch` before judging it; the watcher does not change the result.
 pub fn judge_engine_with<L: Read, P: ClaimWatch, W: Write>(
     alloc: Global,
     log: &mut L,
@@ -47,7 +47,7 @@ pub fn judge_engine_with<L: Read, P: ClaimWatch, W: Write>(
     deliver(output, answer)
 }
 
-/// What there is to say of the claims of a log.
+/// The verdicts on the claims of a log, as text.
 fn judge<L: Read, P: ClaimWatch>(
     alloc: Global,
     log: &mut L,
@@ -60,7 +60,7 @@ fn judge<L: Read, P: ClaimWatch>(
     judge_rows(alloc, log.sizes, &log.rows, options, watch)
 }
 
-/// What there is to say of the claims of these rows, if each process that is expected has one.
+/// The verdicts on the claims of these rows, if each expected process has one.
 fn judge_rows<P: ClaimWatch>(
     alloc: Global,
     sizes: Sizes,
@@ -91,7 +91,7 @@ fn judge_rows<P: ClaimWatch>(
     })
 }
 
-/// The lines of the first early claim, behind which no claim was judged.
+/// The lines of the first early claim, after which no claim was judged.
 fn text_of_early(alloc: Global, claim: &ClaimVerdict) -> Result<String, AllocError>
     ensures { IfOk result (λ text. string_bytes text ≡ claim_text claim.now ++ codes "end early\n") }
 {
@@ -143,7 +143,7 @@ fn push_verdict(lines: &mut String, verdict: Verdict) -> Result<(), AllocError>
     }
 }
 
-/// Appends the line of the rows of a process in a past.
+/// Appends the line of the rows of a process in a causal past.
 fn push_past(lines: &mut String, past: PastRows) -> Result<(), AllocError>
     ensures { IfOk result (λ _. string_bytes lines.new ≡ string_bytes lines.old ++ past_text past) }
 {
@@ -151,7 +151,7 @@ fn push_past(lines: &mut String, past: PastRows) -> Result<(), AllocError>
     write!(lines, "past {process} {rows}\n")
 }
 
-/// Appends the line of the end.
+/// Appends the line of the log's end.
 fn push_end(lines: &mut String, end: LogEnd) -> Result<(), AllocError>
     ensures { IfOk result (λ _. string_bytes lines.new ≡ string_bytes lines.old ++ end_text end) }
 {
@@ -169,7 +169,7 @@ fn push_end(lines: &mut String, end: LogEnd) -> Result<(), AllocError>
     }
 }
 
-/// The exit status that a judged log gives.
+/// The exit status for a judged log.
 fn status_of_judged(judged: &JudgedLog) -> Status
     ensures { result ≡ status_of_judged judged.now }
 {

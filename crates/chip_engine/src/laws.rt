@@ -1,4 +1,4 @@
-//! Laws of the commands: functions that do nothing, whose contracts are the laws.
+//! Laws of the commands: functions without code, whose contracts are the laws.
 
 ghost use Rattle.chip_engine.specs.Worked.{TriangleGoesOn, TriangleLeaves, OneFeedIsSent, RefusalsAreNumbered, LoopIsExplained};
 ghost use Rattle.chip_engine.specs.SimulatedBytes.{SimulatedBytes};
@@ -7,7 +7,7 @@ ghost use Rattle.chip_engine.specs.JudgeLaws.{OneAnswer, SameTexts};
 
 use chip_log::laws::{one_absent, one_first, one_judgment, same_first, same_judgment};
 
-/// A sitting that went on, and the refusals of going on, as the definitions compute them.
+/// A stage that went on, and the refusals of `resume`, as the definitions compute them.
 pub fn worked_sitting()
     ensures triangle { TriangleGoesOn }
     ensures refusals { RefusalsAreNumbered }
@@ -18,31 +18,31 @@ pub fn worked_row()
     ensures { LoopIsExplained }
 {}
 
-/// A replay that is not over, as the definitions tell what it leaves.
+/// A replay that is not over, and what it leaves by the definitions.
 pub fn worked_replay()
     ensures { TriangleLeaves }
 {}
 
-/// The lines of a simulation that was fed, as the definitions read them.
+/// The lines of a simulation with feeds, as the definitions read them.
 pub fn worked_feeds()
     ensures { OneFeedIsSent }
 {}
 
-/// The reports of a play in several sittings add up, however many there are and whatever stopped each: `plain` or
-/// `simulate` writes the first, and `resume` each other one, given the one before it.
+/// The reports of a play in several stages add up, however many there are and whatever stopped each: `plain` or
+/// `simulate` writes the first, and `resume` each later one, given the one before it.
 pub fn sittings()
     ensures plain { PlainTellsPlay }
     ensures simulate { SimulateTellsPlay }
     ensures resume { ResumedPlaysAddUp }
 {}
 
-/// A simulation that closed wrote, behind the lines of its replies, the report of the plain player, unless it names a
-/// sealed vertex: of the same files, or, if chips were fed, of files that have all these chips at the start.
+/// A simulation that closed wrote, after the lines of its replies, the report of the plain player, unless it names a
+/// sealed vertex: for the same files, or, if chips were fed, for files that have all these chips at the start.
 pub fn simulated_bytes()
     ensures { SimulatedBytes }
 {}
 
-/// Logs with the same rows of each process have the same text and status, however these are mixed.
+/// Logs with the same rows of each process have the same text and status, however the rows are mixed.
 pub fn one_answer()
     ensures { OneAnswer }
 {
@@ -52,7 +52,7 @@ pub fn one_answer()
     one_first();
 }
 
-/// So have texts of such logs.
+/// Texts of such logs have the same bytes and status.
 pub fn same_texts()
     ensures { SameTexts }
 {

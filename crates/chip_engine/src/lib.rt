@@ -1,7 +1,7 @@
 //! The engines of chipfire: each is a command, from the bytes that it reads to the bytes that it writes.
 //!
-//! An engine takes readers and a writer, and its contract goes from what the readers hold to what the writer is given
-//! (`specs/`). It opens no file and knows no command line. What can go wrong is a `Fault` of `chip_command`.
+//! An engine takes readers and a writer. Its contract (`specs/`) relates what the readers hold to what the writer gets.
+//! It opens no file and knows no command line. Its errors are the `Fault`s of `chip_command`.
 #![tactic(auto)]
 
 pub use avalanches::{avalanches_engine, avalanches_engine_with};

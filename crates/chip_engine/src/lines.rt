@@ -1,4 +1,4 @@
-//! Numbers in lines, which cost half as much without `write!`.
+//! Numbers in lines, at half the cost of `write!`.
 
 ghost use Rattle.std.specs.Prelude.{◌≡◌, ◌++◌, IfOk, codes, string_bytes};
 ghost use Rattle.std.specs.Fmt.{decimal};
@@ -15,7 +15,7 @@ pub(crate) fn push_number(lines: &mut String, before: &str, number: u64) -> Resu
     lines.push_str(digits.format(number))
 }
 
-/// The same at the end of a line.
+/// Appends a text, a number and the end of the line.
 pub(crate) fn end_by_number(lines: &mut String, before: &str, number: u64) -> Result<(), AllocError>
     ensures { IfOk result
         (λ _. string_bytes lines.new ≡ string_bytes lines.old ++ before.now ++ decimal number ++ codes "\n") }

@@ -14,7 +14,7 @@ use std::io::{Read, Write};
 
 /// Plays the game of a graph file, a chips file and a firing limit, within the standard limits, and writes its report.
 ///
-/// The report is made whole before the first byte is written.
+/// The whole report is made before the first byte is written.
 pub fn plain_engine<G: Read, C: Read, W: Write>(
     alloc: Global,
     graph: &mut G,
@@ -37,8 +37,8 @@ pub fn plain_engine<G: Read, C: Read, W: Write>(
     )
 }
 
-/// Does what `plain_engine` does, by these options, and tells now and then, after some more rounds, how far the play
-/// has come. Its answer and its bytes are the same, whoever watches.
+/// Does what `plain_engine` does, by these options, and reports progress to `watch` every few rounds. The watcher
+/// changes neither the result nor the bytes.
 pub fn plain_engine_with<G: Read, C: Read, P: Watch, W: Write>(
     alloc: Global,
     graph: &mut G,
@@ -57,8 +57,8 @@ pub fn plain_engine_with<G: Read, C: Read, P: Watch, W: Write>(
     deliver(output, answer)
 }
 
-/// Does what `plain_engine_with` does, and reads a third text: a guess of how often each vertex fires, which may make the
-/// play shorter. A guess changes nothing of what is written, but a text that is none is refused.
+/// Does what `plain_engine_with` does, from a guess of how often each vertex fires, the third text. A good guess makes
+/// the play shorter; none changes what is written. A text that is no guess is a fault.
 pub fn plain_guess_engine_with<G: Read, C: Read, Q: Read, P: Watch, W: Write>(
     alloc: Global,
     graph: &mut G,
@@ -80,7 +80,7 @@ pub fn plain_guess_engine_with<G: Read, C: Read, Q: Read, P: Watch, W: Write>(
     deliver(output, answer)
 }
 
-/// The report of a game, which is played from given counts.
+/// The report of a game, played from given counts.
 fn play<P: Watch>(alloc: Global, game: &Game, given: &[u64], watch: &mut P) -> Result<Answer, Fault>
     ensures { GivesAnswer (playing game.now) result }
 {

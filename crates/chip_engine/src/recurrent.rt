@@ -46,7 +46,7 @@ pub fn identity_engine<G: Read, W: Write>(
     deliver(output, answer)
 }
 
-/// The recurrent representative of the chips of a game, and whether these are recurrent.
+/// The recurrent representative of the chips of a game, and whether they are recurrent.
 fn represent(alloc: Global, game: Game) -> Result<Answer, Fault>
     ensures { GivesAnswer (representing game) result }
 {
@@ -57,7 +57,7 @@ fn represent(alloc: Global, game: Game) -> Result<Answer, Fault>
     }
 }
 
-/// Chips that were found, and whether they are the same as these but on the sink.
+/// Chips that were found, and whether they are these except on the sink.
 fn compare(alloc: Global, found: &Represented, chips: &[u64]) -> Result<Answer, AllocError>
     requires found_each { length found.now.chips.items ≡ found.now.graph.vertices }
     requires chips_each { length chips.now ≡ found.now.graph.vertices }
@@ -84,7 +84,7 @@ fn identify(alloc: Global, graph: Graph) -> Result<Answer, Fault>
     }
 }
 
-/// The fault of a command, by that of a stabilization.
+/// The fault of a command for that of a stabilization.
 fn fault_of_row(fault: RowFault) -> Fault
     ensures { result ≡ fault_of_row fault }
 {

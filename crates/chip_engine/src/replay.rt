@@ -1,4 +1,4 @@
-//! `replay`: the firings of a recorded run, in an order in which all rows fit together, and what is left.
+//! `replay`: the firings of a recorded run, in an order in which all rows are enabled, and what is left.
 
 ghost use Rattle.std.specs.Prelude.{◌≡◌, ◌++◌, false, IfOk, flat_map, string_bytes, if◌then◌else◌, []};
 ghost use Rattle.chip_graph.specs.Limits.{standard};
@@ -16,9 +16,9 @@ use std::io::{Read, Write};
 /// The options of a replay.
 #[derive(Clone, Copy)]
 pub struct ReplayOptions {
-    /// How large the game may be, and how often a vertex may fire.
+    /// The limits of the game, and how often a vertex may fire.
     pub play: PlayOptions,
-    /// Whether it is written too what is left when all rows are used.
+    /// Whether to write also what is left when all rows are used.
     pub complete: bool,
 }
 
@@ -43,8 +43,8 @@ pub fn replay_engine<G: Read, C: Read, T: Read, W: Write>(
     replay_engine_with(alloc, graph, chips, trace, options, output)
 }
 
-/// Does what `replay_engine` does, by these options. If it is asked for, the lines of what is left follow those of the
-/// firings, first of edges and then of vertices, both ascending; the status is 2 if there is one.
+/// Does what `replay_engine` does, by these options. If asked, the lines of what is left follow those of the firings,
+/// first of edges and then of vertices, both ascending; the status is 2 if there is one.
 pub fn replay_engine_with<G: Read, C: Read, T: Read, W: Write>(
     alloc: Global,
     graph: &mut G,
@@ -62,7 +62,7 @@ pub fn replay_engine_with<G: Read, C: Read, T: Read, W: Write>(
     deliver(output, answer)
 }
 
-/// What `replay` has to say of the traces of a file, in a game.
+/// The replay of the traces of a file, in a game, as text.
 fn replay_traces<T: Read>(
     alloc: Global,
     options: ReplayOptions,
@@ -78,7 +78,7 @@ fn replay_traces<T: Read>(
     Ok(tell(alloc, &replayed, options.complete)?)
 }
 
-/// The lines of a replay and its status, with what is left if it is asked for.
+/// The lines of a replay and its status, with what is left if asked.
 fn tell(alloc: Global, replayed: &Replayed, complete: bool) -> Result<Answer, AllocError>
     ensures text { IfOk result (λ answer. answer.text.items
         ≡ flat_map firing_text replayed.now.firings.items
@@ -126,7 +126,7 @@ fn push_all_left(lines: &mut String, left: &[Left]) -> Result<(), AllocError>
     Ok(())
 }
 
-/// Appends the line of something that is left.
+/// Appends the line of one thing that is left.
 fn push_left(lines: &mut String, left: Left) -> Result<(), AllocError>
     ensures { IfOk result (λ _. string_bytes lines.new ≡ string_bytes lines.old ++ left_text left) }
 {
@@ -137,7 +137,7 @@ fn push_left(lines: &mut String, left: Left) -> Result<(), AllocError>
     }
 }
 
-/// How a replay ended of which this is left.
+/// The exit status of a replay that left this.
 fn status_of_left(left: &[Left]) -> Status
     ensures { result ≡ status_of_left left.now }
 {

@@ -14,10 +14,10 @@ use chip_sequence::Resumed;
 use std::alloc::Global;
 use std::io::{Read, Write};
 
-/// Goes on with the play that a report tells, on the graph of a graph file within the standard limits and with a firing
-/// limit of this sitting's own, and writes the report of the sitting with what was fired before it.
+/// Resumes the play of a report, on the graph of a graph file within the standard limits and with a firing limit of its
+/// own, and writes the report of this stage with what was fired before it.
 ///
-/// The report is made whole before the first byte is written.
+/// The whole report is made before the first byte is written.
 pub fn resume_engine<G: Read, R: Read, W: Write>(
     alloc: Global,
     graph: &mut G,
@@ -38,8 +38,8 @@ pub fn resume_engine<G: Read, R: Read, W: Write>(
     )
 }
 
-/// Does what `resume_engine` does, by these options, and tells now and then how far the play has come. Its answer and
-/// its bytes are the same, whoever watches.
+/// Does what `resume_engine` does, by these options, and reports progress to `watch`. The watcher changes neither the
+/// result nor the bytes.
 pub fn resume_engine_with<G: Read, R: Read, P: Watch, W: Write>(
     alloc: Global,
     graph: &mut G,
@@ -57,7 +57,7 @@ pub fn resume_engine_with<G: Read, R: Read, P: Watch, W: Write>(
     deliver(output, answer)
 }
 
-/// The sitting that a report within the limits tells, of either version.
+/// The stage of a report of either version, within the limits.
 pub(crate) fn read_sitting<R: Read>(
     alloc: Global,
     limits: Limits,
@@ -69,7 +69,7 @@ pub(crate) fn read_sitting<R: Read>(
     Ok(read_any_within(alloc, limits, &text)?)
 }
 
-/// The report of the sitting that goes on from an earlier one, and the exit status.
+/// The report of the stage that follows an earlier one, and the exit status.
 fn go_on<P: Watch>(
     alloc: Global,
     graph: Graph,

@@ -23,27 +23,28 @@ use chip_world::{Drive, World, WorldFault};
 use std::alloc::{AllocError, Global};
 use std::io::{Read, Write};
 
-/// How many events are run at a time, or as many as there are edges if these are more: each run looks at every edge.
+/// The number of events that are run at a time, or that of the edges if it is larger: each run visits every edge.
 const STRETCH: usize = 1 << 17;
 
 /// The options of a simulation.
 #[derive(Clone, Copy)]
 pub struct SimulateOptions {
-    /// How large the game may be, and how often a vertex may fire.
+    /// The limits of the game, and how often a vertex may fire.
     pub play: PlayOptions,
     pub ring: Ring,
-    /// How many rounds of turns are made after the schedule at most.
+    /// The most rounds of turns after the schedule.
     pub rounds: u64,
     /// Whether the books of the detector follow each reply.
     pub books: bool,
-    /// Whether the schedule brings chips too.
+    /// Whether the schedule also feeds chips.
     pub fed: bool,
 }
 
 /// Runs a schedule on the game of a graph file, a chips file and a firing limit, within the standard limits, with rings
-/// of `ring` cells, and then `rounds` rounds of turns at most; writes a line for each reply of the schedule, and the
-/// report if the root closes. A game that is `fed` gets chips by its schedule too, and closes only after that has noted
-/// the end. As many rounds as `rounds_to_close` of `chip_world` then close it, if the root has put what it claimed.
+/// of `ring` cells (1 to 64), and then at most `rounds` rounds of turns. Writes a line for each reply of the schedule,
+/// and the report if the root closes. With `fed` the schedule also feeds chips, and the game closes only after the
+/// schedule ends the feeding. Then `rounds_to_close` rounds (of `chip_world`) close it, if the root has put what it
+/// claimed.
 pub fn simulate_engine<G: Read, C: Read, S: Read, W: Write>(
     alloc: Global,
     graph: &mut G,
@@ -73,8 +74,7 @@ pub fn simulate_engine<G: Read, C: Read, S: Read, W: Write>(
     simulate_engine_with(alloc, graph, chips, schedule, options, output)
 }
 
-/// Does what `simulate_engine` does, by these options: with the books of the detector behind each reply if they are
-/// asked for.
+/// Does what `simulate_engine` does, by these options: with the books of the detector after each reply, if asked.
 pub fn simulate_engine_with<G: Read, C: Read, S: Read, W: Write>(
     alloc: Global,
     graph: &mut G,
@@ -151,7 +151,7 @@ fn run_schedule(
     }
 }
 
-/// Event by event, the books after each reply.
+/// Runs one event at a time, with the books after each reply.
 fn step_by_step(alloc: Global, world: &mut World, events: &[Event]) -> Result<String, AllocError>
     requires { StandsForLog world.old.setting [] world.old }
     ensures world { IfOk result (λ _. IsRunThrough world.old.setting events.now world.new) }
@@ -166,7 +166,7 @@ fn step_by_step(alloc: Global, world: &mut World, events: &[Event]) -> Result<St
     Ok(lines)
 }
 
-/// Many events at a time, whose replies the world keeps: of each such run the core theorem holds.
+/// Runs many events at a time, whose replies the world keeps. The core theorem holds of each such run.
 fn stretch_by_stretch(
     alloc: Global,
     world: &mut World,

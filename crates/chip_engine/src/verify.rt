@@ -18,8 +18,8 @@ use chip_sequence::{Outcome, ResumeFault, Resumed};
 use std::alloc::Global;
 use std::io::{Read, Write};
 
-/// Tells whether a report is that of the game of a graph file, a chips file and a firing limit, within the standard
-/// limits: whether it has the counts, in all sittings, the chips and the halted vertices with which `plain` ends.
+/// Writes whether a report is that of the game of a graph file, a chips file and a firing limit, within the standard
+/// limits: whether it has the total counts, the chips and the halted vertices with which `plain` ends.
 pub fn verify_engine<G: Read, C: Read, R: Read, W: Write>(
     alloc: Global,
     graph: &mut G,
@@ -42,8 +42,8 @@ pub fn verify_engine<G: Read, C: Read, R: Read, W: Write>(
     )
 }
 
-/// Does what `verify_engine` does, by these options, and tells now and then how far the play has come. Its answer is
-/// the same, whoever watches.
+/// Does what `verify_engine` does, by these options, and reports progress to `watch`. The watcher does not change the
+/// result.
 pub fn verify_engine_with<G: Read, C: Read, R: Read, P: Watch, W: Write>(
     alloc: Global,
     graph: &mut G,
@@ -64,7 +64,7 @@ pub fn verify_engine_with<G: Read, C: Read, R: Read, P: Watch, W: Write>(
     deliver(output, answer?)
 }
 
-/// That a sitting tells the outcome of the game, or why it does not.
+/// Says that a stage has the outcome of the game, or why not.
 fn verify<P: Watch>(
     alloc: Global,
     game: &Game,
@@ -86,7 +86,7 @@ fn verify<P: Watch>(
     }
 }
 
-/// The least vertex of which a sitting and an outcome do not tell the same.
+/// The least vertex at which a stage and an outcome differ.
 fn first_difference(told: &Resumed, outcome: &Outcome) -> Option<u64>
     requires in_range { IsResumed told.now }
     requires is_outcome { IsOutcome outcome.now }
@@ -102,7 +102,7 @@ fn first_difference(told: &Resumed, outcome: &Outcome) -> Option<u64>
     None
 }
 
-/// Whether a sitting and an outcome tell the same of a vertex.
+/// Whether a stage and an outcome agree at a vertex.
 fn agrees_at(told: &Resumed, outcome: &Outcome, vertex: u64) -> bool
     requires in_range { IsResumed told.now }
     requires is_outcome { IsOutcome outcome.now }
@@ -120,7 +120,7 @@ fn agrees_at(told: &Resumed, outcome: &Outcome, vertex: u64) -> bool
     stands_alike(&last.sealed, &outcome.sealed, vertex)
 }
 
-/// Whether a vertex has fired as often in all sittings as in an outcome, and has as many chips.
+/// Whether a vertex has in all stages the firings of an outcome, and its chips.
 fn has_numbers(told: &Resumed, outcome: &Outcome, vertex: u64) -> bool
     requires in_range { IsResumed told.now }
     requires is_outcome { IsOutcome outcome.now }
@@ -134,7 +134,7 @@ fn has_numbers(told: &Resumed, outcome: &Outcome, vertex: u64) -> bool
     fired == outcome.fired[v] && told.outcome.chips[v] == outcome.chips[v]
 }
 
-/// Whether a vertex stands in both of two ascending lists or in none.
+/// Whether a vertex is in both of two ascending lists or in neither.
 fn stands_alike(one: &[u64], other: &[u64], vertex: u64) -> bool
     requires one_ascends { IsStrictlyIncreasing one.now }
     requires other_ascends { IsStrictlyIncreasing other.now }

@@ -27,7 +27,7 @@ const ROWS: &str = "vertex,chips,size,extent,lost\n0,1,1,1,1\n2,7,0,0,0\n0,5,5,2
 const TOGETHER: &str =
     "{\"chips\":[1,0,16],\"closed\":true,\"fired\":[6,3,0],\"over\":[],\"sealed\":[],\"version\":1}\n";
 
-/// And with limit 3, which stops the last drop at 5 and 1.
+/// The same with limit 3, which stops the last drop at 5 and 1.
 const STOPPED: &str =
     "{\"chips\":[5,1,11],\"closed\":false,\"fired\":[3,1,0],\"over\":[0],\"sealed\":[],\"version\":1}\n";
 
@@ -128,7 +128,7 @@ fn a_stopped_drop_has_no_row(rt: HostRuntime) {
 const SLOW: &str =
     "{\"edges\":[[0,1,1000],[0,2,1],[1,0,1000]],\"sink\":2,\"version\":1,\"vertices\":3}";
 
-/// At 0 and 1 together 1000 chips stay. So of the second drop 1005 go to the sink, one at each firing of 0, and 1 fires
+/// At 0 and 1 together 1000 chips stay. So 1005 of the second drop go to the sink, one at each firing of 0, and 1 fires
 /// as often.
 const SLOW_DROPS: &str = "vertex,chips\n0,5\n0,2000\n1,3\n";
 
@@ -160,7 +160,8 @@ impl Write for Blocks {
     }
 }
 
-/// What comes of the slow drops if the output has room for `room` bytes: the answer, the output, and who was told.
+/// The outcome of the slow drops if the output has room for `room` bytes: the result, the output, and what the watcher
+/// saw.
 fn slow_drops(alloc: Global, room: usize) -> (Result<Ended, Fault>, Blocks, Heard) {
     let (graph, chips) = (&mut SLOW.as_bytes(), &mut "vertex,chips\n".as_bytes());
     let (drops, options) = (&mut SLOW_DROPS.as_bytes(), PlayOptions::standard(NO_LIMIT));

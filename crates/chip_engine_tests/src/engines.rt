@@ -1,4 +1,4 @@
-//! Worked games and graphs through the engines, with answers by hand.
+//! Worked games and graphs through the engines, with results by hand.
 
 use chip_command::{Ended, Fault};
 use chip_engine::{
@@ -26,7 +26,7 @@ pub(crate) const NO_LIMIT: u64 = 1 << 40;
 pub(crate) const PLAYED: &str =
     "{\"chips\":[1,0,3],\"closed\":true,\"fired\":[2,1,0],\"over\":[],\"sealed\":[],\"version\":1}\n";
 
-/// What `plain` answers and writes.
+/// The result of `plain`, and what it writes.
 fn play(alloc: Global, graph: &str, chips: &str, limit: u64) -> (Result<Ended, Fault>, Vec<u8>) {
     let mut output = Vec::new(alloc);
     let ended = plain_engine(
@@ -53,7 +53,7 @@ fn plays_the_triangle(rt: HostRuntime) {
     assert!(rt; output.as_slice() == STOPPED.as_bytes());
 }
 
-/// What `plain` answers and writes of four chips on vertex 0 of the triangle, with a guess.
+/// The result of `plain` for four chips on vertex 0 of the triangle, with a guess, and what it writes.
 fn play_guess(alloc: Global, chips: &str, guess: &str) -> (Result<Ended, Fault>, Vec<u8>) {
     let mut output = Vec::new(alloc);
     let ended = plain_guess_engine_with(
@@ -116,7 +116,7 @@ fn refuses_what_is_no_guess(rt: HostRuntime) {
     );
 }
 
-/// How often the vertices had fired when it was last told of a play.
+/// How often the vertices had fired at the last report of a play.
 #[derive(Drop)]
 pub(crate) struct Heard {
     pub(crate) fired: [u64; 3],
@@ -198,7 +198,7 @@ fn refuses_inputs(rt: HostRuntime) {
     }
 }
 
-/// The rows of vertex 1 stand first, though it cannot begin.
+/// The rows of vertex 1 come first, though it cannot begin.
 const RUN: &str =
     "vertex,kind,edge,count\n1,take,0,2\n1,fire,0,1\n0,take,4,4\n0,fire,0,2\n0,take,2,1\n2,take,1,2\n2,take,3,1\n";
 
@@ -206,7 +206,7 @@ const RUN: &str =
 const WRONG_RUN: &str =
     "vertex,kind,edge,count\n1,take,0,1\n1,fire,0,1\n0,take,4,4\n0,fire,0,2\n0,take,2,1\n2,take,1,2\n2,take,3,1\n";
 
-/// What `replay` answers for a trace with this limit, and what it writes.
+/// The result of `replay` for a trace with this limit, and what it writes.
 fn replayed(
     rt: &(impl AllocGlobal + Abort),
     trace: &str,
@@ -241,7 +241,7 @@ fn replays_the_triangle(rt: HostRuntime) {
 /// Vertex 0 fires once, and vertex 1 takes what it sent there.
 const BEGUN: &str = "vertex,kind,edge,count\n0,take,4,4\n0,fire,0,1\n1,take,0,1\n";
 
-/// A trace with its limit, and the text and the status of a replay that tells what is left.
+/// A trace with its limit, and the text and the status of a replay with what is left.
 struct Remainder {
     trace: &'static str,
     limit: u64,
@@ -270,7 +270,7 @@ const REMAINDERS: &[&Remainder] = &[
     },
 ];
 
-/// A replay of the triangle tells what is left.
+/// Checks what a replay of the triangle leaves.
 fn tells(rt: &(impl AllocGlobal + Abort), told: &Remainder) {
     let mut output = Vec::new(rt.alloc());
     let options = ReplayOptions {
@@ -316,7 +316,7 @@ struct Scheduled {
     text: &'static str,
 }
 
-/// What `simulate` answers for a schedule.
+/// The result of `simulate` for a schedule.
 fn simulated(rt: &(impl AllocGlobal + Abort), scheduled: &Scheduled) -> Result<Ended, Fault> {
     let ring = Ring::new(scheduled.cells).expect(rt, "1 to 64 cells");
     let mut output = Vec::new(rt.alloc());
@@ -339,7 +339,7 @@ fn simulated(rt: &(impl AllocGlobal + Abort), scheduled: &Scheduled) -> Result<E
     ended
 }
 
-/// A schedule plays to its end.
+/// Checks that a schedule plays to its end.
 fn simulates(rt: &(impl AllocGlobal + Abort), scheduled: &Scheduled) {
     let ended = simulated(rt, scheduled);
     assert!(rt; ended == closed(scheduled.status), "{}", scheduled.name);
@@ -432,15 +432,15 @@ fn simulates_what_is_fed(rt: HostRuntime) {
     }
 }
 
-/// The triangle with five chips on vertex 0, after a sitting with limit 2.
+/// The triangle with five chips on vertex 0, after a stage with limit 2.
 pub(crate) const STOPPED: &str =
     "{\"chips\":[2,0,3],\"closed\":false,\"fired\":[2,1,0],\"over\":[0],\"sealed\":[],\"version\":1}\n";
 
-/// And after a second one.
+/// After a second stage.
 pub(crate) const WENT_ON: &str =
     "{\"chips\":[0,1,4],\"closed\":true,\"fired\":[1,0,0],\"over\":[],\"prior\":[2,1,0],\"sealed\":[],\"version\":2}\n";
 
-/// And after one with limit 0 in its place.
+/// After a second stage with limit 0.
 const STOOD_STILL: &str = "{\"chips\":[2,0,3],\"closed\":false,\"fired\":[0,0,0],\"over\":[0],\
     \"prior\":[2,1,0],\"sealed\":[],\"version\":2}\n";
 
@@ -448,7 +448,7 @@ const STOOD_STILL: &str = "{\"chips\":[2,0,3],\"closed\":false,\"fired\":[0,0,0]
 const SEALED: &str =
     "{\"chips\":[0,2,2],\"closed\":false,\"fired\":[2,0,0],\"over\":[],\"sealed\":[0],\"version\":1}\n";
 
-/// And after a sitting without the seal.
+/// After a stage without the seal.
 const UNSEALED: &str = "{\"chips\":[1,0,3],\"closed\":true,\"fired\":[0,1,0],\"over\":[],\
     \"prior\":[2,0,0],\"sealed\":[],\"version\":2}\n";
 
@@ -456,7 +456,7 @@ const UNSEALED: &str = "{\"chips\":[1,0,3],\"closed\":true,\"fired\":[0,1,0],\"o
 const OF_TWO: &str =
     "{\"chips\":[0,0],\"closed\":true,\"fired\":[0,0],\"over\":[],\"sealed\":[],\"version\":1}\n";
 
-/// What `resume` answers for a report with this limit, if it is to write this text.
+/// The result of `resume` for a report with this limit, if it is to write this text.
 fn resumed(
     rt: &(impl AllocGlobal + Abort),
     report: &str,
@@ -475,7 +475,7 @@ fn resumed(
     ended
 }
 
-/// What `check` and `resume` answer at the triangle by limits of `vertices` vertices.
+/// The results of `check` and `resume` for the triangle, with limits of `vertices` vertices.
 fn answers_within(rt: &impl AllocGlobal, vertices: u64) -> Option<(Option<Fault>, Option<Fault>)> {
     let options = PlayOptions {
         limits: Limits::new(vertices, 4, 1_000)?,
@@ -510,7 +510,7 @@ fn goes_on_with_the_triangle(rt: HostRuntime) {
     assert!(rt; resumed(&rt, "", NO_LIMIT, "") == Err(Fault::NotReport));
 }
 
-/// What `verify` answers for a report of the triangle with five chips on vertex 0, by this limit.
+/// The result of `verify` for a report of the triangle with five chips on vertex 0, by this limit.
 fn verified(rt: &(impl AllocGlobal + Abort), report: &str, limit: u64) -> Result<Ended, Fault> {
     let mut output = Vec::new(rt.alloc());
     let ended = verify_engine(
@@ -537,7 +537,7 @@ fn verifies_the_triangle(rt: HostRuntime) {
     assert!(rt; verified(&rt, "", NO_LIMIT) == Err(Fault::NotReport));
 }
 
-/// If the graph is refused nothing of the report is read.
+/// If the graph is refused, nothing of the report is read.
 #[test]
 fn reads_no_report_of_a_refused_graph(rt: HostRuntime) {
     let no_edge = "{\"edges\":[],\"sink\":1,\"version\":1,\"vertices\":2}";
@@ -584,7 +584,7 @@ fn reads_the_traces_that_were_written(rt: HostRuntime) {
     }
 }
 
-/// A writer that takes one byte at each write, and fails from some number of bytes on.
+/// A writer that takes one byte at each write, and fails after a number of bytes.
 #[derive(Drop)]
 struct Trickle {
     taken: Vec<u8>,

@@ -1,4 +1,4 @@
-//! The texts of faults: the line that the program prints, and what each library says of its own.
+//! The texts of faults: the line that the program prints, and the message of each library.
 
 use chip_command::{Fault, explanations};
 use chip_file::FileFault;
@@ -11,13 +11,13 @@ use chip_world::WorldFault;
 use std::fmt::Display;
 use std::process::Abort;
 
-/// A fault shows this text.
+/// Checks the text of a fault.
 fn shows<R: Abort + AllocGlobal, F: Display>(rt: &R, fault: &F, text: &str) {
     let shown = fault.to_string(rt.alloc()).expect(rt, "memory");
     assert!(rt; shown.as_str() == text, "{shown} and not {text}");
 }
 
-/// The lines of faults that no command line meets. `tests/cli/` has the others.
+/// The lines of faults that no command line causes. `tests/cli/` has the others.
 const LINES: &[&(Fault, &str)] = &[
     &(Fault::Game(GameFault::StartLength), "fault 9 StartLength"),
     &(Fault::Game(GameFault::Limit), "fault 11 Limit"),
@@ -35,7 +35,7 @@ fn prints_each_line(rt: HostRuntime) {
     }
 }
 
-/// What `chip_graph` says of a graph.
+/// The messages of `chip_graph` for a graph.
 const GRAPH_TEXTS: &[&(GraphFault, &str)] = &[
     &(GraphFault::Vertices, "there are no vertices, or too many"),
     &(GraphFault::Sink, "the sink is no vertex"),
@@ -54,7 +54,7 @@ const GRAPH_TEXTS: &[&(GraphFault, &str)] = &[
     &(GraphFault::NoMemory, "out of memory"),
 ];
 
-/// And of a game.
+/// The messages of `chip_graph` for a game.
 const GAME_TEXTS: &[&(GameFault, &str)] = &[
     &(
         GameFault::StartLength,
@@ -75,7 +75,7 @@ fn libraries_say_what_is_wrong(rt: HostRuntime) {
     }
 }
 
-/// What `chip_file` says.
+/// The messages of `chip_file`.
 const FILE_TEXTS: &[&(FileFault, &str)] = &[
     &(FileFault::NotJson, "the text is no JSON"),
     &(FileFault::Shape, "the JSON has not the shape of a graph"),
@@ -117,7 +117,7 @@ fn readers_say_what_is_wrong(rt: HostRuntime) {
     }
 }
 
-/// What `chip_fire` says of a play that is to go on.
+/// The messages of `chip_fire` for a play that is to go on.
 const RESUME_TEXTS: &[&(ResumeFault, &str)] = &[
     &(
         ResumeFault::Mismatch,
@@ -138,7 +138,7 @@ const RESUME_TEXTS: &[&(ResumeFault, &str)] = &[
     &(ResumeFault::NoMemory, "out of memory"),
 ];
 
-/// What `chip_net` says of chips that are not fed.
+/// The messages of `chip_net` for chips that are not fed.
 const FEED_TEXTS: &[&(FeedFault, &str)] = &[
     &(FeedFault::Ended, "the end of feeding is noted"),
     &(
@@ -176,7 +176,7 @@ fn the_other_libraries_say_what_is_wrong(rt: HostRuntime) {
     shows(&rt, &NoEdge, "no edge of the graph has this number");
 }
 
-/// The faults that only callers of the libraries meet have rows of the table, by their numbers.
+/// The faults that only callers of the libraries get have rows of the table, by their numbers.
 #[test]
 fn explains_faults_of_libraries(rt: HostRuntime) {
     let rows = explanations();

@@ -1,4 +1,4 @@
-//! Commands from bytes to bytes: what no contract says of `chip_engine` and `chip_command`.
+//! Tests of commands from bytes to bytes: what is not proved of `chip_engine` and `chip_command`.
 #![tactic(auto)]
 
 #[cfg(test)]

@@ -1,4 +1,4 @@
-//! What each engine tells its watcher, by hand on the triangle.
+//! What each engine reports to its watcher, by hand on the triangle.
 
 use crate::engines::{NO_LIMIT, PLAYED, STOPPED, TRIANGLE, WENT_ON, closed};
 use chip_command::{Ended, Fault};
@@ -16,16 +16,16 @@ const CHIPS: &str = "vertex,chips\n0,4\n";
 /// Their counts.
 const COUNTS: &str = "vertex,fired\n0,2\n1,1\n";
 
-/// What a watcher was told.
+/// What a watcher saw.
 #[derive(Clone, Copy, PartialEq, Eq)]
 struct Told {
-    /// How many vertices the game has that is played.
+    /// The number of vertices of the game that is played.
     vertices: u64,
-    /// What became of counts that were given.
+    /// What became of given counts.
     given: Option<GivenUse>,
-    /// How often all vertices had fired, the last time.
+    /// The firings of all vertices at the last report.
     firings: u64,
-    /// How many bytes the report has.
+    /// The number of bytes of the report.
     bytes: u64,
 }
 
@@ -64,7 +64,7 @@ impl Watch for Told {
     }
 }
 
-/// What `plain` answers, with a guess if there is one, and tells.
+/// The result of `plain`, with a guess if there is one, and what it reports.
 fn plain(alloc: Global, guess: Option<&str>) -> (Result<Ended, Fault>, Told) {
     let (graph, chips) = (&mut TRIANGLE.as_bytes(), &mut CHIPS.as_bytes());
     let options = PlayOptions::standard(NO_LIMIT);

@@ -49,14 +49,14 @@ same_rows : (graph : Multigraph) (v s : ℕ) (edges : List Edge) → graph.verti
     → edges ≡ graph.edges → graph ≡ record { vertices = v; sink = s; edges = edges }
 same_rows graph v s edges a b c = rw (← a, ← b, c) refl
 
--- what comes behind a fault is not looked at
+-- what comes after a fault is not read
 not_later : (one other : Option GraphFault) (f : GraphFault) (edges more : Option GraphFault)
     → first_of_faults (first_of_faults one (first_of_faults other (Some f))) edges
     ≡ first_of_faults (first_of_faults one (first_of_faults other (Some f))) more
 not_later None None f edges more = refl
 not_later _ _ f edges more = refl
 
--- where there are too many edges, none is looked at
+-- where there are too many edges, none is read
 fault_of_many : (limits : SizeLimits) (v s : ℕ) (all kept : List Edge) (f : GraphFault) → limits.edges < length all
     → limits.edges < length kept
     → IsGraphFault limits (record { vertices = v; sink = s; edges = kept }) f

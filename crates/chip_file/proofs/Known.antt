@@ -7,7 +7,7 @@ use Rattle.chip_file.proofs.JsonNames.{get_member, as_array, get_member-put, get
 use Rattle.chip_file.proofs.JsonNames.{edges_of_rows, members_count, file_of_parts, file_of_value, GraphFile, add_member}
 use Rattle.chip_file.proofs.JsonNames.{known_members, value_count, known_count, IsOther, IsCrowded}
 
--- ---- of two members of one name the last counts
+-- ---- of two members with one name the last counts
 
 pub put_edges : (d : Data) (e s v w : Option Data)
     → put (codes "edges") d (known_members e s v w) ≡ known_members (Some d) s v w
@@ -130,7 +130,7 @@ crowded_other k d ms other h =
       there_still (codes "vertices") k d ms other.vertices,
     )
 
--- as many of four names are missing as before, where one of them is put
+-- as many of the four names are missing as before, where one of them is put
 one_of_four : (k a b c : List ℕ) (d : Data) (ms : Members) → (a ≡ k → ⊥) → (b ≡ k → ⊥) → (c ≡ k → ⊥)
     → held (put k d ms) k + held (put k d ms) a + held (put k d ms) b + held (put k d ms) c + members_count ms
     ≤ held ms k + held ms a + held ms b + held ms c + members_count (put k d ms)

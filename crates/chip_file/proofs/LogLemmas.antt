@@ -111,7 +111,7 @@ no_holder (Out s) (x ∷ log) none = cc none
 no_holder (In s) (x ∷ log) none = cc none
 no_holder step (x ∷ log) none = no_holder step log none
 
--- who has an end behind one more row, where that is no fault
+-- the owner of an end after one more row, where that is no fault
 abbrev IsHeld : Bool → ℕ → Option ℕ → Type 0
 IsHeld b p h = b ≡ true → may_hold h p ≡ true
 
@@ -283,7 +283,7 @@ visited limits index before row x new counted alone same placed is = (
   rw (map_push log_row_in before row) (rw same at is),
 )
 
--- ---- what the reader promises of a log
+-- ---- what the reader guarantees of a log
 
 sends_uses : (s : Stream) (steps : List Step) → sends s steps ≡ uses (Out s) steps
 sends_uses s [] = refl

@@ -75,7 +75,7 @@ end_read ls rest e = ap (punctuate after_value) e
 
 -- ---- the name of the edges
 
--- the bytes of the name of the edges, and of the colon behind it
+-- the bytes of the name of the edges, and of the colon after it
 abbrev pub edges_name : List ℕ
 edges_name = 34 ∷ 101 ∷ 100 ∷ 103 ∷ 101 ∷ 115 ∷ 34 ∷ 58 ∷ []
 

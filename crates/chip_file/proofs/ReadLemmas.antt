@@ -1,6 +1,6 @@
 -- Serves Answer.antt, Source.antt, GraphText.antt, ChipsText.antt, ScheduleText.antt, TraceText.antt,
 -- LogText.antt.
--- What the reads of an input take of it; and that no text is at fault for its source.
+-- How much the reads of an input take; and that no text is at fault for its source.
 use Rattle.chip_file.proofs.Names.{◌≡◌, ℕ, ◌⊎◌, Bool, true, false, List, [], ◌∷◌, ◌++◌, length, Option, None, Some}
 use Rattle.chip_file.proofs.Names.{Result, Ok, Err, refl, sym, subst, inl, inr, ◌+◌, ◌≤◌, take, arith, length-append}
 use Rattle.chip_file.proofs.Names.{map, Consumes-trans, Consumes-kept, common_steps, ReadsAtMost, Consumes}
@@ -119,7 +119,7 @@ graph_of_text_alone limits text fault.Read wrong = absurd wrong
 graph_of_text_alone limits text fault.TooLong wrong = absurd wrong
 graph_of_text_alone limits text f wrong = refl
 
--- ---- what a text answers, once its bytes were read
+-- ---- the result for a text, once its bytes were read
 
 tells_end : (T : Type 0) (f : FileFault) → is_of_source f ≡ false → TellsRead {T = T} (Err f) last.End
 tells_end T fault.Read other = cc other
@@ -133,7 +133,7 @@ tells_failed T f kind (inl (inl e)) = rw e (λ is. is)
 tells_failed T f kind (inl (inr e)) = rw e (λ is. inl is)
 tells_failed T f kind (inr e) = rw e (λ is. is)
 
--- a fault that a text gives is none of its source
+-- a fault of a text is not one of its source
 other_fault : (IsFault : FileFault → Type 0) (f : FileFault) → (f ≡ fault.NoMemory) ⊎ IsFault f
     → ((g : FileFault) → IsFault g → is_of_source g ≡ false) → is_of_source f ≡ false
 other_fault IsFault f (inl memory) alone = rw memory refl

@@ -8,7 +8,7 @@ use Rattle.chip_file.proofs.Names.{NextIs, ReadRecord, default_config, took_firs
 use Rattle.chip_file.specs.Standing.{IsOpen, RecordReader, TakesRow, records_left, source}
 use Rattle.csv.specs.declared.parser.State.TheVariants as st
 
--- ---- a record takes at least one byte, but for one that the end of a text ends
+-- ---- a record takes at least one byte, unless the end of a text ends it
 
 -- n turns are enough for the records of these bytes
 abbrev IsEnough : ℕ → State → List ℕ → Type 0

@@ -27,7 +27,7 @@ module _ {B : Type 0} (g : Data → Option B) (depth : ℕ) (ts r : List Token) 
   none_at : (t : Token) → value depth (t ∷ ts) ≡ None → next_value depth (t ∷ ts) ≡ Some (d, r) → g d ≡ None
   none_at t never e = let none : None ≡ next_value depth (t ∷ ts) = sym (ap (converted of_json) never) in absurd (cc)
 
-  -- what each value gives that a token may begin, the value that was read gives
+  -- what holds of each value that a token may begin holds of the value that was read
   read_as : (t : rust.Token) → (t ≡ token.BeginObject → (ms : Members) → g (object ms) ≡ None)
       → (t ≡ token.BeginArray → (ds : Items) → g (array ds) ≡ None)
       → ((s : Bor (List ℕ)) → t ≡ token.Number s → (n : Num) → g (number n) ≡ None)

@@ -14,7 +14,7 @@ names_vertex G index row e = grind (arith, nat_tests, common_steps)
 
 -- ---- one more row
 
--- what the row says goes behind what those before it say of its vertex
+-- what the row says goes after what those before it say of its vertex
 trace_in-push : (before : List Row) (row : Row) (v : ℕ)
     → trace_in (before ++ row ∷ []) v ≡ trace_in before v
     ++ map trace_row_in (filter (λ row. number_in 0 row == v) (row ∷ []))

@@ -13,7 +13,7 @@ use Rattle.chip_file.specs.VertexRows.{numbers_of_rows, numbers_text_fault}
 abbrev pub chips_header : Row
 chips_header = codes "vertex" ∷ codes "chips" ∷ []
 
--- the chips of each vertex by the rows of a text, be something wrong with it or not
+-- the chips of each vertex by the rows of a text, whether or not something is wrong with it
 abbrev pub chips_of_rows : ℕ → List ℕ → List ℕ
 chips_of_rows vertices text = numbers_of_rows vertices (rows_under_header (records_of text))
 
@@ -28,7 +28,7 @@ abbrev pub chips_of_text : ℕ → List ℕ → Option (List ℕ)
 chips_of_text vertices text =
     if is_none (chips_text_fault vertices text) then Some (chips_of_rows vertices text) else None
 
--- the line of a vertex with so many chips
+-- the line of a vertex with this number of chips
 abbrev pub chips_line : ℕ → ℕ → List ℕ
 chips_line vertex count = decimal vertex ++ codes "," ++ decimal count ++ codes "\n"
 

@@ -5,11 +5,11 @@ use Rattle.chip_file.specs.ChipsText.{chips_header}
 use Rattle.chip_file.specs.Rows.{Row, records_of, rows_under_header, by_index, records_fault}
 use Rattle.chip_file.specs.VertexRows.{vertex_in, given_in, vertex_row_fault}
 
--- the drop of a row: its vertex, and how many chips are added there
+-- the drop of a row: its vertex, and the number of chips added there
 abbrev pub drop_in : Row → ℕ × ℕ
 drop_in row = (vertex_in row, given_in row)
 
--- the first thing wrong with a text of drops; a vertex may be named as often as one likes
+-- the first thing wrong with a text of drops; rows may name a vertex any number of times
 abbrev pub drops_text_fault : ℕ → List ℕ → Option FileFault
 drops_text_fault vertices text = records_fault chips_header (by_index (vertex_row_fault vertices)) (records_of text)
 

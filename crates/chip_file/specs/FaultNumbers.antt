@@ -5,7 +5,7 @@ use Rattle.chip_graph.specs.FaultNumbers.{graph_fault_number, graph_fault_place,
 use Rattle.chip_file.specs.declared.fault.FileFault.{FileFault}
 use Rattle.chip_file.specs.declared.fault.FileFault.TheVariants as file
 
--- the number of a fault of a file; that of a graph and of a total are those that they have by themselves
+-- the number of a fault of a file; a fault of a graph or a total keeps its own number
 abbrev pub file_fault_number : FileFault → ℕ
 file_fault_number (file.Graph f) = graph_fault_number f
 file_fault_number file.Total = game_fault_number game.Total
@@ -25,7 +25,7 @@ file_fault_number (file.Passive row) = 32
 file_fault_number (file.Woken row) = 33
 file_fault_number file.NoMemory = 90
 
--- the row that a fault of a file names, or what its fault of a graph does
+-- the row that a fault of a file names, or what its fault of a graph names
 abbrev pub file_fault_place : FileFault → Option ℕ
 file_fault_place (file.Graph f) = graph_fault_place f
 file_fault_place (file.Row row) = Some row

@@ -37,12 +37,12 @@ edges_of_rows no_items = Some []
 edges_of_rows (item row rows) = option_and_then (λ edge. option_map (λ edges. edge ∷ edges) (edges_of_rows rows))
     (edge_of_row row)
 
--- how many members there are
+-- the number of members
 abbrev pub members_count : Members → ℕ
 members_count no_members = 0
 members_count (member name d ms) = suc (members_count ms)
 
--- how many members an object has; another value has none
+-- the number of members of an object; another value has none
 abbrev pub member_count : Data → ℕ
 member_count d = option_map_or members_count (as_object d) 0
 

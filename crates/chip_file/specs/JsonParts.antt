@@ -25,12 +25,12 @@ known_members edges sink version vertices =
     add_member (codes "edges") edges (add_member (codes "sink") sink
     (add_member (codes "version") version (add_member (codes "vertices") vertices no_members)))
 
--- how many values there are: one or none
+-- the number of values: one or none
 abbrev pub value_count : Option Data → ℕ
 value_count None = 0
 value_count (Some d) = 1
 
--- how many of the four names are there
+-- the number of the four names that are there
 abbrev pub known_count : Members → ℕ
 known_count ms =
     value_count (get_member (codes "edges") ms) + value_count (get_member (codes "sink") ms)
@@ -63,12 +63,12 @@ Stands most found parts =
 abbrev pub Takes : ℕ → List ℕ → Data → Parts → Parts → Type 0
 Takes most name d old new = (found : Members) → Stands most found old → Stands most (put name d found) new
 
--- the graph of a file of which the edges are kept
+-- the graph of a file whose edges are kept
 abbrev pub KeepsGraph : ℕ → Multigraph → Kept → Type 0
 KeepsGraph most graph kept =
     (graph.vertices ≡ kept.vertices) × (graph.sink ≡ kept.sink) × KeepsEdges most graph.edges kept.edges.items
 
--- a file of which the edges are kept
+-- a file whose edges are kept
 abbrev pub KeepsFile : ℕ → Option GraphFile → Option Kept → Type 0
 KeepsFile most (Some file) (Some kept) = (file.version ≡ kept.version) × KeepsGraph most file.graph kept
 KeepsFile most None None = ⊤
@@ -84,7 +84,7 @@ kept_of _ _ _ _ = None
 abbrev pub IsFile : ℕ → Data → Option Kept → Type 0
 IsFile most d kept = KeepsFile most (file_of_value d) kept
 
--- what reading a text answers: the file that its value is, with at most `most` edges asked for
+-- the results of reading a text: the file that its value is, with at most `most` edges asked for
 abbrev pub GivesFile : ℕ → List ℕ → Result Kept FileFault → Type 0
 GivesFile most text (Ok kept) = (d : Data) × (json_of text ≡ Some d) × IsFile most d (Some kept)
 GivesFile most text (Err f) =

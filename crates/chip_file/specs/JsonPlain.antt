@@ -1,4 +1,4 @@
--- What bytes mean that are read with no token of them made: the lexemes of `json`, and what they give.
+-- The meaning of bytes that are read without tokens: the lexemes of `json`, and what they give.
 use Rattle.std.specs.Prelude.{◌≡◌, ℕ, ◌-◌, ◌<◌, ◌≤◌, List, ◌∷◌, length, drop, get_or, codes, Option, Some, true, Vec}
 use Rattle.std.specs.declared.alloc.Global.{Global}
 use Rattle.json.specs.Token.{Token, begin_object, begin_array, end_array, string, number}
@@ -11,7 +11,7 @@ use Rattle.chip_graph.specs.declared.edge.Edge.{Edge}
 use Rattle.chip_file.specs.JsonValues.{next_value, ItemsAre, MembersAre}
 use Rattle.chip_file.specs.JsonRows.{AreEdgeRows}
 
--- a byte is a lexeme by itself, in whatever follows a word
+-- a byte is a lexeme by itself, also right after a word
 abbrev pub IsOperator : ℕ → Type 0
 IsOperator byte = (class byte ≡ operator) × (is_operator byte ≡ true)
 
@@ -19,21 +19,21 @@ IsOperator byte = (class byte ≡ operator) × (is_operator byte ≡ true)
 abbrev pub lexemes_at : List ℕ → ℕ → List Lexeme
 lexemes_at text at = lex between (drop at text)
 
--- the text goes on at `next`, behind its place `from`
+-- the text goes on at `next`, after its place `from`
 abbrev pub IsFurther : List ℕ → ℕ → ℕ → Type 0
 IsFurther text from next = (from < next) × (next ≤ length text)
 
--- the next lexeme is that of a byte, and the text goes on behind it
+-- the next lexeme is that of a byte, and the text goes on after it
 pub record IsBehind (text : List ℕ) (from byte next : ℕ) : Type 0 where
   pub read : lexemes_at text from ≡ operator_lexeme byte ∷ lexemes_at text next
   pub on : IsFurther text from next
 
--- the next lexemes are those of the name of the edges, and the text goes on behind them
+-- the next lexemes are those of the name of the edges, and the text goes on after them
 pub record IsBehindName (text : List ℕ) (from next : ℕ) : Type 0 where
   pub read : lexemes_at text from ≡ token (string (codes "edges")) ∷ colon ∷ lexemes_at text next
   pub on : IsFurther text from next
 
--- digits that write n are the next lexeme, and that of the byte `end` comes behind it
+-- digits that write n are the next lexeme, and that of the byte `end` comes after it
 pub record IsNumberAt (text : List ℕ) (from end n next : ℕ) : Type 0 where
   pub digits : List ℕ
   pub written : number_of digits ≡ Some (unsigned n)
@@ -53,7 +53,7 @@ pub record IsRowAt (text : List ℕ) (from : ℕ) (edge : Edge) (next : ℕ) : T
       ∷ token end_array ∷ lexemes_at text next
   pub on : IsFurther text from next
 
--- how deep the rows of a graph file may nest: they lie in an array in an object
+-- how deep the rows of a graph file may nest: they are in an array in an object
 abbrev pub rows_depth : ℕ
 rows_depth = max_depth - 2
 
@@ -72,7 +72,7 @@ pub record BeginsEdges (text : List ℕ) (next : ℕ) : Type 0 where
       ≡ token begin_object ∷ token (string (codes "edges")) ∷ colon ∷ token begin_array ∷ lexemes_at text next
   pub inside : next ≤ length text
 
--- behind a value the text goes on as one that begins at `next`
+-- after a value the text goes on as one that begins at `next`
 pub record GoesOnAs (text : List ℕ) (from next : ℕ) : Type 0 where
   pub read : punctuate after_value (lexemes_at text from) ≡ tokens (drop next text)
   pub inside : next < length text

@@ -1,4 +1,4 @@
--- What the rows of a text are, as they come.
+-- The rows of a text, as they come.
 use Rattle.std.specs.Prelude.{◌≡◌, ◌⊎◌, ℕ, ◌<◌, List, length, Option, Some, None, option_and_then}
 use Rattle.std.specs.Prelude.{Result, Ok, Err, ⊤, Vec}
 use Rattle.std.specs.declared.alloc.Global.{Global}
@@ -25,7 +25,7 @@ abbrev pub edge_in : Row → Option Edge
 edge_in (row.Three edge) = Some edge
 edge_in _ = None
 
--- a row with these items behind it
+-- a row with these items after it
 abbrev pub and_items : Row → Items → Row
 and_items r no_items = r
 and_items r (item d ds) = and_items (and_number r (number_of_value d)) ds
@@ -48,18 +48,18 @@ AreEdgeRows most ds kept = KeepsAny most (edges_of_rows ds) kept
 abbrev pub AreRowsUnder : ℕ → Data → Option (Vec Edge Global) → Type 0
 AreRowsUnder most d kept = KeepsAny most (option_and_then edges_of_rows (as_array d)) kept
 
--- what reading a value answers if memory may run out
+-- the results of reading a value if memory may run out
 abbrev pub MayRead : {T : Type 0} → ℕ → List Token → List Token → (Data → T → Type 0) → Result T FileFault → Type 0
 MayRead depth old new Is (Ok x) = (d : Data) × (next_value depth old ≡ Some (d, new)) × Is d x
 MayRead depth old new Is (Err f) = (f ≡ NoMemory) ⊎ ((f ≡ NotJson) × (next_value depth old ≡ None))
 
--- the same of the items that are left of an array
+-- the same for the items that are left of an array
 abbrev pub MayReadItems : {T : Type 0} → ℕ → List Token → List Token → (Items → T → Type 0) → Result T FileFault
     → Type 0
 MayReadItems depth old new Is (Ok x) = (ds : Items) × ItemsAre depth old (Some (ds, new)) × Is ds x
 MayReadItems depth old new Is (Err f) = (f ≡ NoMemory) ⊎ ((f ≡ NotJson) × ItemsAre depth old None)
 
--- the same of the members that are left of an object, behind those that were found
+-- the same for the members that are left of an object, after those that were found
 abbrev pub MayReadMembers : {T : Type 0} → ℕ → Members → List Token → List Token → (Members → T → Type 0)
     → Result T FileFault → Type 0
 MayReadMembers depth found old new Is (Ok x) = (ms : Members) × MembersAre depth old found (Some (ms, new)) × Is ms x

@@ -11,7 +11,7 @@ use Rattle.chip_file.specs.LogText.{log_row_in, log_row_fault}
 abbrev pub AreMixed : List Row → List Row → Type 0
 AreMixed rows others = (p : ℕ) → filter (λ row. number_in 0 row == p) rows ≡ filter (λ row. number_in 0 row == p) others
 
--- whether a row has a fault does not depend on how the rows of processes are mixed, and neither does what each did
+-- how the rows of processes are mixed changes neither whether a row has a fault nor what each process did
 abbrev pub MixedLogs : Type 0
 MixedLogs = (limits : SizeLimits) (rows others : List Row) → AreMixed rows others
     → first_row_fault (log_row_fault limits) [] rows ≡ None

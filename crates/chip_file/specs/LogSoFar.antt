@@ -25,38 +25,38 @@ abbrev pub activity : List Step → Option Bool
 activity [] = None
 activity (step ∷ steps) = Some (active_after (begins_active (step ∷ steps)) (step ∷ steps))
 
--- whether a process is active behind one more step
+-- whether a process is active after one more step
 abbrev pub active_behind : Option Bool → Step → Bool
 active_behind was (step.In s) = if s.is_control then unwrap_or was false else true
 active_behind was step.Passive = false
 active_behind None step.Active = true
 active_behind was _ = unwrap_or was false
 
--- of each end the process that has it, by the number of the end
+-- for each end the process that has it, by the number of the end
 abbrev pub AreHolders : List LogRow → List (Option ℕ) → Type 0
 AreHolders log holders =
     (step : Step) (e : ℕ) → end_number step ≡ Some e → slice_index_or holders e None ≡ holder step log
 
--- of each process with a row whether it is active
+-- for each process with a row whether it is active
 abbrev pub AreActive : List LogRow → List (Option Bool) → Type 0
 AreActive log active = (p : ℕ) → slice_index_or active p None ≡ activity (steps_of p log)
 
--- a row without a fault by the rows above it
+-- a row without a fault after the rows before it
 pub record IsFaultless (log : List LogRow) (x : LogRow) : Type 0 where
   pub holds : may_hold (holder x.step log) x.process ≡ true
   pub sends : may_send (is_active log log x.process) x.step ≡ true
   pub begins : may_begin (steps_of x.process log) x.step ≡ true
 
--- how many steps are at an end of a stream
+-- the number of steps at an end of a stream
 abbrev pub uses : Step → List Step → ℕ
 uses end [] = 0
 uses end (step ∷ steps) = (if same_end end step then 1 else 0) + uses end steps
 
--- a step of a process may be behind its own steps before
+-- a step of a process may follow its own steps before
 abbrev pub MayMake : List Step → Step → Type 0
 MayMake before step = (may_send (active_after (begins_active before) before) step ≡ true) × (may_begin before step ≡ true)
 
--- each of these steps may be, below those before
+-- each of these steps may follow those before
 abbrev pub AreAllowed : List Step → List Step → Type 0
 AreAllowed before [] = Unit {0}
 AreAllowed before (step ∷ steps) = MayMake before step × AreAllowed (before ++ step ∷ []) steps

@@ -52,13 +52,13 @@ log_row_in row = record { process = number_in 0 row; step = step_of_kind (kind_i
 
 -- ---- sizes
 
--- how many channels there are up to that of a step
+-- the number of channels up to that of a step
 abbrev pub channels_to : Step → ℕ
 channels_to (step.Out s) = s.channel + 1
 channels_to (step.In s) = s.channel + 1
 channels_to _ = 0
 
--- as many processes and channels as the greatest numbers of a log ask
+-- the numbers of processes and channels that the greatest numbers of a log need
 abbrev pub processes_of : List LogRow → ℕ
 processes_of [] = 0
 processes_of (x ∷ xs) = max (x.process + 1) (processes_of xs)
@@ -79,7 +79,7 @@ most_channels limits = 2 * limits.edges
 
 -- ---- faults
 
--- the first thing wrong with the row at an index, whatever rows stand above it
+-- the first thing wrong with the row at an index, whatever rows come before it
 abbrev pub lone_row_fault : SizeLimits → ℕ → Row → Option FileFault
 lone_row_fault limits index row =
     first_of_faults (fault_unless (length row == 3) (fault.Row index))
@@ -104,19 +104,19 @@ abbrev pub may_hold : Option ℕ → ℕ → Bool
 may_hold None p = true
 may_hold (Some q) p = q == p
 
--- whether a process may make a step behind these: it begins active by its first one
+-- whether a process may make a step after these: it begins active by its first one
 abbrev pub may_begin : List Step → Step → Bool
 may_begin (first ∷ steps) step.Active = false
 may_begin _ _ = true
 
--- the first thing wrong with a row at an index by the rows above it
+-- the first thing wrong with a row at an index by the rows before it
 abbrev pub placed_fault : ℕ → List LogRow → LogRow → Option FileFault
 placed_fault index above x =
     first_of_faults (fault_unless (may_hold (holder x.step above) x.process) (fault.End index))
     (first_of_faults (fault_unless (may_send (is_active above above x.process) x.step) (fault.Passive index))
     (fault_unless (may_begin (steps_of x.process above) x.step) (fault.Woken index)))
 
--- the first thing wrong with a row below those before it
+-- the first thing wrong with a row after those before it
 abbrev pub log_row_fault : SizeLimits → RowFault
 log_row_fault limits before row =
     first_of_faults (lone_row_fault limits (length before) row)

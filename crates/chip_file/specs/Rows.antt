@@ -32,7 +32,7 @@ rows_under_header (row ∷ rows) = rows
 abbrev pub RowFault : Type 0
 RowFault = List Row → Row → Option FileFault
 
--- the first fault of rows, by the fault of a row below those before it, if `before` come before all of them
+-- the first fault of rows, by the fault of a row after those before it, if `before` come before all of them
 abbrev pub first_row_fault : RowFault → List Row → List Row → Option FileFault
 first_row_fault row_fault before [] = None
 first_row_fault row_fault before (row ∷ rows) =

@@ -30,8 +30,8 @@ event_kinds =
 abbrev pub kind_in : Row → EventKind
 kind_in row = unwrap_or (kind_at event_kinds 0 row) kind.Take
 
--- whether an event of this kind may be at this number: the number of a vertex, or of an edge, the root's among them; of
--- the end of feeding it isn't looked at
+-- whether an event of this kind may be at this number: the number of a vertex, or of an edge, the root's among them;
+-- for the end of feeding it is not read
 abbrev pub may_be_at : Multigraph → EventKind → ℕ → Bool
 may_be_at G kind.Fire at = nat_lt at G.vertices
 may_be_at G kind.Halt at = nat_lt at G.vertices

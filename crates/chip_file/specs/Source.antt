@@ -1,4 +1,4 @@
--- What a source tells of the reads that were made of it.
+-- What a source notes of the reads that were made of it.
 use Rattle.std.specs.Prelude.{◌≡◌, ◌⊎◌, ℕ, ◌+◌, ◌≤◌, ◌==◌, Bool, true, false, if◌then◌else◌, List, Option}
 use Rattle.std.specs.Prelude.{Result, Ok, Err}
 use Rattle.chip_file.specs.declared.fault.FileFault.{FileFault}
@@ -13,7 +13,7 @@ use Rattle.chip_graph.specs.Limits.{SizeLimits, max_text}
 abbrev pub max_reads : ℕ
 max_reads = max_text + 1
 
--- how many reads were made
+-- the number of reads that were made
 abbrev pub reads : {R : Type 0} → Source R → ℕ
 reads source = source.reads
 
@@ -42,14 +42,14 @@ abbrev pub last_by : {E : Type 0} → Result ℕ E → LastRead
 last_by (Ok count) = if count == 0 then last.End else last.Bytes
 last_by (Err e) = last.Failure
 
--- how the last read of an input went, by what reading the whole of it answers: the end was found; a read failed; or
+-- how the last read of an input went, by the result of reading the whole of it: the end was found; a read failed; or
 -- bytes came, and they were too many or found no room
 abbrev pub last_of_whole : {T : Type 0} → Result T FileFault → LastRead
 last_of_whole (Ok value) = last.End
 last_of_whole (Err fault.Read) = last.Failure
 last_of_whole (Err f) = last.Bytes
 
--- how the last read went, by what reading a text of an input answers; if memory ran out the end may have been found
+-- how the last read went, by the result of reading a text of an input; if memory ran out the end may have been found
 abbrev pub TellsRead : {T : Type 0} → Result T FileFault → LastRead → Type 0
 TellsRead (Ok value) read = read ≡ last.End
 TellsRead (Err fault.Read) read = read ≡ last.Failure
@@ -57,7 +57,7 @@ TellsRead (Err fault.TooLong) read = read ≡ last.Bytes
 TellsRead (Err fault.NoMemory) read = (read ≡ last.Bytes) ⊎ (read ≡ last.End)
 TellsRead (Err f) read = read ≡ last.End
 
--- what reading a text from a source answers, how few reads were made, and how the last one went
+-- the results of reading a text from a source, the bound on the reads, and how the last one went
 pub record ReadsSource {R T : Type 0} (remaining : R → Option (List ℕ)) (limits : SizeLimits)
     (IsMeant : List ℕ → T → Type 0) (IsFault : List ℕ → FileFault → Type 0) (old new : Source R)
     (result : Result T FileFault) : Type 0 where

@@ -1,4 +1,4 @@
--- Where a reader of rows stands in a text, and what visiting its rows answers.
+-- The place of a reader of rows in a text, and the results of visiting its rows.
 use Rattle.std.specs.Prelude.{◌≡◌, ℕ, ◌+◌, Bool, true, false, List, [], ◌∷◌, length, Option, Some, None, IsSome}
 use Rattle.std.specs.Prelude.{unwrap_or, Result}
 use Rattle.std.specs.Borrow.{Bor}
@@ -14,7 +14,7 @@ use Rattle.chip_file.specs.Rows.{Row, RowFault, records_fault, rows_under_header
 abbrev pub RecordReader : Type 0
 RecordReader = Reader (Bor (List ℕ))
 
--- the bytes that it has left, if it hasn't failed
+-- the bytes that it has left, if it has not failed
 abbrev pub source : RecordReader → Option (List ℕ)
 source reader = source_of (λ s. Some s.now) reader
 
@@ -23,7 +23,7 @@ abbrev pub records_left : RecordReader → List Row
 records_left reader = records_from default_config (length (unwrap_or (source reader) []) + 1) (reader_state reader)
     (unwrap_or (source reader) [])
 
--- it reads as the files of rows are read, and hasn't failed
+-- it reads as the files of rows are read, and has not failed
 pub record IsOpen (reader : RecordReader) : Type 0 where
   pub config : reader_config reader ≡ default_config
   pub trim : reader_trim reader ≡ trim.None
@@ -36,7 +36,7 @@ abbrev pub TakesRow : Bool → Row → List Row → List Row → Type 0
 TakesRow true row old new = old ≡ row ∷ new
 TakesRow false row old new = old ≡ []
 
--- all rows under a header were visited, from a first visitor on, or the first fault of the records is answered
+-- all rows under a header were visited, from a first visitor on, or the result is the first fault of the records
 abbrev pub VisitsRecords : {V : Type 0} → RowFault → (List Row → V → Type 0) → Row → List Row → V → Result V FileFault
     → Type 0
 VisitsRecords row_fault HasVisited header records first result =

@@ -39,7 +39,7 @@ row_of_kind kind.Fire edge count = Fire count
 abbrev pub trace_row_in : Row → TraceRow
 trace_row_in row = row_of_kind (kind_in row) (number_in 2 row) (number_in 3 row)
 
--- whether a recorded row names an edge that is there, a root edge among them; a firing names none
+-- whether a recorded row names an edge of the graph or a root edge; a firing names none
 abbrev pub names_edge : Multigraph → TraceRow → Bool
 names_edge G (Take edge count) = nat_lt edge (edges_and_roots G)
 names_edge G (Fire k) = true
@@ -68,7 +68,8 @@ traces_of_text G text =
     then Some (map (trace_in (rows_under_header (records_of text))) (range_with_len 0 G.vertices))
     else None
 
--- what reading recorded runs of a graph answers, and what it takes of the input; of any reader come as many as vertices
+-- the results of reading recorded runs of a graph, and how much of the input is read; any reader gives one run per
+-- vertex
 pub record ReadsTraces (limits : SizeLimits) (G : Multigraph) (old new : Option (List ℕ))
     (result : Result (Vec (Vec TraceRow)) FileFault) : Type 0 where
   pub means : IfSome old (λ text. AnswersInput limits text

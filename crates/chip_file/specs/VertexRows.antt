@@ -28,7 +28,7 @@ abbrev pub number_named : List Row → ℕ → Option ℕ
 number_named [] vertex = None
 number_named (row ∷ rows) vertex = if vertex_in row == vertex then Some (given_in row) else number_named rows vertex
 
--- the first thing wrong with a row below those before it, of which none may name its vertex
+-- the first thing wrong with a row after those before it, of which none may name its vertex
 abbrev pub new_row_fault : ℕ → RowFault
 new_row_fault vertices before row =
     first_of_faults (vertex_row_fault vertices (length before) row)

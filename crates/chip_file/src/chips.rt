@@ -14,8 +14,8 @@ use std::io::Read;
 /// The header of a file of chips.
 pub(crate) const HEADER: [&str; 2] = ["vertex", "chips"];
 
-/// The chips of each of `vertices` vertices by a file of rows within the limits, or the first thing wrong with the
-/// file.
+/// Reads the chips of each of `vertices` vertices from a file of rows within the limits, or returns the file's first
+/// fault.
 ///
 /// A vertex that no row names has 0.
 pub fn read_chips_within<R: Read>(
@@ -30,7 +30,7 @@ pub fn read_chips_within<R: Read>(
     chips_of_source(alloc, limits, &mut Source::new(reader), vertices)
 }
 
-/// The same of a source, in which the reads are counted.
+/// The same from a source, which counts the reads.
 pub fn chips_of_source<R: Read>(
     alloc: Global,
     limits: Limits,

@@ -13,7 +13,7 @@ use crate::vertex_rows::vertex_and_number;
 use csv::ByteRecord;
 use std::alloc::Global;
 
-/// The drops of the rows so far. The context is how many vertices the graph has.
+/// The drops of the rows so far. The context is the graph's number of vertices.
 impl RowVisitor for Vec<(u64, u64)> {
     type Context = u64;
 
@@ -29,8 +29,8 @@ impl RowVisitor for Vec<(u64, u64)> {
 
 /// The drops on a graph of `vertices` vertices that a text means, in order, or its first fault.
 ///
-/// Each is a vertex and how many chips are added there, any number below 2^64. A vertex may be named as often as one
-/// likes.
+/// Each is a vertex and the number of chips added there, any number below 2^64. Rows may name a vertex any number of
+/// times.
 pub fn drops_of_text(
     alloc: Global,
     text: &[u8],

@@ -2,7 +2,7 @@ use chip_graph::{GameFault, GraphFault};
 use std::alloc::{AllocError, AllocFailed};
 use thiserror::Error;
 
-/// Why a file was not read: the first reason in the order of its reader. Each message says which.
+/// Why a file was not read: the first reason in the order of its reader. Each message states one.
 #[derive(Clone, Copy, Debug, PartialEq, Eq, Error)]
 pub enum FileFault {
     /// The bytes are no UTF-8, or no JSON.
@@ -13,7 +13,7 @@ pub enum FileFault {
     Shape,
     #[error("the version is not 1")]
     Version,
-    /// The rows are no graph. It is never the want of memory, which is a fault of its own.
+    /// The rows are no graph. Want of memory is never reported here: it is a fault of its own.
     #[error("{0}")]
     Graph(GraphFault),
     /// The first record is not the header, or there is none.
@@ -74,7 +74,7 @@ impl FileFault {
         }
     }
 
-    /// The row, or the edge or the vertex, that it names, if it names one.
+    /// The row, edge or vertex that it names, if any.
     pub fn place(&self) -> Option<u64>
         ensures { result ≡ file_fault_place self.now }
     {

@@ -15,7 +15,7 @@ use std::io::Read;
 /// The version of graph files.
 const VERSION: u64 = 1;
 
-/// The graph of a file of JSON within the limits, or the first thing wrong with the file.
+/// Reads the graph of a file of JSON within the limits, or returns the file's first fault.
 pub fn read_graph_within<R: Read>(
     alloc: Global,
     limits: Limits,
@@ -27,7 +27,7 @@ pub fn read_graph_within<R: Read>(
     graph_of_source(alloc, limits, &mut Source::new(reader))
 }
 
-/// The same of a source, in which the reads are counted. The text is let go before the graph is made.
+/// The same from a source, which counts the reads. The text is freed before the graph is made.
 pub fn graph_of_source<R: Read>(
     alloc: Global,
     limits: Limits,
@@ -52,7 +52,8 @@ pub fn graph_of_text(alloc: Global, limits: Limits, text: &[u8]) -> Result<Graph
     graph_of_file(alloc, limits, file)
 }
 
-/// The graph file of the right version that a text is. Of more edges than the limits allow only the first are kept.
+/// The graph file of the right version that a text is. If it has more edges than the limits allow, only the first are
+/// kept.
 fn file_of_text(alloc: Global, limits: Limits, text: &[u8]) -> Result<GraphFile, FileFault>
     ensures { Gives (IsKeptText limits text.now) (IsGraphTextFault limits text.now) result }
 {

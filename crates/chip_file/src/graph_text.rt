@@ -1,6 +1,6 @@
-//! Texts of JSON, read token by token, or byte by byte if plain edges come first: no value of a text is made.
+//! Texts of JSON, read token by token, or byte by byte if plain edges come first: no JSON value is built.
 //!
-//! What a text means is a definition over the value that `serde_json` reads (`specs/GraphFile.antt`). The answer is
+//! The meaning of a text is a definition over the value that `serde_json` reads (`specs/GraphFile.antt`). The result is
 //! that meaning, for every text (`GivesFile` in `specs/JsonParts.antt`).
 
 pub(crate) use file::{GraphFile, file_of_text};

@@ -1,4 +1,4 @@
-//! Guesses how often vertices fire, as rows of text.
+//! Guesses of the firing counts, as rows of text.
 
 ghost use Rattle.std.specs.Prelude.{◌≡◌, Some};
 ghost use Rattle.chip_file.specs.Answer.{Gives};
@@ -11,7 +11,7 @@ use std::alloc::Global;
 /// The header of a file of a guess.
 const HEADER: [&str; 2] = ["vertex", "fired"];
 
-/// How often each of `vertices` vertices fires by the guess that a text means, or its first fault.
+/// How often each of `vertices` vertices fires by the guess that a text means, or the text's first fault.
 ///
 /// A vertex that no row names has 0. A count is any number below 2^64.
 pub fn guess_of_text(alloc: Global, text: &[u8], vertices: u64) -> Result<Vec<u64>, FileFault>

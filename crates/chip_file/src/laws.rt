@@ -3,8 +3,7 @@
 ghost use Rattle.chip_file.specs.ChipsText.{WrittenChips};
 ghost use Rattle.chip_file.specs.LogLaws.{MixedLogs};
 
-/// Whether a row of a log has a fault does not depend on how the rows of processes are mixed, and neither does what each
-/// process did.
+/// How the rows of processes are mixed changes neither whether a row of a log has a fault nor what each process did.
 pub fn mixed_logs()
     ensures { MixedLogs }
 {}

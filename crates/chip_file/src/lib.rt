@@ -1,11 +1,11 @@
 //! Readers of the files that chipfire takes: graphs as JSON; chips, drops, guesses, logs, schedules and traces as rows of
 //! CSV. Chips are written too.
 //!
-//! `read_source` takes the whole of an input, and a function from bytes then answers what they mean, or the first thing
-//! wrong with them. What a text means is a definition: of a graph over the value that `serde_json` reads
-//! (`specs/GraphText.antt`), of rows over the records that `csv` gives (`specs/ChipsText.antt`, `specs/DropsText.antt`,
-//! `specs/GuessText.antt`, `specs/LogText.antt`, `specs/ScheduleText.antt`, `specs/TraceText.antt`). Contracts speak of readers that tell their
-//! bytes, as a slice does. `docs/FORMATS.md` shows the files.
+//! `read_source` reads the whole of an input. A function from bytes then returns what they mean, or their first fault.
+//! The meaning of a text is a definition: of a graph over the value that `serde_json` reads (`specs/GraphText.antt`),
+//! of rows over the records that `csv` gives (`specs/ChipsText.antt`, `specs/DropsText.antt`, `specs/GuessText.antt`,
+//! `specs/LogText.antt`, `specs/ScheduleText.antt`, `specs/TraceText.antt`). Contracts speak of readers whose bytes are
+//! known, such as a slice. `docs/FORMATS.md` shows the files.
 #![tactic(auto)]
 
 pub use chips::{chips_of_source, chips_of_text, read_chips_within, text_of_chips};

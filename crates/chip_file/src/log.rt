@@ -29,7 +29,7 @@ use std::io::Read;
 /// The header of a log.
 const HEADER: [&str; 3] = ["process", "kind", "channel"];
 
-/// What a row of a log may be of.
+/// What a row of a log may be.
 #[derive(Clone, Copy)]
 enum LogKind {
     Send,
@@ -41,7 +41,7 @@ enum LogKind {
     Over,
 }
 
-/// The kinds of its rows, by their names.
+/// The kinds of rows, by their names.
 static KINDS: [(&str, LogKind); 7] = [
     ("send", LogKind::Send),
     ("receive", LogKind::Receive),
@@ -86,14 +86,14 @@ fn stream(channel: u64, is_control: bool, channels: u64) -> Option<Stream>
     })
 }
 
-/// A log, and as many processes and channels as its greatest numbers ask.
+/// A log, and the numbers of processes and channels that its greatest numbers need.
 #[derive(Drop)]
 pub struct Log {
     pub rows: Vec<LogRow>,
     pub sizes: Sizes,
 }
 
-/// The rows of a log so far, and what decides about the next one.
+/// The rows of a log so far, and what the checks of the next one need.
 #[derive(Drop)]
 pub(crate) struct LogSoFar {
     pub(crate) log: Log,
@@ -119,7 +119,7 @@ impl RowVisitor for LogSoFar {
 }
 
 impl LogSoFar {
-    /// No row.
+    /// A log without rows.
     fn new(alloc: Global) -> LogSoFar
         ensures { IsSoFar [] result }
     {
@@ -136,7 +136,7 @@ impl LogSoFar {
         }
     }
 
-    /// What is wrong with a row below these, if something is.
+    /// The fault of a row that follows these, if it has one.
     fn check(&self, row: LogRow, index: u64) -> Result<(), FileFault>
         ensures { (log : List LogRow) → IsSoFar log self.now
             → MatchResult result (λ _. placed_fault index log row ≡ None) (λ f. placed_fault index log row ≡ Some f) }
@@ -165,7 +165,7 @@ impl LogSoFar {
         }
     }
 
-    /// One more row.
+    /// Adds a row.
     fn add(&mut self, row: LogRow) -> Result<(), AllocError>
         requires process { row.process + 1 < 2 ^ 32 }
         requires channel { channels_to row.step < 2 ^ 32 }
@@ -180,7 +180,7 @@ impl LogSoFar {
     }
 }
 
-/// The process of one more row has the end at which the row is.
+/// Notes that the row's process has the end at which the row is.
 fn hold(holders: &mut Vec<Option<u32>>, row: LogRow) -> Result<(), AllocError>
     ensures { IfOk result (λ _. (log : List LogRow) → AreHolders log holders.old.items
         → may_hold (holder row.step log) row.process ≡ true → AreHolders (log ++ row ∷ []) holders.new.items) }
@@ -192,7 +192,7 @@ fn hold(holders: &mut Vec<Option<u32>>, row: LogRow) -> Result<(), AllocError>
     Ok(())
 }
 
-/// The process of one more row is active or not.
+/// Notes whether the row's process is active.
 fn act(active: &mut Vec<Option<bool>>, row: LogRow) -> Result<(), AllocError>
     ensures { IfOk result (λ _. (log : List LogRow) → AreActive log active.old.items
         → may_begin (steps_of row.process log) row.step ≡ true → AreActive (log ++ row ∷ []) active.new.items) }
@@ -203,7 +203,7 @@ fn act(active: &mut Vec<Option<bool>>, row: LogRow) -> Result<(), AllocError>
     Ok(())
 }
 
-/// Sizes with room for one more row.
+/// The sizes with room for one more row.
 fn with_room(sizes: Sizes, row: LogRow) -> Sizes
     requires process { row.process + 1 < 2 ^ 32 }
     requires channel { channels_to row.step < 2 ^ 32 }
@@ -216,7 +216,7 @@ fn with_room(sizes: Sizes, row: LogRow) -> Sizes
     }
 }
 
-/// What a list says at a place, of which it may have nothing yet.
+/// The entry of a list at a place, or none if the list ends before it.
 fn known<T: Copy>(list: &[Option<T>], place: usize) -> Option<T>
     ensures { result ≡ slice_index_or list.now place None }
 {
@@ -227,7 +227,7 @@ fn known<T: Copy>(list: &[Option<T>], place: usize) -> Option<T>
     }
 }
 
-/// Writes into a list, which becomes as long as that asks.
+/// Writes an entry into a list, which is extended if needed.
 fn note<T: Copy>(list: &mut Vec<Option<T>>, place: usize, value: T) -> Result<(), AllocError>
     requires { place < 2 ^ 40 }
     ensures { IfOk result (λ _. NotesAt place value list.old.items list.new.items) }
@@ -250,7 +250,7 @@ fn end_number(step: Step) -> Option<usize>
     }
 }
 
-/// Whether a process is active behind a step, by whether it was before, if it had a row.
+/// Whether a process is active after a step, by whether it was before, if it had a row.
 fn active_behind(was: Option<bool>, step: Step) -> bool
     ensures { result ≡ active_behind was step }
 {
@@ -262,7 +262,7 @@ fn active_behind(was: Option<bool>, step: Step) -> bool
     }
 }
 
-/// How many channels there are up to that of a step.
+/// The number of channels up to that of a step.
 fn channels_to(step: Step) -> u32
     requires { channels_to step < 2 ^ 32 }
     ensures { result ≡ channels_to step }
@@ -273,10 +273,10 @@ fn channels_to(step: Step) -> u32
     }
 }
 
-/// The log of a file of rows within the limits, or the first thing wrong with the file.
+/// Reads the log of a file of rows within the limits, or returns the file's first fault.
 ///
-/// The rows keep the order of the file. There are at most twice as many processes and channels as a graph within the limits
-/// has vertices and edges.
+/// The rows keep the order of the file. There are at most twice as many processes and channels as a graph within the
+/// limits has vertices and edges.
 pub fn read_log_within<R: Read>(
     alloc: Global,
     limits: Limits,
@@ -290,7 +290,7 @@ pub fn read_log_within<R: Read>(
     log_of_source(alloc, limits, &mut Source::new(reader))
 }
 
-/// The same of a source, in which the reads are counted.
+/// The same from a source, which counts the reads.
 pub fn log_of_source<R: Read>(
     alloc: Global,
     limits: Limits,

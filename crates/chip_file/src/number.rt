@@ -17,7 +17,7 @@ pub(crate) fn number_at(row: &ByteRecord, column: usize) -> Option<u64>
     number_of(row.get(column)?)
 }
 
-/// The number that a field is, if it is one. Of the most digits, `leading_number` reads all but the last.
+/// The number that a field is, if it is one. `leading_number` reads all of the most digits but the last.
 #[inline]
 fn number_of(field: &[u8]) -> Option<u64>
     ensures { result ≡ number_of field.now }

@@ -10,7 +10,7 @@ use crate::fault::FileFault;
 use csv::{ByteRecord, Reader, ReaderBuilder};
 use std::alloc::{AllocError, Global};
 
-/// What is made of the rows of a file, which it visits in order.
+/// What is built from the rows of a file, which it visits in order.
 pub(crate) trait RowVisitor: Drop {
     /// What the faults of rows depend on.
     type Context;
@@ -21,7 +21,7 @@ pub(crate) trait RowVisitor: Drop {
     // It visited these rows.
     ghost HasVisited: { Self.Context → List Row → Self → Type 0 };
 
-    /// Visits the row with this index, or tells its fault.
+    /// Visits the row with this index, or returns its fault.
     fn visit(
         &mut self,
         context: &Self::Context,
@@ -34,9 +34,9 @@ pub(crate) trait RowVisitor: Drop {
             (λ f. row_fault context.now before (fields_of row.now) ≡ Some f) result };
 }
 
-/// The visitor of all rows of a text under this header, or the text's first fault.
+/// The visitor after all rows of a text under this header, or the text's first fault.
 ///
-/// `csv` keeps two copies of a header, or of the first record if there is none. So it is given one that is empty.
+/// `csv` keeps two copies of a header, or of the first record if there is none. So it is given an empty header.
 pub(crate) fn visit_text<V: RowVisitor>(
     alloc: Global,
     text: &[u8],
@@ -56,7 +56,7 @@ pub(crate) fn visit_text<V: RowVisitor>(
     }
 }
 
-/// The same of the records that are left. More rows than a counter counts find no memory.
+/// The same for the records that are left. If there are 2^64 - 1 rows or more the fault is `NoMemory`.
 fn visit_records<V: RowVisitor>(
     records: &mut Reader<&[u8]>,
     row: &mut ByteRecord,
@@ -80,9 +80,9 @@ fn visit_records<V: RowVisitor>(
     Err(FileFault::NoMemory)
 }
 
-/// Reads the next record into `row`, and says whether there was one.
+/// Reads the next record into `row`, and returns whether there was one.
 ///
-/// The text lies in memory, so that nothing is left to fail but an allocation.
+/// The text is in memory, so only an allocation can fail.
 fn read_record(records: &mut Reader<&[u8]>, row: &mut ByteRecord) -> Result<bool, AllocError>
     requires { IsOpen records.old }
     ensures { IfOk result (λ found. IsOpen records.new

@@ -106,7 +106,7 @@ impl RowVisitor for Vec<Event> {
     }
 }
 
-/// The events of a schedule by a file of rows within the limits, in order, or the first thing wrong with the file.
+/// Reads the events of a schedule from a file of rows within the limits, in order, or returns the file's first fault.
 pub fn read_schedule_within<R: Read>(
     alloc: Global,
     limits: Limits,
@@ -119,7 +119,7 @@ pub fn read_schedule_within<R: Read>(
     schedule_of_source(alloc, limits, &mut Source::new(reader), graph)
 }
 
-/// The same of a source, in which the reads are counted.
+/// The same from a source, which counts the reads.
 pub fn schedule_of_source<R: Read>(
     alloc: Global,
     limits: Limits,

@@ -1,4 +1,4 @@
-//! A reader of one input, that counts what is asked of it.
+//! A reader of one input that counts its reads.
 
 ghost use Rattle.std.specs.Prelude.{◌≡◌, ◌+◌, ◌<◌, true, length};
 ghost use Rattle.std.specs.Io.{ReadsAtMost};
@@ -21,7 +21,7 @@ pub enum LastRead {
     Failure,
 }
 
-/// A reader of one input, which counts the reads that are made of it and notes how the last one went.
+/// A reader of one input, which counts its reads and notes how the last one went.
 #[derive(Drop)]
 pub struct Source<'r, R> {
     reader: &'r mut R,
@@ -30,7 +30,7 @@ pub struct Source<'r, R> {
 }
 
 impl<'r, R: Read> Source<'r, R> {
-    /// A source of which nothing was read yet.
+    /// A source from which nothing was read yet.
     pub fn new(reader: &'r mut R) -> Source<'r, R>
         ensures lent { result.reader.ghost_name ≡ reader.entry.ghost_name }
         ensures same { result.reader.now ≡ reader.old }
@@ -43,7 +43,7 @@ impl<'r, R: Read> Source<'r, R> {
         }
     }
 
-    /// How many reads were made.
+    /// The number of reads that were made.
     pub fn reads(&self) -> u64
         ensures { result ≡ reads self.now }
     {

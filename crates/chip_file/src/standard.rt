@@ -19,7 +19,7 @@ use chip_link::{Event, TraceRow};
 use std::alloc::Global;
 use std::io::Read;
 
-/// The graph of a file of JSON, or the first thing wrong with the file.
+/// Reads the graph of a file of JSON, or returns the file's first fault.
 pub fn read_graph<R: Read>(alloc: Global, reader: &mut R) -> Result<Graph, FileFault>
     ensures { ReadsText standard (MeansGraph standard) (IsGraphTextFault standard) (R.remaining reader.old)
         (R.remaining reader.new) result }
@@ -27,7 +27,7 @@ pub fn read_graph<R: Read>(alloc: Global, reader: &mut R) -> Result<Graph, FileF
     read_graph_within(alloc, Limits::standard(), reader)
 }
 
-/// The chips of each of `vertices` vertices by a file of rows, or the first thing wrong with the file.
+/// Reads the chips of each of `vertices` vertices from a file of rows, or returns the file's first fault.
 ///
 /// A vertex that no row names has 0.
 pub fn read_chips<R: Read>(
@@ -41,7 +41,7 @@ pub fn read_chips<R: Read>(
     read_chips_within(alloc, Limits::standard(), reader, vertices)
 }
 
-/// The events of a schedule by a file of rows, in order, or the first thing wrong with the file.
+/// Reads the events of a schedule from a file of rows, in order, or returns the file's first fault.
 pub fn read_schedule<R: Read>(
     alloc: Global,
     reader: &mut R,
@@ -53,7 +53,7 @@ pub fn read_schedule<R: Read>(
     read_schedule_within(alloc, Limits::standard(), reader, graph)
 }
 
-/// The recorded run of each vertex by a file of rows, or the first thing wrong with the file.
+/// Reads the recorded run of each vertex from a file of rows, or returns the file's first fault.
 ///
 /// The rows of one vertex keep the order of the file.
 pub fn read_trace<R: Read>(
@@ -66,7 +66,7 @@ pub fn read_trace<R: Read>(
     read_trace_within(alloc, Limits::standard(), reader, graph)
 }
 
-/// The whole of a reader's input.
+/// Reads the whole of a reader's input.
 pub fn read_whole<R: Read>(alloc: Global, reader: &mut R) -> Result<Vec<u8>, FileFault>
     ensures { ReadsWhole standard (R.remaining reader.old) (R.remaining reader.new) result }
 {

@@ -25,14 +25,14 @@ use std::io::Read;
 /// The header of a file of recorded runs.
 const HEADER: [&str; 4] = ["vertex", "kind", "edge", "count"];
 
-/// What a row of a recorded run may be of.
+/// What a row of a recorded run may be.
 #[derive(Clone, Copy)]
 enum TraceKind {
     Take,
     Fire,
 }
 
-/// The kinds of its rows, by their names.
+/// The kinds of rows, by their names.
 static KINDS: [(&str, TraceKind); 2] = [("take", TraceKind::Take), ("fire", TraceKind::Fire)];
 
 impl TraceKind {
@@ -67,7 +67,7 @@ impl RowVisitor for Vec<Vec<TraceRow>> {
     }
 }
 
-/// The recorded run of each vertex by a file of rows within the limits, or the first thing wrong with the file.
+/// Reads the recorded run of each vertex from a file of rows within the limits, or returns the file's first fault.
 ///
 /// The rows of one vertex keep the order of the file.
 pub fn read_trace_within<R: Read>(
@@ -81,7 +81,7 @@ pub fn read_trace_within<R: Read>(
     trace_of_source(alloc, limits, &mut Source::new(reader), graph)
 }
 
-/// The same of a source, in which the reads are counted.
+/// The same from a source, which counts the reads.
 pub fn trace_of_source<R: Read>(
     alloc: Global,
     limits: Limits,
@@ -114,7 +114,7 @@ pub fn trace_of_text(
     visit_text(alloc, text, &HEADER, graph, traces)
 }
 
-/// `vertices` runs of which nothing is recorded.
+/// `vertices` runs without rows.
 fn empty_traces(alloc: Global, vertices: u64) -> Result<Vec<Vec<TraceRow>>, AllocError>
     ensures { IfOk result (λ traces. map (λ trace. trace.items) traces.items ≡ replicate vertices []) }
 {
@@ -147,7 +147,7 @@ fn row_of(graph: &Graph, row: &ByteRecord, index: u64) -> Result<(u64, TraceRow)
     Ok((vertex, recorded))
 }
 
-/// Whether a row names an edge that is there, a root edge among them; a firing names none.
+/// Whether a row names an edge of the graph or a root edge; a firing names none.
 fn names_edge(graph: &Graph, row: TraceRow) -> bool
     ensures { result ≡ names_edge graph.now row }
 {

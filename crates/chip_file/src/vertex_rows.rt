@@ -12,7 +12,7 @@ use crate::rows::{RowVisitor, visit_text};
 use csv::ByteRecord;
 use std::alloc::{AllocError, Global};
 
-/// How many fields a row has.
+/// The number of fields of a row.
 const FIELDS: usize = 2;
 
 /// The number of each vertex that a row names.

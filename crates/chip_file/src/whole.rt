@@ -8,13 +8,13 @@ use chip_graph::Limits;
 use std::alloc::Global;
 use std::io::Read;
 
-/// How many bytes are asked for at once.
+/// The number of bytes asked for at once.
 const CHUNK: usize = 16_384;
 
-/// The whole of an input within the limits, and in the source how often it was read.
+/// Reads the whole of an input within the limits; the source counts the reads.
 ///
-/// A read that gives no byte is the end. A read that fails for whatever reason, an interruption among them, is
-/// `Read`. No read is made after either. At most one read more is made than an input may have bytes.
+/// A read that gives no byte is the end. A read that fails for whatever reason, even an interruption, is `Read`. No
+/// read follows either. At most one read more is made than an input may have bytes.
 pub fn read_source<R: Read>(
     alloc: Global,
     limits: Limits,
@@ -41,7 +41,7 @@ pub fn read_source<R: Read>(
     Err(FileFault::TooLong)
 }
 
-/// The whole of a reader's input within the limits, as `read_source` reads it.
+/// Reads the whole of a reader's input within the limits, as `read_source` reads it.
 pub fn read_whole_within<R: Read>(
     alloc: Global,
     limits: Limits,

@@ -12,7 +12,7 @@ use Rattle.chip_log.proofs.PastLemmas.{IsSplit, put_behind, keep_claimer, keep_o
 use Rattle.chip_log.proofs.QueuesLemmas.{set_at}
 use Rattle.chip_log.specs.declared.books.Said.TheVariants as said
 
--- ---- what is on its way
+-- ---- what is in transit
 
 -- a step is made
 pub make_flight : (pre : List LogRow) (x : LogRow) (old new : TallyState) → AreInFlight pre old → Passes x.step new old
@@ -21,7 +21,7 @@ make_flight pre x old new was made = λ s.
     let c = rows-append (is_out s) pre (x ∷ []) in let d = rows-append (is_in s) pre (x ∷ []) in
     omega (arith, was s, made.counts s)
 
--- and taken back
+-- and undone
 pub pass_flight : (pre : List LogRow) (x : LogRow) (old new : TallyState) → AreInFlight (pre ++ x ∷ []) old
     → Passes x.step old new → AreInFlight pre new
 pass_flight pre x old new was passed = λ s.
@@ -51,7 +51,7 @@ kept_same kept x old new was keeps = record {
   said = rw keeps.said was.said;
 }
 
--- ---- a look at a row
+-- ---- reading a row
 
 module _ (log : List LogRow) (ends : HasEnds log) (p i : ℕ) (pre kept : List LogRow) (x : LogRow) (old new : Books)
     (claimer : old.claimer ≡ p) (within : x.process < length old.said.items) (counted : x.process < length old.rows.items)

@@ -53,7 +53,7 @@ pub own_few : (test : Step → Bool) (q : ℕ) (xs : List LogRow) → count_step
 own_few test q [] = omega arith
 own_few test q (x ∷ xs) = let a = own_few test q xs in grind (arith, nat_tests)
 
--- a longer beginning has no fewer
+-- a longer prefix has no fewer
 pub longer_counts : (test : Step → Bool) (xs r ys s all : List Step) → xs ++ r ≡ all → ys ++ s ≡ all
     → length xs ≤ length ys → count_steps test xs ≤ count_steps test ys
 longer_counts test xs r ys s all p q l =
@@ -72,7 +72,7 @@ all_own test q (x ∷ xs) only =
     let a = all_own test q xs (λ p ne. let b = only p ne in grind (arith, nat_tests)) in let e = only x.process in
     grind (arith, nat_tests)
 
--- so it is for the first rows of each process
+-- the same for the first rows of each process
 pub first_own : (test : Step → Bool) (q : ℕ) (log now : List LogRow) (left : ℕ → List Step)
     → ((p : ℕ) → steps_of p now ++ left p ≡ steps_of p log)
     → ((p : ℕ) → p ≢ q → count_steps test (steps_of p log) ≡ 0) → count_rows test now ≡ count_steps test (steps_of q now)
@@ -99,7 +99,7 @@ swap_two : (q : ℕ) (k x : LogRow) (zs : List LogRow) → k.process ≢ x.proce
     → steps_of q (k ∷ x ∷ zs) ≡ steps_of q (x ∷ k ∷ zs)
 swap_two q k x zs ne = grind (arith, nat_tests)
 
--- a row goes behind others, of other processes
+-- a row goes after others, of other processes
 pub steps_moved : (q : ℕ) (x : LogRow) (ks rest : List LogRow) → steps_of x.process ks ≡ []
     → steps_of q (ks ++ x ∷ rest) ≡ steps_of q (x ∷ (ks ++ rest))
 steps_moved q x [] rest none = refl

@@ -1,6 +1,6 @@
 -- Serves Cut.antt.
--- Two lists of first rows are joined, or met, along an interleaving; so a claim has the same least past in the rows that are
--- used as in the whole log.
+-- Two lists of first rows are joined, or intersected, along an interleaving; so a claim has the same causal past in the
+-- rows that are used as in the whole log.
 use Rattle.chip_log.proofs.Names.{◌≡◌, ◌≢◌, ℕ, zero, suc, ◌+◌, ◌≤◌, ◌<◌, Bool, true, false, ◌&&◌, List, [], ◌∷◌, ◌++◌}
 use Rattle.chip_log.proofs.Names.{length, refl, sym, ap, ◌∙◌, subst, arith, append-nil, append_assoc, length-append, ltb-true, inl}
 use Rattle.chip_log.proofs.Names.{inr, ◌⊎◌, dite, ℕ_discrete, dec_lt, steps_of, is_out, is_in, outs, ins}
@@ -81,7 +81,7 @@ next_first log pre acc x now are same = record {
 
 -- ---- rows of an interleaving, those of a process at some of its moments, in another list
 
--- the list that was made has so many rows of each process as `size` says
+-- the list that was made has the number of rows of each process that `size` says
 module _ (log : List LogRow) (ends : HasEnds log) (size : ℕ → ℕ → ℕ)
     (goes : (q n : ℕ) → (size q (n + 1) ≡ size q n) ⊎ ((size q n ≡ n) × (size q (n + 1) ≡ n + 1))) where
   pub record IsMade (pre acc : List LogRow) : Type 0 where
@@ -211,7 +211,7 @@ module _ (log : List LogRow) (ends : HasEnds log) (front : List LogRow) (first :
         },
       )
 
--- ---- met: the rows of an interleaving that were done too
+-- ---- intersected: the rows of an interleaving that were done too
 
 module _ (log : List LogRow) (ends : HasEnds log) (part : List LogRow) (first : AreFirst log part)
     (met : AreEnabled log [] part) where
@@ -252,7 +252,7 @@ module _ (log : List LogRow) (ends : HasEnds log) (part : List LogRow) (first : 
       (record { first = none_first; met = tt; sized = λ q. omega arith }) in
       (made.0, made.1.first, made.1.met, made.1.sized)
 
--- ---- where a claim stands
+-- ---- the place of a claim
 
 abbrev claim_of : ℕ → LogRow
 claim_of p = record { process = p; step = Over }
@@ -293,7 +293,7 @@ stands p i (x ∷ xs) e = dite (ℕ_discrete x.process p)
           rw (steps_own p x more.0 same) (let a = more.3 in omega arith),
         )
 
--- ---- a part of a log: the claims in it have their least pasts there
+-- ---- a part of a log: the claims in it have their causal pasts there
 
 module _ (log : List LogRow) (ends : HasEnds log) (xs : List LogRow) (whole : IsInterleaving log xs) (part : List LogRow)
     (first : AreFirst log part) (met : AreEnabled log [] part)

@@ -22,7 +22,7 @@ abbrev no_place : RowPlace
 no_place = record { process = 0; row = 0 }
 
 module _ (log : List LogRow) (places : List ClaimPlace) (are : ArePlaces log places) where
-  -- where a claim stands among the places
+  -- the place of a claim among the places
   abbrev IsThere : ℕ → ℕ → ℕ → ClaimPlace → Type 0
   IsThere p i k d = (k < length places) × ((get_or places k d).process ≡ p) × ((get_or places k d).row ≡ i)
 

@@ -18,7 +18,7 @@ use Rattle.chip_log.specs.declared.books.Said.TheVariants as said
 use Rattle.chip_log.specs.declared.verdict.Verdict.TheVariants as verdict
 use Rattle.chip_log.specs.declared.judged.LogEnd.TheVariants as end
 
--- ---- what processes begin with
+-- ---- how processes begin
 
 pub begins_with-append : (begins : Option Bool) (xs ys : List Step)
     → begins_with begins (xs ++ ys) ≡ begins_with (begins_with begins xs) ys
@@ -90,7 +90,7 @@ none_beyond sizes s beyond (x ∷ xs) fits =
     by (Out t) inside = grind (arith, nat_tests)
     by _ inside = refl
 
--- rows of a log that may stand as they do, and their books
+-- rows of a log that may stay as they are, and their books
 module _ (log : List LogRow) (sizes : Sizes) (fits : Fits sizes log) (now : List LogRow) (b : Books)
     (keeps : AreKept now b) (le : (s : Stream) → ins s now ≤ outs s now) (few : (s : Stream) → outs s now ≤ outs s log) where
   pub no_way : (k : Bool) → NoWay k sizes.channels b → (c : ℕ) → outs (stream_of k c) now ≡ ins (stream_of k c) now
@@ -127,7 +127,7 @@ module _ (log : List LogRow) (sizes : Sizes) (fits : Fits sizes log) (now : List
       least = λ r less. rw (is_busy_is r) at (left.1.2 r less);
     }
 
--- ---- a verdict by the books of the least past
+-- ---- a verdict by the books of the causal past
 
 module _ (log : List LogRow) (is : IsLog log) (sizes : Sizes) (fits : Fits sizes log) (claim : ClaimPlace) (b : Books)
     (is_past : IsPastOf log sizes claim b) (beginners : List (Option Bool)) (made : AreBeginners sizes log beginners) where

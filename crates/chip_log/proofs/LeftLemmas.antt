@@ -1,5 +1,5 @@
 -- Serves Claims.antt, Judged.antt.
--- What is left behind rows: it is one thing, and the same behind others with the same counts and activity.
+-- What is left after rows: it is one thing, and the same after others with the same counts and activity.
 use Rattle.chip_log.proofs.Names.{◌≡◌, ℕ, ◌<◌, List, refl, ap, arith, dite, dec_lt, basic, IsQuiet}
 use Rattle.chip_log.proofs.Names.{IsOnItsWay, IsBusy, IsSilent, outs, ins, is_active, LogRow, Stream, Verdict}
 use Rattle.chip_log.specs.declared.verdict.Verdict.TheVariants as verdict
@@ -9,7 +9,7 @@ pub one_number : (a b : ℕ) → (a < b → ⊥) → (b < a → ⊥) → a ≡ b
 one_number a b not_less not_more = dite (dec_lt a b) (λ l. absurd (not_less l))
     (λ no. dite (dec_lt b a) (λ l. absurd (not_more l)) (λ other. omega arith))
 
--- a verdict on the moment behind these rows
+-- a verdict on the moment after these rows
 abbrev pub IsLeftBehind : List LogRow → List LogRow → Verdict → Type 0
 IsLeftBehind log now verdict.Right = IsSilent log now
 IsLeftBehind log now (verdict.OnItsWay c k) = IsOnItsWay now c k
@@ -34,7 +34,7 @@ one_left log now (verdict.Active q) (verdict.Active r) a b = ap verdict.Active
     (one_number q r (λ less. let f = b.least q less in let g = a.active in cc)
     (λ less. let f = a.least r less in let g = b.active in cc))
 
--- behind rows of one log, and others of another
+-- after rows of one log, and others of another
 pub record SameBehind (log now other later : List LogRow) : Type 0 where
   pub outs : (s : Stream) → outs s now ≡ outs s later
   pub ins : (s : Stream) → ins s now ≡ ins s later

@@ -34,11 +34,11 @@ keep_room sizes x kept b fits sized was few = record {
     by (In s) = let a = was.taken s in let e = rows_few (is_in s) kept in omega arith
     by _ = tt
 
--- what is read behind the last row
+-- what is read after the last row
 abbrev pub no_row : LogRow
 no_row = record { process = 0; step = Out (record { channel = 0; is_control = false }) }
 
--- the rows before a place, the row there, and those behind it
+-- the rows before a place, the row there, and those after it
 pub rows_split : (log : List LogRow) (i : ℕ) (d : LogRow) → i < length log
     → take i log ++ (get_or log i d ∷ drop (i + 1) log) ≡ log
 rows_split log i d l = rw (← drop_more log i d l) (take-append-drop i log)
@@ -100,7 +100,7 @@ pub from_last : (log : List LogRow) (left : ℕ) (d : LogRow) → 0 < left → l
 from_last log left d some within =
     let e : left - 1 + 1 ≡ left = omega arith in rw e at (drop_more log (left - 1) d (omega arith))
 
--- one turn of the loop that looks at rows
+-- one turn of the loop that reads rows
 module _ (log : List LogRow) (sizes : Sizes) (order : IsInOrder sizes log)
     (ends : HasEnds log) (p n left : ℕ) (d : LogRow) (some : 0 < left) (inside : left ≤ length log) (kept : List LogRow)
     (b : Books) (sized : AreSized sizes b) (split : IsSplit log ends p n (take left log) kept)
@@ -129,7 +129,7 @@ pub kept_sized : (sizes : Sizes) (needed : Bool) (x : LogRow) (old new : Books) 
     → new.flight.channels ≡ old.flight.channels → KeepsRow needed x old new → AreSized sizes new
 kept_sized sizes needed x old new sized flight keeps = omega arith
 
--- where the look at rows begins
+-- where the reading of rows begins
 module _ (log : List LogRow) (is : IsLog log) (claim : ClaimPlace) (place : IsPlace log claim) where
   abbrev row : LogRow
   row = record { process = claim.process; step = Over }

@@ -1,5 +1,5 @@
 -- Serves Log.antt.
--- Rows that are met, and what stands before them.
+-- Rows that are enabled, and what comes before them.
 use Rattle.chip_log.proofs.Names.{◌≡◌, ◌≢◌, ℕ, ◌+◌, ◌≤◌, ◌<◌, Bool, true, false, List, [], ◌∷◌, ◌++◌, refl, sym, ap}
 use Rattle.chip_log.proofs.Names.{arith, cond, append-nil, dite, ℕ_discrete, steps_of}
 use Rattle.chip_log.proofs.Names.{is_out, outs, ins, same_stream, sends, gets, count_steps, count_rows, nat_tests}
@@ -19,7 +19,7 @@ pub not_counted : (b : Bool) → ◌≡◌ {A = ℕ} (cond b 1 0) 0 → b ≡ fa
 not_counted true e = absurd (omega arith)
 not_counted false e = refl
 
--- a process with such a step is the one that alone has them
+-- only a process that has such steps has one
 pub owner_is : (test : Step → Bool) (owner q : ℕ) (log : List LogRow) (before : List Step) (step : Step) (behind : List Step)
     → ((p : ℕ) → p ≢ owner → count_steps test (steps_of p log) ≡ 0) → before ++ step ∷ behind ≡ steps_of q log
     → test step ≡ true → q ≡ owner
@@ -43,7 +43,7 @@ push_le test xs x = let a = rows-append test xs (x ∷ []) in omega arith
 pub same_self : (s : Stream) → same_stream s s ≡ true
 same_self s = grind (arith, nat_tests)
 
--- ---- what decides whether a row is met
+-- ---- what decides whether a row is enabled
 
 pub record SameCounts (pre later : List LogRow) : Type 0 where
   pub steps : (p : ℕ) → steps_of p pre ≡ steps_of p later
@@ -76,7 +76,7 @@ swapped pre x y ne = record {
   counts = λ test. simp rows-append (omega arith);
 }
 
--- ---- a row stays met behind a further row of another process, unless both get messages of one stream
+-- ---- a row stays enabled after one more row of another process, unless both get messages of one stream
 pub met_later : (log pre : List LogRow) (k : LogRow) (p : ℕ) (step : Step) → k.process ≢ p
     → ((s : Stream) → is_in s step ≡ true → is_in s k.step ≡ false) → is_enabled log pre p step ≡ true
     → is_enabled log (pre ++ k ∷ []) p step ≡ true
@@ -86,7 +86,7 @@ met_later log pre k p (In s) ne apart met =
     grind (arith, nat_tests)
 met_later log pre k p _ ne apart met = refl
 
--- a row is met without a row of another process before it, unless it needs the message of that
+-- a row is enabled without a row of another process before it, unless it needs the message of that
 pub met_without : (log pre : List LogRow) (x : LogRow) (p : ℕ) (step : Step) → x.process ≢ p
     → ((s : Stream) → is_in s step ≡ true → is_out s x.step ≡ true → ins s pre < outs s pre)
     → is_enabled log (pre ++ x ∷ []) p step ≡ true → is_enabled log pre p step ≡ true
@@ -96,7 +96,7 @@ met_without log pre x p (In s) ne there met =
     grind (arith, nat_tests)
 met_without log pre x p _ ne there met = refl
 
--- ---- a row goes behind others, of other processes, that don't need it
+-- ---- a row goes after others, of other processes, that do not need it
 
 none_head : (p : ℕ) (k : LogRow) (ks : List LogRow) → steps_of p (k ∷ ks) ≡ [] → k.process ≢ p
 none_head p k ks none e = let a = steps_own p k ks e in cc

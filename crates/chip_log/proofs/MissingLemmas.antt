@@ -1,5 +1,5 @@
 -- Serves Missing.antt.
--- An interleaving of a log without the missing rows is one of what is left, and all that is silent there is silent here.
+-- An interleaving of a log without the missing rows is one of what is left; where it is quiescent there, it is so here.
 use Rattle.chip_log.proofs.Names.{◌≡◌, ◌≢◌, ℕ, suc, ◌+◌, ◌≤◌, Bool, true, false, cond, List, [], ◌∷◌, ◌++◌, length}
 use Rattle.chip_log.proofs.Names.{refl, sym, ap, subst, arith, append-nil, append_assoc, length-append, ltb-true}
 use Rattle.chip_log.proofs.Names.{nat_tests, dite, ℕ_discrete, steps_of, is_out, is_in, outs, ins, count_steps}
@@ -30,7 +30,7 @@ staying_length stays n (x ∷ steps) = by (staying_length stays (n + 1) steps) (
     by rest true is = rw is (let a = rest in let b = one in let c = same in let d = count_yes (stays n) is in omega arith)
     by rest false is = rw is (let a = rest in let b = one in let c = same in let d = count_no (stays n) is in omega arith)
 
--- one step more in front, where it stays or not
+-- one more step in front, where it stays or not
 staying_more : (test : Step → Bool) (stays : ℕ → Bool) (n : ℕ) (x : Step) (xs : List Step)
     → count_steps test (staying stays n (x ∷ xs))
     ≡ cond (test x && stays n) 1 0 + count_steps test (staying stays (n + 1) xs)
@@ -58,14 +58,14 @@ module _ (s : Stream) (own other : ℕ → Bool) where
       → count_steps (is_in s) earlier ≡ count_steps (is_out s) before → own (n + length before) ≡ false
       → other (m + length earlier) ≡ false
 
-  -- then no more of those that stay get than send
+  -- then the steps that stay get no more than they send
   follow : (tells : List Step) (n m : ℕ) (hears : List Step) → Follow n m tells hears
       → count_steps (is_in s) hears ≤ count_steps (is_out s) tells
       → count_steps (is_in s) (staying other m hears) ≤ count_steps (is_out s) (staying own n tells)
   follow [] n m hears all few = let a = staying_few (is_in s) other m hears in omega arith
   follow (x ∷ tells) n m hears all few = by (follow tells) hears m all few (is_out s x) refl
     where
-      -- a step in front that counts nowhere
+      -- a step in front that does not count
       past : (hears : List Step) (m : ℕ) → Follow n m (x ∷ tells) hears → is_out s x ≡ false → Follow (n + 1) m tells hears
       past hears m all off before y behind earlier z later at here out got same gone =
           all (x ∷ before) y behind earlier z later (ap (λ (zs : List Step). x ∷ zs) at) here out got
@@ -132,7 +132,7 @@ module _ (s : Stream) (own other : ℕ → Bool) where
                   grind (arith, nat_tests)
 
 module _ (stays : ℕ → ℕ → Bool) where
-  -- those of these rows that stay, behind others
+  -- those of these rows that stay, after others
   abbrev kept : List LogRow → List LogRow → List LogRow
   kept pre [] = []
   kept pre (x ∷ xs) = cond (stays x.process (length (steps_of x.process pre))) (x ∷ kept (pre ++ x ∷ []) xs) (kept (pre ++ x ∷ []) xs)
@@ -334,7 +334,7 @@ module _ (stays : ℕ → ℕ → Bool) where
     kept_interleaving : (xs : List LogRow) → IsInterleaving log xs → IsInterleaving left (kept [] xs)
     kept_interleaving xs all = record { whole = kept_whole xs all.whole; met = are_met [] xs all.whole all.met }
 
-    -- ---- what is silent there is silent here
+    -- ---- what is quiescent there is quiescent here
 
     -- without a missing receive a process is no more active
     stays_passive : (q : ℕ) (was now : Bool) → (now ≡ false → was ≡ false) → (pre xs rest : List LogRow)

@@ -1,5 +1,5 @@
 -- Serves Judged.antt.
--- What is judged of a log is one.
+-- The judgment of a log is unique.
 use Rattle.chip_log.proofs.Names.{◌≡◌, ℕ, ◌<◌, Bool, true, false, List, [], ◌∷◌, get_or, refl, sym, ap, ◌∙◌}
 use Rattle.chip_log.proofs.Names.{Option, Some, None, subst, arith, cond, suc, inl, inr, map, All-head, All-tail, All-cons, sum_by-le}
 use Rattle.chip_log.proofs.Names.{sum_by-cons, ◌&&◌, All, ◌⊎◌, AllPairs, ◌==◌, sum_by, dite, dec_lt, AreRowsOf}
@@ -15,7 +15,7 @@ use Rattle.chip_log.proofs.RightLemmas.{IsJudgedAs}
 use Rattle.chip_log.specs.declared.verdict.Verdict.TheVariants as verdict
 use Rattle.chip_log.specs.declared.judged.LogEnd.TheVariants as end
 
--- ---- lists in order with the same of everything are one
+-- ---- lists in order with the same elements are one
 
 module _ {X : Type 0} (weight : X → X → ℕ) (S : X → X → Type 0) (none : (x y : X) → S x y → weight x y ≡ 0) where
   none_of : (x : X) (ys : List X) → All (S x) ys → sum_by (weight x) ys ≡ 0
@@ -56,7 +56,7 @@ module _ {X : Type 0} (weight : X → X → ℕ) (S : X → X → Type 0) (none 
         let c = same z in let d = ap (weight z) e in omega arith) in
         λ j. e j ∷ rest j
 
--- ---- the rows of a past
+-- ---- the rows of a causal past
 
 abbrev rows_if : PastRows → PastRows → ℕ
 rows_if x y = cond (y.process == x.process) y.rows 0
@@ -123,7 +123,7 @@ one_order log xs ys are other = same_list (λ x y. one_at x.process x.row y) IsS
     here : (zs : List RowPlace) → All (λ z. 0 < one_at z.process z.row z) zs
     here zs k d inside = let z = get_or zs k d in let a = count_yes (is_at z.process z.row z) (at_itself z) in omega arith
 
--- ---- what is told
+-- ---- the judgment
 
 module _ (log : List LogRow) (ends : HasEnds log) (w : Bool) where
   one_told : (c d : ClaimVerdict) → claim_place c ≡ claim_place d → IsJudged w log c → IsJudged w log d → told_of c ≡ told_of d
@@ -208,7 +208,7 @@ one_judgment w log one two ends a b = (
 -- ---- the first early claim
 
 module _ (w : Bool) (log : List LogRow) (ends : HasEnds log) where
-  -- the first early claim is not behind another one
+  -- the first early claim is not after another one
   not_behind : (c d : ClaimVerdict) → IsFirst w log c → IsFirst w log d → IsSooner (claim_place d) (claim_place c) → ⊥
   not_behind c d first other sooner =
       let right = first.before d.process d.row other.claim sooner in

@@ -95,7 +95,7 @@ pub count_next : (p : ℕ) (log : List LogRow) (n : ℕ) (d : LogRow) → n < le
     → length (steps_of p (take (n + 1) log)) ≡ length (steps_of p (take n log)) + cond (eqb (get_or log n d).process p) 1 0
 count_next p log n d l = rw (take_more log n d l, steps_of-append, length-append) (grind (arith, nat_tests))
 
--- ---- greatest progress is greatest
+-- ---- maximal progress is the greatest
 
 module _ (log : List LogRow) (ends : HasEnds log) (used : List LogRow) (is : IsProgress log used) where
   pub used_outs : (s : Stream) → outs s used ≡ sends s (steps_of (ends.sender s) used)
@@ -105,7 +105,7 @@ module _ (log : List LogRow) (ends : HasEnds log) (used : List LogRow) (is : IsP
   used_ins s = first_own (is_in s) (ends.receiver s) log used is.left is.own (ends.gets s)
 
 module _ (log : List LogRow) (ends : HasEnds log) (used : List LogRow) (most : IsGreatest log used) where
-  -- another progress, up to a row that is met, with no more rows of any process before it
+  -- another progress, up to a row that is enabled, with no more rows of any process before it
   module _ (pre : List LogRow) (x : LogRow) (other : IsProgress log (pre ++ x ∷ []))
       (before : IsProgress log pre) (met : is_enabled log pre x.process x.step ≡ true)
       (fewer : (p : ℕ) → length (steps_of p pre) ≤ length (steps_of p used)) where

@@ -1,5 +1,5 @@
 -- Serves Ordering.antt.
--- Steps are made as long as they are met.
+-- Steps are made while they are enabled.
 use Rattle.chip_log.proofs.Names.{◌≡◌, ℕ, ◌+◌, ◌≤◌, ◌<◌, Bool, true, false, eqb, List, [], ◌∷◌, ◌++◌, length}
 use Rattle.chip_log.proofs.Names.{ap, arith, cond, append-nil, length-set, ◌^◌, append_assoc, drop}
 use Rattle.chip_log.proofs.Names.{length-append, All-head, All-tail, All-push, All-nil}
@@ -12,7 +12,7 @@ use Rattle.chip_log.proofs.PastLemmas.{are_met_both}
 use Rattle.chip_log.proofs.BooksLemmas.{make_flight}
 use Rattle.chip_log.proofs.QueuesLemmas.{set_at, total-set, total_le}
 
--- a step behind others is sent as they leave the process
+-- a step after others is sent as they leave the process
 pub sent_at : (was : Bool) (before : List Step) (step : Step) (later : List Step) → AreSent was (before ++ step ∷ later)
     → may_send (active_after was before) step ≡ true
 sent_at was [] step later sent = sent.0

@@ -1,5 +1,5 @@
 -- Serves Claims.antt.
--- The least past of a claim: rows before it that it doesn't need go behind it, from the last to the first.
+-- The causal past of a claim: rows before it that it does not need go after it, from the last to the first.
 use Rattle.chip_log.proofs.Names.{◌≡◌, ◌≢◌, ℕ, ◌+◌, ◌≤◌, ◌<◌, Bool, true, List, [], ◌∷◌, ◌++◌, length, refl, sym}
 use Rattle.chip_log.proofs.Names.{ap, arith, append-nil, append_assoc, length-append, inl, inr}
 use Rattle.chip_log.proofs.Names.{◌⊎◌, dite, ℕ_discrete, dec_lt, IsPast, IsBefore, steps_of, is_out, outs, ins, HasEnds}
@@ -10,7 +10,7 @@ use Rattle.chip_log.proofs.CountLemmas.{all_own, own-append, longer_counts, firs
 use Rattle.chip_log.proofs.CountLemmas.{steps_moved}
 use Rattle.chip_log.proofs.MetLemmas.{owner_is, push_le, same_self, move}
 
--- ---- lists in which each row is met
+-- ---- lists in which each row is enabled
 
 pub are_met_first : (log pre xs ys : List LogRow) → AreEnabled log pre (xs ++ ys) → AreEnabled log pre xs
 are_met_first log pre [] ys met = tt
@@ -25,7 +25,7 @@ are_met_both log pre [] ys first second = rw append-nil at second
 are_met_both log pre (x ∷ xs) ys first second =
     (first.0, are_met_both log (pre ++ x ∷ []) xs ys first.1 (rw append_assoc second))
 
--- a row that is met gets no message that was not sent
+-- a row that is enabled gets no message that was not sent
 met_in : (s : Stream) (log pre : List LogRow) (p : ℕ) (step : Step) → is_enabled log pre p step ≡ true
     → ins s pre ≤ outs s pre → ins s pre + cond (is_in s step) 1 0 ≤ outs s pre
 met_in s log pre p (In t) met le = grind (arith, nat_tests, same_stream_is)
@@ -48,7 +48,7 @@ needs pre kept (Out t) = dite (dec_lt (outs t pre) (ins t pre + ins t kept))
     (λ no. inr (λ s is. rw (same_stream_is s t is) (omega arith)))
 needs pre kept _ = inr (λ s is. absurd (cc is))
 
--- ---- a moment of an interleaving, and what is left behind it
+-- ---- a moment of an interleaving, and what is left after it
 module _ (log : List LogRow) (ends : HasEnds log) (now rest : List LogRow) (is : IsInterleaving log (now ++ rest)) where
   pub rest_of : (q : ℕ) → steps_of q now ++ steps_of q rest ≡ steps_of q log
   rest_of q = rw steps_of-append at (is.whole q)
@@ -113,7 +113,7 @@ module _ (log : List LogRow) (ends : HasEnds log) (p i : ℕ) where
         let b = count-append test (steps_of q pre) (steps_of q (x ∷ (through ++ after))) in
         let c = own-append test q (x ∷ []) (through ++ after) in let d = own-append test q through after in omega arith
 
-    -- x is of the process that alone has such steps
+    -- x is of the one process that has such steps
     is_owner : (test : Step → Bool) (owner : ℕ) → ((q : ℕ) → q ≢ owner → count_steps test (steps_of q log) ≡ 0)
         → test x.step ≡ true → x.process ≡ owner
     is_owner test owner only is = owner_is test owner x.process log (steps_of x.process pre) x.step
@@ -148,7 +148,7 @@ module _ (log : List LogRow) (ends : HasEnds log) (p i : ℕ) where
         met_now = rw now
             (are_met_both log [] pre (through ++ x ∷ after) (are_met_first log [] pre (x ∷ (through ++ after)) met) moved)
 
-        -- a row that is not needed goes behind the claim
+        -- a row that is not needed goes after the claim
         pub put_behind : IsSplit pre kept
         put_behind = record {
           before = record {

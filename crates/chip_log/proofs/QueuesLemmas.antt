@@ -5,7 +5,7 @@ use Rattle.chip_log.proofs.Names.{cond, suc, zero, map, set, replicate, get_or-s
 use Rattle.chip_log.proofs.Names.{length-map, map-set, get_or-replicate, length-replicate, dite, ℕ_discrete, dec_lt}
 use Rattle.chip_log.proofs.Names.{nat_tests, get_or-set_at, queue_of, total, Step}
 
--- what stands where after one of a list is set
+-- the elements after one of a list is set
 pub set_at : {A : Type 0} (xs : List A) (i j : ℕ) (x d : A) → i < length xs
     → get_or (set xs i x) j d ≡ cond (eqb i j) x (get_or xs j d)
 set_at xs i j x d l = dite (ℕ_discrete j i)
@@ -31,7 +31,7 @@ total_le [] p = omega (arith, ap length (get_or_past {X = List Step} [] p [] (om
 total_le (mine ∷ queues) zero = omega arith
 total_le (mine ∷ queues) (suc p) = let a = total_le queues p in omega arith
 
--- each element of such a list, and what is read behind it
+-- each element of such a list, and what is read after it
 pub all_same : {X : Type 0} (n p : ℕ) (x : X) → get_or (replicate n x) p x ≡ x
 all_same n p x = dite (dec_lt p n) (λ l. get_or-replicate n p x x l)
     (λ no. let many = length-replicate n x in get_or_past (replicate n x) p x (omega arith))

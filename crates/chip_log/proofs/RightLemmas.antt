@@ -18,7 +18,7 @@ use Rattle.chip_log.proofs.PlacesLemmas.{one_at, at_itself, at_is, IsRightBefore
 use Rattle.chip_log.specs.declared.verdict.Verdict.TheVariants as verdict
 use Rattle.chip_log.specs.declared.judged.LogEnd.TheVariants as end
 
--- ---- behind a right claim each claim of its process is right
+-- ---- after a right claim each claim of its process is right
 
 over_is : (step : Step) → is_over step ≡ true → step ≡ Over
 over_is step is = grind arith
@@ -28,7 +28,7 @@ over_first [] ys i less = absurd (omega arith)
 over_first (x ∷ xs) ys zero less = refl
 over_first (x ∷ xs) ys (suc i) less = over_first xs ys i (omega arith)
 
--- a list with a claim, and how many rows of its process stand before it
+-- a list with a claim, and the number of rows of its process before it
 abbrev HasOver : ℕ → List LogRow → ℕ → Type 0
 HasOver p xs i = (before : List LogRow) × (after : List LogRow) × (xs ≡ before ++ record { process = p; step = Over } ∷ after)
     × (length (steps_of p before) ≡ i)
@@ -114,7 +114,7 @@ module _ (log : List LogRow) (ends : HasEnds log) (w : Bool) where
   abbrev is_right : ClaimVerdict → Bool
   is_right claim = not (is_early claim.verdict)
 
-  -- no other verdict is on a right claim
+  -- a right claim has no other verdict
   right_here : (c : ClaimVerdict) → IsJudged w log c → (p i : ℕ) → IsRight log p i → is_at p i (claim_place c) ≡ true
       → is_early c.verdict ≡ false
   right_here c judged p i right at =
@@ -158,7 +158,7 @@ pub open_is_end : (log : List LogRow) (e : LogEnd) → NoneRight log → IsOpenE
 open_is_end log end.Claimed none is = absurd is
 open_is_end log _ none is = (none, is)
 
--- ---- what is judged of a claim at a place
+-- ---- the judgment of a claim at a place
 
 abbrev pub IsJudgedAs : Bool → List LogRow → Verdict → List PastRows → RowPlace → Type 0
 IsJudgedAs w log v past x = IsVerdict log x.process x.row v × AreShown (w && is_early v) log x.process x.row past

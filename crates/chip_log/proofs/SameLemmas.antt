@@ -1,5 +1,5 @@
 -- Serves Log.antt, Claims.antt, Judged.antt.
--- What is said of a log depends on the rows of each process alone.
+-- The judgment of a log depends only on the rows of each process.
 use Rattle.chip_log.proofs.Names.{◌≡◌, ℕ, Bool, true, false, List, [], ◌∷◌, ◌++◌, refl, sym, ◌∙◌}
 use Rattle.chip_log.proofs.Names.{All-weaker, ◌&&◌, IsPast, IsVerdict, IsSilent, IsBefore, IsRight, IsOpenEnd}
 use Rattle.chip_log.proofs.Names.{is_claim, is_early, IsJudged, NoneRight, IsEnd, control, IsJudgedLog}
@@ -17,7 +17,7 @@ SameRows log other = (p : ℕ) → steps_of p log ≡ steps_of p other
 
 -- ---- interleavings
 
--- logs whose processes begin as well
+-- logs whose processes begin alike
 module _ (log other : List LogRow) (begins : (p : ℕ) → begins_active (steps_of p log) ≡ begins_active (steps_of p other)) where
   pub active_as : (before : List LogRow) (p : ℕ) → is_active log before p ≡ is_active other before p
   active_as before p = rw (begins p)
@@ -79,7 +79,7 @@ module _ (log other : List LogRow) (same : SameRows log other) where
     least = λ q less. is.least q less ∙ same q;
   }
 
-  -- steps that one process alone has
+  -- steps that only one process has
   count_as : (test : Step → Bool) (q : ℕ) → ((p : ℕ) → (p ≡ q → ⊥) → count_steps test (steps_of p log) ≡ 0)
       → count_rows test log ≡ count_rows test other
   count_as test q only =

@@ -1,5 +1,5 @@
 -- Serves Claims.antt.
--- Once all is silent it stays so.
+-- Once a log is quiescent it stays so.
 use Rattle.chip_log.proofs.Names.{◌≡◌, ◌≢◌, ℕ, ◌≤◌, ◌<◌, Bool, true, false, List, [], ◌∷◌, ◌++◌, length, refl}
 use Rattle.chip_log.proofs.Names.{arith, cond, append-nil, append_assoc, length-append, ltb-true}
 use Rattle.chip_log.proofs.Names.{nil_from_length, dite, ℕ_discrete, dec_lt, basic, IsPast, IsSilent, IsBefore, IsRight}
@@ -18,14 +18,14 @@ module _ (log : List LogRow) (ends : HasEnds log) (p i : ℕ) (past : List LogRo
   abbrev claim : LogRow
   claim = record { process = p; step = Over }
 
-  -- what is left of the rows of q behind the least past
+  -- what is left of the rows of q after the causal past
   abbrev rest : ℕ → List Step
   rest q = steps_of q (claim ∷ is.here.after)
 
   rest_is : (q : ℕ) → steps_of q past ++ rest q ≡ steps_of q log
   rest_is q = rest_of log ends past (claim ∷ is.here.after) is.here.whole q
 
-  -- behind these rows no more is sent than in the least past, and a process that has all its rows of that is passive
+  -- after these rows no more is sent than in the causal past, and a process that has all its rows of that is passive
   pub record Calm (pre : List LogRow) : Type 0 where
     pub outs : (c : ℕ) → outs (basic c) pre ≤ outs (basic c) past
     pub passive : (q : ℕ) → length (steps_of q past) ≤ length (steps_of q pre) → is_active log pre q ≡ false
@@ -46,7 +46,7 @@ module _ (log : List LogRow) (ends : HasEnds log) (p i : ℕ) (past : List LogRo
     owner test o only is = owner_is test o q log (steps_of q pre) x.step (steps_of q later) only
         (rw (steps_own q x later refl) at (rest_of log ends pre (x ∷ later) before q)) is
 
-    -- not all rows of q in the least past were used: with x they begin it
+    -- not all rows of q in the causal past were used: with x they begin it
     module _ (less : length (steps_of q pre) < length (steps_of q past)) where
       within : length (steps_of q now) ≤ length (steps_of q past)
       within = rw (steps_push q pre x refl, length-append) (omega arith)
@@ -146,7 +146,7 @@ module _ (log : List LogRow) (ends : HasEnds log) (p i : ℕ) (past : List LogRo
       calm : Calm other
       calm = calm_through [] other refl (now_met log ends other left whole) at_start
 
--- so a claim with a silent least past is right
+-- so a claim with a quiescent causal past is right
 module _ (log : List LogRow) (ends : HasEnds log) (p i : ℕ) (past : List LogRow) (is : IsPast log p i past)
     (silent : IsSilent log past) where
   pub silent_is_right : IsRight log p i

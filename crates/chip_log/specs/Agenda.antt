@@ -1,8 +1,8 @@
--- Which processes are to be looked at.
+-- The processes to visit.
 use Rattle.std.specs.Prelude.{◌≡◌, ℕ, ◌<◌, length, All, Option, Some, None}
 use Rattle.chip_log.specs.declared.agenda.Agenda.TheInside.{Inside}
 
--- what an `Agenda` shows: of how many processes and channels it is, and how many processes are to be looked at
+-- what an `Agenda` shows: the numbers of its processes, its channels, and the processes to visit
 pub record AgendaState : Type 0 where
   pub processes : ℕ
   pub channels : ℕ
@@ -12,7 +12,7 @@ pub record AgendaState : Type 0 where
 abbrev pub state_of : Inside → AgendaState
 state_of a = record { processes = a.processes; channels = length a.basic.items; due = length a.due.items }
 
--- who waits, if anybody does, is below n
+-- the process that waits, if any, is below n
 abbrev pub IsWaiterBelow : ℕ → Option ℕ → Type 0
 IsWaiterBelow n None = Unit {0}
 IsWaiterBelow n (Some p) = p < n
@@ -24,7 +24,7 @@ pub record NamesProcesses (a : Inside) : Type 0 where
   pub basic : All (IsWaiterBelow a.processes) a.basic.items
   pub control : All (IsWaiterBelow a.processes) a.control.items
 
--- it is of as many as before
+-- its numbers of processes and channels are as before
 pub record IsSame (old new : AgendaState) : Type 0 where
   pub processes : new.processes ≡ old.processes
   pub channels : new.channels ≡ old.channels

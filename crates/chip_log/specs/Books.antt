@@ -1,4 +1,4 @@
--- What is known of the past of a claim.
+-- What is known of the causal past of a claim.
 use Rattle.std.specs.Prelude.{◌≡◌, ℕ, ◌+◌, ◌^◌, ◌<◌, ◌==◌, nat_lt, ◌||◌, Bool, false, if◌then◌else◌}
 use Rattle.std.specs.Prelude.{List, [], ◌∷◌, length, slice_index, slice_index_or, slice_set}
 use Rattle.chip_log.specs.declared.row.LogRow.{LogRow}
@@ -29,12 +29,12 @@ abbrev pub said_of : List Step → Said
 said_of [] = said.Unsaid
 said_of (step ∷ steps) = said_before step (said_of steps)
 
--- ---- a look at one more row
+-- ---- reading one more row
 
 abbrev pub one_if : Bool → ℕ
 one_if b = if b then 1 else 0
 
--- the step was not made yet
+-- the step is undone
 pub record Passes (step : Step) (old new : TallyState) : Type 0 where
   pub same : new.channels ≡ old.channels
   pub counts : (t : Stream) → one_if (is_out t step) + count new t ≡ one_if (is_in t step) + count old t

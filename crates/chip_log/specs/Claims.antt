@@ -11,16 +11,16 @@ use Rattle.chip_log.specs.declared.verdict.Verdict.TheVariants as verdict
 abbrev pub basic : ℕ → Stream
 basic c = record { channel = c; is_control = false }
 
--- no basic message is on its way behind these rows
+-- no basic message is in transit after these rows
 abbrev pub IsQuiet : List LogRow → Type 0
 IsQuiet before = (c : ℕ) → outs (basic c) before ≡ ins (basic c) before
 
--- no basic message is on its way, and no process is active
+-- no basic message is in transit, and no process is active
 pub record IsSilent (log before : List LogRow) : Type 0 where
   pub quiet : IsQuiet before
   pub passive : (p : ℕ) → is_active log before p ≡ false
 
--- these rows stand before step i of p, a claim, in some interleaving
+-- these rows come before step i of p, a claim, in some interleaving
 pub record IsBefore (log : List LogRow) (p i : ℕ) (before : List LogRow) : Type 0 where
   pub after : List LogRow
   pub whole : IsInterleaving log (before ++ record { process = p; step = Over } ∷ after)
@@ -32,26 +32,26 @@ pub record IsPast (log : List LogRow) (p i : ℕ) (before : List LogRow) : Type 
   pub least : (other : List LogRow) → IsBefore log p i other
       → (q : ℕ) → length (steps_of q before) ≤ length (steps_of q other)
 
--- the least message of the least channel with one on its way
+-- the least message of the least channel with one in transit
 pub record IsOnItsWay (before : List LogRow) (c k : ℕ) : Type 0 where
   pub next : ins (basic c) before ≡ k
   pub sent : k < outs (basic c) before
   pub least : (d : ℕ) → d < c → outs (basic d) before ≡ ins (basic d) before
 
--- nothing is on its way, and this is the least process that is active
+-- no message is in transit, and this is the least process that is active
 pub record IsBusy (log before : List LogRow) (q : ℕ) : Type 0 where
   pub quiet : IsQuiet before
   pub active : is_active log before q ≡ true
   pub least : (r : ℕ) → r < q → is_active log before r ≡ false
 
--- in each interleaving all is silent when the claim that is step i of p is made, and at each moment behind it
+-- in each interleaving the log is quiescent when the claim that is step i of p is made, and at each moment after it
 pub record IsRight (log : List LogRow) (p i : ℕ) : Type 0 where
   pub at : (before : List LogRow) → IsBefore log p i before → IsSilent log before
   pub behind : (before between after : List LogRow)
       → IsInterleaving log ((before ++ record { process = p; step = Over } ∷ between) ++ after)
       → length (steps_of p before) ≡ i → IsSilent log (before ++ record { process = p; step = Over } ∷ between)
 
--- a verdict on a claim: it is right; or in an interleaving with its least past this is left when it is made
+-- a verdict on a claim: it is right; or in an interleaving with its causal past this is left when it is made
 abbrev pub IsVerdict : List LogRow → ℕ → ℕ → Verdict → Type 0
 IsVerdict log p i verdict.Right = IsRight log p i
 IsVerdict log p i (verdict.OnItsWay c k) = (before : List LogRow) × IsPast log p i before × IsOnItsWay before c k

@@ -1,4 +1,4 @@
--- Logs that are cut off: the last rows of their processes are missing. What is judged of the rows that are used stays.
+-- Logs that are cut off: the last rows of their processes are missing. The judgment of the rows that are used stays.
 use Rattle.std.specs.Prelude.{◌≡◌, ℕ, Bool, true, List, ◌++◌}
 use Rattle.chip_log.specs.Log.{steps_of, begins_active, IsInterleaving, HasEnds}
 use Rattle.chip_log.specs.Order.{IsGreatest}
@@ -13,8 +13,8 @@ pub record IsCut (log cut : List LogRow) : Type 0 where
   pub own : (p : ℕ) → steps_of p cut ++ missing p ≡ steps_of p log
   pub begins : (p : ℕ) → begins_active (steps_of p cut) ≡ begins_active (steps_of p log)
 
--- what is judged of a claim, if only the rows of a cut log that are used at greatest progress are looked at, is judged of
--- it in each whole log with an interleaving
+-- the judgment of a claim, by the rows of a cut log that maximal progress uses, is its judgment in each whole log with
+-- an interleaving
 abbrev pub CutKeepsVerdicts : Type 0
 CutKeepsVerdicts = (with_past : Bool) (log cut used xs : List LogRow) (c : ClaimVerdict) → HasEnds log → IsCut log cut
     → IsGreatest cut used → IsInterleaving log xs → is_claim used c.process c.row ≡ true → IsJudged with_past used c

@@ -8,7 +8,7 @@ use Rattle.chip_log.specs.Judged.{is_claim, is_early, IsJudged, RowPlace, claim_
 
 -- ---- the first early claim
 
--- one row stands before another, by process, and by row in a process
+-- one row comes before another, by process, and by row in a process
 abbrev pub IsSooner : RowPlace → RowPlace → Type 0
 IsSooner x y = (x.process < y.process) ⊎ ((x.process ≡ y.process) × (x.row < y.row))
 

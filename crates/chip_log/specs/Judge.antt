@@ -1,4 +1,4 @@
--- What a judge looks for.
+-- What a judge computes.
 use Rattle.std.specs.Prelude.{◌≡◌, ℕ, ◌<◌, ◌≤◌, Bool, true, false, List, [], ◌∷◌, length, map, slice_index_or, All, AllPairs}
 use Rattle.std.specs.Prelude.{Option, Some, None, is_some}
 use Rattle.chip_log.specs.declared.row.LogRow.{LogRow}
@@ -25,16 +25,16 @@ use Rattle.chip_log.specs.Judged.{RowPlace, AreClaims, IsJudged, rows_for, claim
 abbrev pub stream_of : Bool → ℕ → Stream
 stream_of is_control c = record { channel = c; is_control = is_control }
 
--- no message of the first n channels is on its way, by the books
+-- no message of the first n channels is in transit, by the books
 abbrev pub NoWay : Bool → ℕ → Books → Type 0
 NoWay k n b = (c : ℕ) → c < n → count b.sent (stream_of k c) ≤ count b.taken (stream_of k c)
 
--- the least channel below n with one
+-- the least channel below n with a message in transit
 abbrev pub IsFirstWay : Bool → ℕ → Books → Option ℕ → Type 0
 IsFirstWay k n b None = NoWay k n b
 IsFirstWay k n b (Some c) = (c < n) × (count b.taken (stream_of k c) < count b.sent (stream_of k c)) × NoWay k c b
 
--- what a process begins with, if it has one more row
+-- how a process begins, if it has one more row
 abbrev pub first_step : Option Bool → Step → Option Bool
 first_step (Some begins) step = Some begins
 first_step None Active = Some true
@@ -65,7 +65,7 @@ IsFirstBusy n beginners b None = (q : ℕ) → q < n → is_busy beginners b q �
 IsFirstBusy n beginners b (Some q) =
     (q < n) × (is_busy beginners b q ≡ true) × ((r : ℕ) → r < q → is_busy beginners b r ≡ false)
 
--- what is on its way, or else active, behind the rows of these books, or `Right` if nothing is
+-- the message in transit, or else the active process, after the rows of these books, or `Right` if there is none
 abbrev pub IsLeftOver : Sizes → List (Option Bool) → Books → Verdict → Type 0
 IsLeftOver sizes beginners b verdict.Right =
     NoWay false sizes.channels b × IsFirstBusy sizes.processes beginners b None
@@ -87,7 +87,7 @@ pub record AreCounts (n : ℕ) (b : Books) (past : List PastRows) : Type 0 where
 abbrev pub place_at : ClaimPlace → RowPlace
 place_at claim = record { process = claim.process; row = claim.row }
 
--- where all claims of a log stand
+-- the places of all claims of a log
 pub record ArePlaces (log : List LogRow) (claims : List ClaimPlace) : Type 0 where
   pub each : All (IsPlace log) claims
   pub all : AreClaims log (map place_at claims)
@@ -105,6 +105,6 @@ pub record IsKnown (log : List LogRow) (claim earlier : ClaimPlace) : Type 0 whe
 
 -- ---- rows
 
--- whether a process has a row, by what the processes with rows begin with
+-- whether a process has a row, by how the processes with rows begin
 abbrev pub has_row_at : List (Option Bool) → ℕ → Bool
 has_row_at beginners p = is_some (slice_index_or beginners p None)

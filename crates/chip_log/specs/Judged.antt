@@ -49,7 +49,7 @@ pub record AreClaims (log : List LogRow) (places : List RowPlace) : Type 0 where
   pub once : (p i : ℕ) → count_by (is_at p i) places ≡ (if is_claim log p i then 1 else 0)
   pub sorted : AllPairs IsNoLater places
 
--- ---- the rows of a past
+-- ---- the rows of a causal past
 
 -- how many rows q has by a list
 abbrev pub rows_for : ℕ → List PastRows → ℕ
@@ -65,12 +65,12 @@ abbrev pub is_early : Verdict → Bool
 is_early verdict.Right = false
 is_early _ = true
 
--- the rows of the least past of step i of p, or none if they are not shown
+-- the rows of the causal past of step i of p, or none if they are not shown
 abbrev pub AreShown : Bool → List LogRow → ℕ → ℕ → List PastRows → Type 0
 AreShown true log p i past = (before : List LogRow) × IsPast log p i before × AreRowsOf before past
 AreShown false log p i past = past ≡ []
 
--- the verdict on a claim, and of an early one the rows of its least past if they are asked for
+-- the verdict on a claim, and the rows of the causal past of an early one, if asked for
 pub record IsJudged (with_past : Bool) (log : List LogRow) (c : ClaimVerdict) : Type 0 where
   pub verdict : IsVerdict log c.process c.row c.verdict
   pub past : AreShown (with_past && is_early c.verdict) log c.process c.row c.past.items
@@ -83,8 +83,8 @@ control c = record { channel = c; is_control = true }
 abbrev pub NoneRight : List LogRow → Type 0
 NoneRight log = (p i : ℕ) → is_claim log p i ≡ true → IsRight log p i → ⊥
 
--- behind all rows all is silent and each control message is got, or one is not; or a message is on its way, or else a
--- process is active
+-- after all rows the log is quiescent and each control message is got, or one is not; or a message is in transit, or
+-- else a process is active
 abbrev pub IsOpenEnd : List LogRow → LogEnd → Type 0
 IsOpenEnd log end.Claimed = ⊥
 IsOpenEnd log end.Missed = IsSilent log log × ((c : ℕ) → outs (control c) log ≡ ins (control c) log)
@@ -102,7 +102,7 @@ IsEnd log other = NoneRight log × IsOpenEnd log other
 abbrev pub claim_place : ClaimVerdict → RowPlace
 claim_place c = record { process = c.process; row = c.row }
 
--- what is told of a claim
+-- the judgment of a claim
 abbrev pub told_of : ClaimVerdict → RowPlace × Verdict × List PastRows
 told_of c = (claim_place c, c.verdict, c.past.items)
 

@@ -11,12 +11,12 @@ use Rattle.chip_log.specs.declared.judged.JudgedLog.{JudgedLog}
 use Rattle.chip_log.specs.declared.verdict.Verdict.{Verdict}
 use Rattle.chip_log.specs.declared.verdict.Verdict.TheVariants as verdict
 
--- each claim that stands in an interleaving has a least past
+-- each claim of an interleaving has a causal past
 abbrev pub LeastPast : Type 0
 LeastPast = (log : List LogRow) (p i : ℕ) (before : List LogRow) → HasEnds log → IsBefore log p i before
     → (past : List LogRow) × IsPast log p i past
 
--- a claim is right if all is silent in its least past
+-- a claim is right if the log is quiescent after its causal past
 abbrev pub SilentPast : Type 0
 SilentPast = (log : List LogRow) (p i : ℕ) (past : List LogRow) → HasEnds log → IsPast log p i past
     → IsSilent log past → IsVerdict log p i verdict.Right
@@ -25,7 +25,7 @@ SilentPast = (log : List LogRow) (p i : ℕ) (past : List LogRow) → HasEnds lo
 abbrev pub OneVerdict : Type 0
 OneVerdict = (log : List LogRow) (p i : ℕ) (v w : Verdict) → HasEnds log → IsVerdict log p i v → IsVerdict log p i w → v ≡ w
 
--- no progress has more rows of a process than greatest progress
+-- no progress has more rows of a process than maximal progress
 abbrev pub MostProgress : Type 0
 MostProgress = (log used other : List LogRow) → HasEnds log → IsGreatest log used → IsProgress log other
     → (p : ℕ) → length (steps_of p other) ≤ length (steps_of p used)
@@ -34,27 +34,27 @@ MostProgress = (log used other : List LogRow) → HasEnds log → IsGreatest log
 abbrev pub StuckOrder : Type 0
 StuckOrder = (log xs : List LogRow) (p i : ℕ) → HasEnds log → IsStuck log p i → IsInterleaving log xs → ⊥
 
--- and is stuck in one place
+-- a log is stuck in one place
 abbrev pub OnePlace : Type 0
 OnePlace = (log : List LogRow) (p i q j : ℕ) → HasEnds log → IsStuck log p i → IsStuck log q j → (p ≡ q) × (i ≡ j)
 
--- what is judged does not depend on how the rows of processes are mixed
+-- the judgment does not depend on how the rows of processes are mixed
 abbrev pub SameJudgment : Type 0
 SameJudgment = (with_past : Bool) (log other : List LogRow) (judged : JudgedLog) → HasEnds log
     → ((p : ℕ) → steps_of p log ≡ steps_of p other) → IsJudgedLog with_past log judged → IsJudgedLog with_past other judged
 
--- a log has one judgment: the same is told of its claims, in one order, and of its end
+-- a log has one judgment: of its claims, in one order, and of its end
 abbrev pub OneJudgment : Type 0
 OneJudgment = (with_past : Bool) (log : List LogRow) (one two : JudgedLog) → HasEnds log
     → IsJudgedLog with_past log one → IsJudgedLog with_past log two
     → (map told_of one.claims.items ≡ map told_of two.claims.items) × (one.end ≡ two.end)
 
--- nor does its first early claim
+-- the first early claim of a log does not depend on how the rows of processes are mixed
 abbrev pub SameFirst : Type 0
 SameFirst = (with_past : Bool) (log other : List LogRow) (found : Option ClaimVerdict)
     → ((p : ℕ) → steps_of p log ≡ steps_of p other) → IsFirstEarly with_past log found → IsFirstEarly with_past other found
 
--- and there is one
+-- a log has one first early claim, with one judgment
 abbrev pub OneFirst : Type 0
 OneFirst = (with_past : Bool) (log : List LogRow) (one two : Option ClaimVerdict) → HasEnds log
     → IsFirstEarly with_past log one → IsFirstEarly with_past log two → option_map told_of one ≡ option_map told_of two
@@ -64,6 +64,6 @@ abbrev pub OneAbsent : Type 0
 OneAbsent = (log other : List LogRow) (n : ℕ) (one two : Option ℕ) → ((p : ℕ) → steps_of p log ≡ steps_of p other)
     → IsFirstAbsent log n one → IsFirstAbsent other n two → one ≡ two
 
--- nor where it is stuck
+-- the place where a log is stuck does not depend on how its rows are mixed
 abbrev pub SameStuck : Type 0
 SameStuck = (log other : List LogRow) (p i : ℕ) → ((q : ℕ) → steps_of q log ≡ steps_of q other) → IsStuck log p i → IsStuck other p i

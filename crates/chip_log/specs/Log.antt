@@ -37,7 +37,7 @@ sends s steps = count_steps (is_out s) steps
 abbrev pub gets : Stream → List Step → ℕ
 gets s steps = count_steps (is_in s) steps
 
--- of these rows, of whatever processes
+-- the same for rows, of whatever processes
 abbrev pub count_rows : (Step → Bool) → List LogRow → ℕ
 count_rows test xs = count_steps test (map (λ x. x.step) xs)
 
@@ -49,7 +49,7 @@ ins s xs = count_rows (is_in s) xs
 
 -- ---- activity
 
--- whether a process is active after these steps, that was so or not before them: a basic message makes it active
+-- whether a process is active after these steps, which was so or not before them: a basic message makes it active
 abbrev pub active_after : Bool → List Step → Bool
 active_after was [] = was
 active_after was (In s ∷ steps) = active_after (if s.is_control then was else true) steps
@@ -61,7 +61,7 @@ abbrev pub begins_active : List Step → Bool
 begins_active (Active ∷ steps) = true
 begins_active _ = false
 
--- whether p is active behind these rows of a log
+-- whether p is active after these rows of a log
 abbrev pub is_active : List LogRow → List LogRow → ℕ → Bool
 is_active log before p = active_after (begins_active (steps_of p log)) (steps_of p before)
 
@@ -74,12 +74,12 @@ is_enabled log before p (Out s) = if s.is_control then true else is_active log b
 is_enabled log before p (In s) = nat_lt (ins s before) (outs s before)
 is_enabled log before p _ = true
 
--- each row is enabled where it stands, after the rows before it
+-- each row is enabled at its place, after the rows before it
 abbrev pub AreEnabled : List LogRow → List LogRow → List LogRow → Type 0
 AreEnabled log before [] = Unit {0}
 AreEnabled log before (x ∷ xs) = (is_enabled log before x.process x.step ≡ true) × AreEnabled log (before ++ x ∷ []) xs
 
--- all rows of a log in one list: those of each process in their order, and each enabled where it stands
+-- all rows of a log in one list: those of each process in their order, and each enabled at its place
 pub record IsInterleaving (log xs : List LogRow) : Type 0 where
   pub whole : (p : ℕ) → steps_of p xs ≡ steps_of p log
   pub met : AreEnabled log [] xs

@@ -24,14 +24,14 @@ abbrev pub HearIsMissing : (ℕ → ℕ → Bool) → List LogRow → Stream →
 HearIsMissing stays log s n = (p : ℕ) (before behind : List Step) → before ++ In s ∷ behind ≡ steps_of p log
     → gets s before ≡ n → stays p (length before) ≡ false
 
--- what may be missing behind these steps of its process: a receive, a hear, a Passive, a claim, and a tell whose hear is
+-- what may be missing after these steps of its process: a receive, a hear, a Passive, a claim, and a tell whose hear is
 -- missing too
 abbrev pub MayMiss : (ℕ → ℕ → Bool) → List LogRow → List Step → Step → Type 0
 MayMiss stays log before (Out s) = (s.is_control ≡ true) × HearIsMissing stays log s (sends s before)
 MayMiss stays log before Active = ⊥
 MayMiss stays log before _ = Unit {0}
 
--- `left` is the log without the steps that don't stay, and in it too each basic message is sent while active, as it is in
+-- `left` is the log without the steps that do not stay, in which each basic message is sent while active, as it is in
 -- every log with an interleaving
 pub record IsWithout (stays : ℕ → ℕ → Bool) (log left : List LogRow) : Type 0 where
   pub rows : (p : ℕ) → steps_of p left ≡ staying (stays p) 0 (steps_of p log)

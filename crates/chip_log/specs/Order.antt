@@ -27,7 +27,7 @@ pub record IsWellFormed (sizes : Sizes) (log : List LogRow) : Type 0 where
 
 -- ---- progress
 
--- rows that were done: the first ones of each process, each enabled where it stands
+-- rows that were done: the first ones of each process, each enabled at its place
 pub record IsProgress (log used : List LogRow) : Type 0 where
   pub left : ℕ → List Step
   pub own : (p : ℕ) → steps_of p used ++ left p ≡ steps_of p log
@@ -38,7 +38,7 @@ pub record IsGreatest (log used : List LogRow) : Type 0 where
   pub progress : IsProgress log used
   pub stuck : (p : ℕ) (step : Step) (later : List Step) → progress.left p ≡ step ∷ later → is_enabled log used p step ≡ false
 
--- at greatest progress p is the least process with a row left, and i rows of it were done
+-- after maximal progress p is the least process with a row left, and i rows of it were done
 pub record IsStuck (log : List LogRow) (p i : ℕ) : Type 0 where
   pub used : List LogRow
   pub greatest : IsGreatest log used

@@ -1,4 +1,4 @@
--- Rows on their way into an order.
+-- Rows that are put into an order.
 use Rattle.std.specs.Prelude.{◌≡◌, ℕ, ◌+◌, ◌*◌, ◌^◌, ◌<◌, ◌≤◌, nat_lt, Bool, true, false, List, [], ◌∷◌, ◌++◌, length, All}
 use Rattle.std.specs.Prelude.{slice_set, drop, Option, Some, None}
 use Rattle.chip_log.specs.Log.{steps_of, begins_active, AreEnabled}
@@ -50,12 +50,12 @@ pub record MakesNextStep (p : ℕ) (step : Step) (old new : Order) : Type 0 wher
   pub channels : new.agenda.channels ≡ old.agenda.channels
   pub due : new.agenda.due ≤ old.agenda.due + 2
 
--- the rows done of a log, in which `unread` were not read, are those that begin each process's, each enabled
+-- the rows done of a log, of which `unread` were not read, are the first ones of each process, each enabled
 pub record IsOrderKept (log unread : List LogRow) (o : Order) : Type 0 where
   pub own : (p : ℕ) → steps_of p o.done.items ++ (queue_of o.queues p ++ steps_of p unread) ≡ steps_of p log
   pub met : AreEnabled log [] o.done.items
 
--- what can make the agenda longer, and what is on it
+-- what can make the agenda longer, and its length
 abbrev pub order_work_left : Order → ℕ
 order_work_left o = 2 * total o.queues + o.agenda.due
 

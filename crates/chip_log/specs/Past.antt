@@ -1,4 +1,4 @@
--- What is known of the least past of a claim.
+-- What is known of the causal past of a claim.
 use Rattle.std.specs.Prelude.{◌≡◌, ℕ, ◌+◌, ◌^◌, ◌<◌, List, [], length, take, slice_get, Some}
 use Rattle.std.specs.Prelude.{All}
 use Rattle.chip_log.specs.declared.row.LogRow.{LogRow}
@@ -12,7 +12,7 @@ use Rattle.chip_log.specs.Claims.{IsPast}
 use Rattle.chip_log.specs.Tally.{TallyState, count}
 use Rattle.chip_log.specs.Books.{said_of, said_at, rows_at, IsOf}
 
--- a log that is an interleaving as it stands
+-- a log that is an interleaving of itself
 pub record IsLog (log : List LogRow) : Type 0 where
   pub ends : HasEnds log
   pub met : AreEnabled log [] log
@@ -25,13 +25,13 @@ pub record FitsRow (sizes : Sizes) (x : LogRow) : Type 0 where
 abbrev pub Fits : Sizes → List LogRow → Type 0
 Fits sizes log = All (FitsRow sizes) log
 
--- it is one, of these sizes, with fewer rows than a count has room for
+-- such a log, of these sizes, with fewer rows than a count can have
 pub record IsInOrder (sizes : Sizes) (rows : List LogRow) : Type 0 where
   pub log : IsLog rows
   pub fits : Fits sizes rows
   pub few : length rows < 2 ^ 32
 
--- a claim stands at this place
+-- a claim is at this place
 pub record IsPlace (log : List LogRow) (claim : ClaimPlace) : Type 0 where
   pub over : slice_get log claim.at ≡ Some (record { process = claim.process; step = Over })
   pub row : length (steps_of claim.process (take claim.at log)) ≡ claim.row
@@ -44,7 +44,7 @@ pub record AreSized (sizes : Sizes) (b : Books) : Type 0 where
   pub taken : b.taken.channels ≡ sizes.channels
   pub sent : b.sent.channels ≡ sizes.channels
 
--- messages on their way behind these rows
+-- messages in transit after these rows
 abbrev pub AreInFlight : List LogRow → TallyState → Type 0
 AreInFlight pre flight = (s : Stream) → count flight s + ins s pre ≡ outs s pre
 
@@ -55,12 +55,12 @@ pub record AreKept (kept : List LogRow) (b : Books) : Type 0 where
   pub rows : (q : ℕ) → rows_at b q ≡ length (steps_of q kept)
   pub said : (q : ℕ) → said_at b q ≡ said_of (steps_of q kept)
 
--- the books of the rows `kept` of the past, where `pre` were not looked at
+-- the books of the rows `kept` of the past, where `pre` were not read
 pub record AreBooksOf (pre kept : List LogRow) (b : Books) : Type 0 where
   pub flight : AreInFlight pre b.flight
   pub keeps : AreKept kept b
 
--- the books of the least past of a claim
+-- the books of the causal past of a claim
 pub record IsPastOf (log : List LogRow) (sizes : Sizes) (claim : ClaimPlace) (b : Books) : Type 0 where
   pub sized : AreSized sizes b
   pub past : List LogRow

@@ -20,7 +20,7 @@ HasBoth a = length a.control.items ≡ length a.basic.items
 abbrev pub count : TallyState → Stream → ℕ
 count t s = slice_index (if s.is_control then t.control else t.basic) s.channel
 
--- a stream has one more, or one fewer, and the others as many as before
+-- a stream has one more, or one fewer, and the others are unchanged
 pub record IsMore (s : Stream) (old new : TallyState) : Type 0 where
   pub same : new.channels ≡ old.channels
   pub counts : (t : Stream) → count new t ≡ (if same_stream s t then 1 else 0) + count old t

@@ -15,7 +15,7 @@ pub record WorkedLog : Type 0 where
   pub busy : is_active begins begins 1 ≡ true
   pub idle : is_active begins begins 0 ≡ false
 
--- a log that is cut behind its first row says that process 0 begins active, and one without that row does not
+-- a log that is cut after its first row says that process 0 begins active, and one without that row does not
 pub record WorkedCut : Type 0 where
   pub whole : begins_active (steps_of 0 begins) ≡ true
   pub first : begins_active (steps_of 0 (record { process = 0; step = Active } ∷ [])) ≡ true

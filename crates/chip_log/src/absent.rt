@@ -10,7 +10,7 @@ use crate::past::Sizes;
 use crate::row::LogRow;
 use std::alloc::{AllocError, Global};
 
-/// The least of the first `expected` processes that has no row, if there is one.
+/// The least of the first `expected` processes without a row, if there is one.
 pub fn first_absent(
     alloc: Global,
     sizes: Sizes,
@@ -29,7 +29,7 @@ pub fn first_absent(
     Ok(None)
 }
 
-/// Whether a process has a row, by what the processes with rows begin with.
+/// Whether a process has a row, by the first rows of the processes.
 fn has_row(beginners: &[Option<bool>], process: u64) -> bool
     ensures { result ≡ has_row_at beginners.now process }
 {

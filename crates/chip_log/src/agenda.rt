@@ -3,8 +3,8 @@ use crate::row::Stream;
 use std::alloc::{AllocError, Global};
 use std::marker::Model;
 
-/// The processes that are to be visited, and a process of each stream, which is to be visited when somebody asks for it: the
-/// one that waits for a message there, so that it is visited again only when one came; or the one that sends there.
+/// The processes to visit, and for each stream a process that `wake` adds to them: the one that waits for a message
+/// there, so that it is visited again only after one came; or the one that sends there.
 #[derive(Drop)]
 pub(crate) struct Agenda {
     processes: u32,
@@ -27,7 +27,7 @@ impl Agenda {
     ghost use Rattle.std.specs.Prelude.{◌≡◌, ◌+◌, ◌<◌, ◌≤◌, IfOk, MatchOption};
     ghost use Rattle.chip_log.specs.Agenda.{IsSame};
 
-    /// Nothing is to be looked at.
+    /// No process to visit.
     pub(crate) fn new(alloc: Global, sizes: Sizes) -> Result<Agenda, AllocError>
         ensures processes { IfOk result (λ agenda. agenda.processes ≡ sizes.processes) }
         ensures channels { IfOk result (λ agenda. agenda.channels ≡ sizes.channels) }
@@ -41,7 +41,7 @@ impl Agenda {
         })
     }
 
-    /// A process is to be looked at.
+    /// Adds a process to visit.
     pub(crate) fn add(&mut self, process: u32) -> Result<(), AllocError>
         requires { process < self.old.processes }
         ensures same { IsSame self.old self.new }
@@ -51,7 +51,7 @@ impl Agenda {
         Ok(())
     }
 
-    /// A process to look at, which is off the agenda with that.
+    /// Removes a process to visit and returns it.
     pub(crate) fn next(&mut self) -> Option<u32>
         ensures same { IsSame self.old self.new }
         ensures cases { MatchOption result (self.new.due ≡ self.old.due)
@@ -60,7 +60,7 @@ impl Agenda {
         self.due.pop()
     }
 
-    /// This is the process of this stream.
+    /// Notes the process of a stream.
     pub(crate) fn note(&mut self, stream: Stream, process: u32)
         requires is_process { process < self.old.processes }
         requires is_stream { stream.channel < self.old.channels }
@@ -73,7 +73,7 @@ impl Agenda {
         }
     }
 
-    /// The process of this stream, if there is one, is to be visited.
+    /// Adds the process of this stream, if there is one.
     pub(crate) fn wake(&mut self, stream: Stream) -> Result<(), AllocError>
         requires { stream.channel < self.old.channels }
         ensures same { IsSame self.old self.new }

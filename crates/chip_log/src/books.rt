@@ -1,4 +1,4 @@
-//! What is known of the past of a claim, while the rows before it are looked at from the last to the first.
+//! What is known of the causal past of a claim, while the rows before it are read from the last to the first.
 
 ghost use Rattle.std.specs.Prelude.{◌≡◌, ◌+◌, ◌^◌, ◌<◌, ◌||◌, ◌==◌, true, [], length, nat_lt, IfOk};
 ghost use Rattle.chip_log.specs.declared.row.Stream.{Stream};
@@ -16,14 +16,14 @@ use std::alloc::{AllocError, Global};
 /// Whether a process is active, as its rows in the past say.
 #[derive(Clone, Copy)]
 pub(crate) enum Said {
-    /// Nothing.
+    /// They do not say.
     Unsaid,
     Passive,
     Active,
 }
 
 impl Said {
-    /// With one earlier row.
+    /// The same with one earlier row.
     fn before(self, step: Step) -> Said
         ensures { result ≡ said_before step self }
     {
@@ -44,13 +44,13 @@ impl Said {
     }
 }
 
-/// Of a claim, and of the rows that were looked at so far.
+/// The books of a claim, after the rows read so far.
 #[derive(Drop)]
 pub(crate) struct Books {
     pub(crate) claimer: u32,
-    /// How many messages of each stream are on their way before these rows.
+    /// How many messages of each stream are in transit before these rows.
     pub(crate) flight: Tally,
-    /// How many are got, and sent, by rows in the past.
+    /// How many messages rows in the past get, and send.
     pub(crate) taken: Tally,
     pub(crate) sent: Tally,
     /// How many rows of each process are in the past, and what they say.
@@ -59,7 +59,7 @@ pub(crate) struct Books {
 }
 
 impl Books {
-    /// No row was looked at.
+    /// The books before any row is read.
     pub(crate) fn new(alloc: Global, sizes: Sizes, claimer: u32) -> Result<Books, AllocError>
         ensures claimer { IfOk result (λ books. books.claimer ≡ claimer) }
         ensures sized { IfOk result (AreSized sizes) }
@@ -75,7 +75,7 @@ impl Books {
         })
     }
 
-    /// A row before the claim: its step is made.
+    /// Makes the step of a row before the claim.
     pub(crate) fn make(&mut self, step: Step)
         requires channel { IsOf self.old.flight.channels step }
         requires room { HasMakeRoom step self.old.flight }
@@ -93,7 +93,7 @@ impl Books {
         }
     }
 
-    /// Looks at one more row.
+    /// Reads one more row.
     pub(crate) fn look(&mut self, row: LogRow)
         requires { HasRoomForRow row self.old }
         ensures passes { Passes row.step self.old.flight self.new.flight }
@@ -146,7 +146,7 @@ impl Books {
     }
 }
 
-/// The step was not made yet.
+/// Undoes the step in the messages in transit.
 fn pass(flight: &mut Tally, step: Step)
     requires channel { IsOf flight.old.channels step }
     requires room { HasFlightRoom step flight.old }

@@ -1,4 +1,4 @@
-//! Where the claims of an ordered log stand.
+//! The places of the claims in an ordered log.
 
 ghost use Rattle.std.specs.Prelude.{◌^◌, ◌<◌, length, IfOk};
 ghost use Rattle.chip_log.specs.Past.{Fits};
@@ -27,7 +27,7 @@ pub(crate) fn claims_of(
     Ok(claims)
 }
 
-/// All claims, as they stand.
+/// All claims, in the order of the rows.
 fn found(alloc: Global, sizes: Sizes, rows: &[LogRow]) -> Result<Vec<ClaimPlace>, AllocError>
     requires fits { Fits sizes rows.now }
     requires few { length rows.now < 2 ^ 32 }

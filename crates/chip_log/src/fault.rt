@@ -1,9 +1,9 @@
 use std::alloc::AllocError;
 
-/// Why the rows of a log were not put in an order in which each is met.
+/// Why the rows of a log were not put in an order in which each is enabled.
 #[derive(Clone, Copy, PartialEq, Eq)]
 pub enum OrderFault {
-    /// There is no such order. At greatest progress this is the least process with a row left, and that row gets a
+    /// There is no such order. This is the least process with a row left after maximal progress; that row gets a
     /// message that is not there.
     Stuck {
         process: u32,

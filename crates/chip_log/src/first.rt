@@ -15,12 +15,12 @@ use crate::row::LogRow;
 use crate::watch::ClaimWatch;
 use std::alloc::{AllocError, Global};
 
-/// The first early claim of a log, by process and row, if there is one. No claim behind it is judged.
+/// Finds the first early claim of a log, by process and row, if there is one. No claim after it is judged.
 ///
-/// Its time is linear in the rows, the processes and the channels, and so again for each process up to that of the
-/// claim. With `with_past` the claim says what is in its least past.
+/// The time is linear in the rows, the processes and the channels, once more for each process up to that of the claim.
+/// With `with_past` the rows in the claim's causal past are counted.
 ///
-/// It fails exactly if the rows have no order in which each is met, or if memory runs out.
+/// It fails exactly if the rows have no order in which each is enabled, or if memory runs out.
 pub fn first_early<W: ClaimWatch>(
     alloc: Global,
     sizes: Sizes,

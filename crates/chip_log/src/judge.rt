@@ -22,8 +22,8 @@ use std::alloc::{AllocError, Global};
 
 /// The verdicts on all claims of a log, and its end.
 ///
-/// The time is linear in the rows, the processes and the channels. As much is added for each early claim, and for the
-/// first right claim of each process. With `with_past` the rows in the causal past of each early claim are counted.
+/// The time is linear in the rows, the processes and the channels, once more for each early claim and for the first
+/// right claim of each process. With `with_past` the rows in the causal past of each early claim are counted.
 ///
 /// It fails exactly if the rows have no order in which each is enabled, or if memory runs out.
 pub fn judge_log<W: ClaimWatch>(
@@ -144,7 +144,7 @@ fn judge_claim(
     })
 }
 
-/// How many rows each process has in the causal past of these books, or nothing if that is not asked for.
+/// How many rows each process has in the causal past of these books, or nothing if not asked.
 fn counts_of(
     alloc: Global,
     books: &Books,
@@ -197,7 +197,7 @@ fn open_end(
     }
 }
 
-/// What is left after the rows of these books: a basic message in transit, or else an active process, or else nothing. That
+/// What is left after the rows of these books: a basic message in transit, else an active process, else nothing, which
 /// is `Right`.
 fn left_of(books: &Books, beginners: &[Option<bool>], sizes: Sizes) -> Verdict
     requires sized { AreSized sizes books.now }
@@ -262,7 +262,7 @@ fn is_busy(said: Said, begins: Option<bool>) -> bool
     }
 }
 
-/// Of each process whether it begins active, and `None` if it has no row.
+/// Of each process whether it begins active; `None` if it has no row.
 pub(crate) fn beginners(
     alloc: Global,
     sizes: Sizes,

@@ -14,8 +14,8 @@ pub struct ClaimVerdict {
     /// The place of the claim among the rows of its process, from 0.
     pub row: u64,
     pub verdict: Verdict,
-    /// If the claim is early and the past is asked for: how many rows each process has in its least past, by process.
-    /// A process without a row there is left out.
+    /// The rows of each process in the causal past of an early claim, by process, if asked for. A process without a row
+    /// there is left out.
     pub past: Vec<PastRows>,
 }
 
@@ -24,13 +24,13 @@ pub struct ClaimVerdict {
 pub enum LogEnd {
     /// A claim is right.
     Claimed,
-    /// No claim is right, though behind all rows all is silent and each control message is got.
+    /// No claim is right, though after all rows the log is quiescent and each control message is got.
     Missed,
-    /// No claim is right. All is silent, but a control message is not got: the log may end too soon.
+    /// No claim is right. The log is quiescent, but a control message is not got: the log may end too soon.
     Unclaimed,
-    /// No claim is right, and behind all rows this message is on its way. Messages of a channel count from 0.
+    /// No claim is right, and after all rows this message is in transit. Messages of a channel count from 0.
     OnItsWay { channel: u32, message: u64 },
-    /// No claim is right. Behind all rows nothing is on its way, and this process is active.
+    /// No claim is right. After all rows no message is in transit, and this process is active.
     Active { process: u32 },
 }
 

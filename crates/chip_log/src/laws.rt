@@ -1,20 +1,20 @@
-//! The laws of logs.
+//! The laws of logs: functions without code, whose contracts are the laws.
 
 ghost use Rattle.chip_log.specs.Laws.{LeastPast, MostProgress, OneAbsent, OneFirst, OneJudgment, OnePlace, OneVerdict};
 ghost use Rattle.chip_log.specs.Laws.{SameFirst, SameJudgment, SameStuck, SilentPast, StuckOrder};
 ghost use Rattle.chip_log.specs.Worked.{WorkedLog};
 
-/// Who is active in a small log, by the definitions.
+/// Which processes are active in a small log, by the definitions.
 pub fn worked()
     ensures { WorkedLog }
 {}
 
-/// Each claim that stands in an interleaving has a least past.
+/// Each claim of an interleaving has a causal past.
 pub fn least_past()
     ensures { LeastPast }
 {}
 
-/// A claim is right if all is silent in its least past.
+/// A claim is right if the log is quiescent after its causal past.
 pub fn silent_past()
     ensures { SilentPast }
 {}
@@ -24,7 +24,7 @@ pub fn one_verdict()
     ensures { OneVerdict }
 {}
 
-/// No progress has more rows of a process than greatest progress.
+/// No progress has more rows of a process than maximal progress.
 pub fn most_progress()
     ensures { MostProgress }
 {}
@@ -39,12 +39,12 @@ pub fn one_place()
     ensures { OnePlace }
 {}
 
-/// What is judged does not depend on how the rows of processes are mixed.
+/// The judgment does not depend on how the rows of processes are mixed.
 pub fn same_judgment()
     ensures { SameJudgment }
 {}
 
-/// A log has one judgment: the same is told of its claims, in one order, and of its end.
+/// A log has one judgment: of its claims, in one order, and of its end.
 pub fn one_judgment()
     ensures { OneJudgment }
 {}
@@ -54,7 +54,7 @@ pub fn same_first()
     ensures { SameFirst }
 {}
 
-/// A log has one first early claim: the same is told of it.
+/// A log has one first early claim, with one judgment.
 pub fn one_first()
     ensures { OneFirst }
 {}

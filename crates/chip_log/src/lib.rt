@@ -1,4 +1,4 @@
-//! Logs of a distributed program, and whether its claims that it is over are right.
+//! Logs of a distributed program, and whether its claims "the computation is over" are right.
 #![tactic(auto)]
 
 pub use absent::first_absent;

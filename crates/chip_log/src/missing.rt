@@ -12,7 +12,7 @@ pub fn right_without_rows()
     ensures { RightWithoutRows }
 {}
 
-/// In a log with an interleaving each basic message is sent while active.
+/// In a log with an interleaving each basic message is sent by an active process.
 pub fn sent_while_active()
     ensures { SentWhileActive }
 {}

@@ -64,7 +64,7 @@ impl Order {
         }
     }
 
-    /// Makes the next step of a process. It comes onto the agenda, and so does a process that waits for what it sends.
+    /// Makes the next step of a process. Adds to the agenda the process, and one that waits for what it sends.
     fn make(&mut self, sizes: Sizes, process: u32, step: Step) -> Result<(), AllocError>
         requires ready { IsReady sizes self.old }
         requires process { process < sizes.processes }
@@ -131,8 +131,8 @@ impl Order {
 
     /// Makes steps until no next step is enabled.
     ///
-    /// The agenda only saves time: no contract says that it has each process whose next step is enabled. So all processes
-    /// are visited once more when it is empty.
+    /// Not proved: that the agenda, which only saves time, has each process whose next step is enabled. So all
+    /// processes are visited once more when it is empty.
     fn settle(&mut self, sizes: Sizes) -> Result<(), AllocError>
         requires { IsReady sizes self.old }
         ensures goes_on { IfOk result (λ _. OrderGoesOn sizes self.old self.new) }

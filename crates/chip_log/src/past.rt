@@ -1,4 +1,4 @@
-//! The least past of a claim.
+//! The causal past of a claim.
 
 ghost use Rattle.std.specs.Prelude.{◌≡◌, ◌^◌, ◌<◌, ◌≤◌, [], length, take, IfOk};
 ghost use Rattle.chip_log.specs.Past.{IsInOrder, Fits, IsPlace, IsPastOf, AreSized, AreBooksOf, AreKept};
@@ -7,14 +7,14 @@ use crate::books::Books;
 use crate::row::LogRow;
 use std::alloc::{AllocError, Global};
 
-/// How many processes and channels a log has room for.
+/// The numbers of processes and channels of a log.
 #[derive(Clone, Copy)]
 pub struct Sizes {
     pub processes: u32,
     pub channels: u32,
 }
 
-/// Where a claim of an ordered log stands.
+/// The place of a claim in an ordered log.
 #[derive(Clone, Copy)]
 pub(crate) struct ClaimPlace {
     pub(crate) process: u32,
@@ -24,7 +24,7 @@ pub(crate) struct ClaimPlace {
     pub(crate) at: usize,
 }
 
-/// What is known of the least past of a claim.
+/// The books of the causal past of a claim.
 pub(crate) fn past_of(
     alloc: Global,
     sizes: Sizes,
@@ -58,7 +58,7 @@ fn make_all(books: &mut Books, sizes: Sizes, rows: &[LogRow], at: usize)
     }
 }
 
-/// Looks at all rows before a claim, from the last to the first.
+/// Reads all rows before a claim, from the last to the first.
 fn look_at_all(books: &mut Books, sizes: Sizes, rows: &[LogRow], claim: ClaimPlace)
     requires order { IsInOrder sizes rows.now }
     requires claim { IsPlace rows.now claim }
@@ -74,7 +74,7 @@ fn look_at_all(books: &mut Books, sizes: Sizes, rows: &[LogRow], claim: ClaimPla
     }
 }
 
-/// What is known of all rows of a log.
+/// The books of all rows of a log.
 pub(crate) fn books_of_all(
     alloc: Global,
     sizes: Sizes,

@@ -23,7 +23,7 @@ impl Queues {
     ghost use Rattle.std.specs.Prelude.{◌≡◌, ◌+◌, ◌<◌, ◌++◌, ◌∷◌, [], length, replicate, slice_set, drop, IfOk};
     ghost use Rattle.chip_log.specs.Queues.{queue_of, step_in_front};
 
-    /// Nothing is read of `processes` processes.
+    /// Empty queues of `processes` processes.
     pub(crate) fn new(alloc: Global, processes: u32) -> Result<Queues, AllocError>
         ensures { IfOk result (λ queues. queues ≡ replicate processes []) }
     {
@@ -34,7 +34,7 @@ impl Queues {
         Ok(Queues { steps })
     }
 
-    /// Reads one more step of a process.
+    /// Adds one more step of a process.
     pub(crate) fn push(&mut self, process: u32, step: Step) -> Result<(), AllocError>
         requires { process < length self.old }
         ensures { IfOk result (λ _. self.new ≡ slice_set self.old process (queue_of self.old process ++ step ∷ [])) }
@@ -52,7 +52,7 @@ impl Queues {
         self.steps[process as usize].front().copied()
     }
 
-    /// The next step of a process is done.
+    /// Removes the next step of a process, which is done.
     pub(crate) fn pop(&mut self, process: u32)
         requires { process < length self.old }
         ensures { self.new ≡ slice_set self.old process (drop 1 (queue_of self.old process)) }

@@ -36,7 +36,7 @@ impl Tally {
         })
     }
 
-    /// How many this stream has.
+    /// The number of this stream.
     pub(crate) fn count(&self, stream: Stream) -> u32
         requires { stream.channel < self.now.channels }
         ensures { result ≡ count self.now stream }
@@ -48,7 +48,7 @@ impl Tally {
         }
     }
 
-    /// It has one more.
+    /// Adds 1 to the number of this stream.
     pub(crate) fn add(&mut self, stream: Stream)
         requires is_stream { stream.channel < self.old.channels }
         requires room { count self.old stream + 1 < 2 ^ 32 }
@@ -61,7 +61,7 @@ impl Tally {
         }
     }
 
-    /// It has one fewer.
+    /// Takes 1 from the number of this stream.
     pub(crate) fn remove(&mut self, stream: Stream)
         requires is_stream { stream.channel < self.old.channels }
         requires some { 0 < count self.old stream }

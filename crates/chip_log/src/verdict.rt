@@ -1,11 +1,11 @@
 /// Whether a claim that the computation is over is right.
 #[derive(Clone, Copy, PartialEq, Eq)]
 pub enum Verdict {
-    /// In each interleaving all is silent when it is made.
+    /// In each interleaving the log is quiescent when the claim is made, and at each moment after it.
     Right,
-    /// In some interleaving this message is on its way then. Messages of a channel count from 0.
+    /// In some interleaving this message is in transit then. Messages of a channel count from 0.
     OnItsWay { channel: u32, message: u64 },
-    /// In some interleaving nothing is on its way then, and this process is active.
+    /// In some interleaving no message is in transit then, and this process is active.
     Active { process: u32 },
 }
 

@@ -15,9 +15,9 @@ use std::alloc::{AllocError, Global};
 #[derive(Drop)]
 pub struct Waits {
     pub processes: Vec<u32>,
-    /// At which of its rows the last one waits. Rows count from 0, and so do the messages of a stream.
+    /// The row at which the last one waits. Rows count from 0, and so do the messages of a stream.
     pub row: u64,
-    /// For which message it waits.
+    /// The stream on which it waits.
     pub stream: Stream,
     pub message: u64,
     /// The process that sends on that stream, if there is one. It is one of these processes, or it has no row left.

@@ -1,15 +1,15 @@
 use crate::waits::Waits;
 
-/// Told how far the claims of a log are judged, or why they cannot be. It returns, and what it does changes no verdict.
+/// Watches how far the judging of claims is, or why there are no verdicts. It returns, and changes no verdict.
 pub trait ClaimWatch {
-    /// Told before a claim is judged: its number, from 0, and how many there are.
+    /// Called before a claim is judged, with its number, from 0, and the number of claims.
     fn judges(&mut self, _claim: usize, _claims: usize) {}
 
-    /// Told, of rows that have no order, which processes wait for which, from that of the fault on.
+    /// Called if the rows have no order, with processes of which each waits for the next, from that of the fault on.
     fn waits(&mut self, _waits: &Waits) {}
 }
 
-/// Nobody is told.
+/// A watcher that does nothing.
 #[derive(Clone, Copy)]
 pub struct Unwatched;
 

@@ -1,5 +1,5 @@
 -- Serves ReportLists.antt.
--- The lists of numbers in a text that is made of parts, each a front and a list in brackets.
+-- The lists of numbers in a text that is made of parts, each a prefix and a list in brackets.
 use Rattle.chip_report.proofs.Names.{◌≡◌, ◌≢◌, ℕ, zero, suc, ◌+◌, ◌^◌, ◌<◌, ◌≤◌, Bool, true, false, ◌&&◌, not, nat_lt}
 use Rattle.chip_report.proofs.Names.{eqb, List, [], ◌∷◌, ◌++◌, length, map, take, drop, get_or, codes, Option, None}
 use Rattle.chip_report.proofs.Names.{Some, Vec, Global, Result, Ok, Err, inl, inr, refl, ap, ◌∙◌, arith, append_assoc}
@@ -41,7 +41,7 @@ after-cut c xs ys none = ap (λ n. drop (n + 1) (xs ++ (c ∷ ys))) (position-cu
 own : IsNumeralModel (AllDigits 10) (digits_value 10)
 own = numerals_by_value (AllDigits 10) tells_digits
 
--- what is no digit does not stand in a number
+-- what is no digit is not in a number
 no_digit : (n c : ℕ) → n < 2 ^ 64 → (IsInRange 48 57 c → ⊥) → All (λ b. b ≢ c) (decimal n)
 no_digit n c fits other = All-from_get_or (λ b. b ≢ c) (decimal n) 0
     (not_in_digits own (decimal n) c (digits_decimal own n fits) other)
@@ -170,7 +170,7 @@ no_number digits (Some n) f is e = absurd cc
 
 -- ---- a text in parts
 
--- a front and the numbers in the brackets behind it
+-- a prefix and the numbers in the brackets after it
 abbrev pub Part : Type 0
 Part = List ℕ × List ℕ
 

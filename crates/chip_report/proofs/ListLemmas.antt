@@ -6,7 +6,7 @@ use Rattle.chip_report.proofs.Names.{slice_index, IsAllAdjacentAnswer, IsStrictl
 use Rattle.chip_report.proofs.Names.{IsBinarySearchResult, nat_cmp, is_ok, AreDisjoint, false≢true, get_or_default_zero}
 use Rattle.std.proofs.lemmas.List.Sorted.{searched, IsNonDecreasingBy-from_all_adjacent}
 
--- what `is_sorted_by` answers by `<`
+-- what `is_sorted_by` returns for `<`
 pub ascends_if : (xs : List ℕ) (r : Bool) → IsAllAdjacentAnswer (λ x y b. b ≡ nat_lt x y) xs r → r ≡ true
     → IsStrictlyIncreasing xs
 ascends_if xs true h is = λ k l. ltb-true _ _ (sym (h k 0 l))

@@ -1,5 +1,5 @@
 -- Serves ReportText.antt, Reportable.antt, OutcomeParts.antt, ReportLists.antt, ReportTwo.antt, Versions.antt.
--- What the reports of both versions tell, and which bytes are none.
+-- What the reports of both versions say, and which bytes are none.
 use Rattle.chip_report.proofs.Names.{◌≡◌, ◌≢◌, ℕ, ◌<◌, ◌≤◌, Bool, true, false, List, [], ◌∷◌, ◌++◌, length, get_or}
 use Rattle.chip_report.proofs.Names.{codes, Result, Ok, Err, inl, inr, refl, sym, ap, ◌∙◌, subst, arith, append_assoc}
 use Rattle.chip_report.proofs.Names.{replicate, rules, ◌⊎◌, ◌&&◌, All, IsUtf8, IsErrAnd, AllByRecursion, false≢true}
@@ -24,7 +24,7 @@ closed_of t = is_empty t.over && is_empty t.sealed
 abbrev closed_front : Bool → List ℕ
 closed_front closed = codes ",\"closed\":" ++ bool_text closed ++ codes ",\"fired\":"
 
--- the lists behind the vertices that are over
+-- the lists after the vertices that are over
 abbrev last_parts : Bool → SittingContent → List Part
 last_parts true t = (codes ",\"prior\":", t.prior) ∷ (codes ",\"sealed\":", t.last.sealed) ∷ []
 last_parts false t = (codes ",\"sealed\":", t.last.sealed) ∷ []
@@ -39,7 +39,7 @@ abbrev pub version : Bool → List ℕ
 version true = codes ",\"version\":2}\n"
 version false = codes ",\"version\":1}\n"
 
--- the report of a sitting with these numbers
+-- the report of a stage with these numbers
 abbrev text_by_content : Bool → SittingContent → List ℕ
 text_by_content went_on t = text_of (parts went_on t) (version went_on)
 
@@ -53,7 +53,7 @@ regroup_two : (a b c d e f g h i j k l m : List ℕ)
     ≡ a ++ (b ++ ((c ++ d ++ e) ++ (f ++ (g ++ (h ++ (i ++ (j ++ (k ++ (l ++ m)))))))))
 regroup_two a b c d e f g h i j k l m = simp append_assoc
 
--- the numbers of a first sitting, whose report tells nothing of those before
+-- the numbers of a first stage, whose report says nothing of those before
 abbrev pub first_content : Outcome → SittingContent
 first_content o = record { last = content o; prior = replicate (length o.fired.items) 0 }
 
@@ -80,7 +80,7 @@ AreOfOutcome t =
     AreReportCounts t.fired (length t.fired) max_limit × AreReportCounts t.chips (length t.fired) max_total
     × AreHalted t.over t.sealed (length t.fired)
 
--- the numbers are those of a sitting
+-- the numbers are those of a stage
 abbrev AreOfSitting : SittingContent → Type 0
 AreOfSitting t = AreOfOutcome t.last × (length t.prior ≡ length t.last.fired) × All (λ n. n ≤ max_prior) t.prior
 
@@ -155,7 +155,7 @@ are_parts went_on most t h few =
       ),
     )
 
--- ---- what a report tells
+-- ---- what a report says
 
 -- the bytes are the report of these numbers
 pub record IsReportBy (went_on : Bool) (bytes : List ℕ) (t : SittingContent) : Type 0 where
@@ -278,7 +278,7 @@ not_that_sitting went_on limits bytes found e none = none_in went_on limits byte
     none (sitting_if found (rw same at is.in_range))
     (is.spelled ∙ ap (text_by_content went_on) same ∙ sym (in_parts went_on found)))
 
--- ---- answers that are passed on
+-- ---- results that are passed on
 
 -- what a call refuses is refused for the same reason
 pub passed_on : {T P Q : Type 0} (IsRight : T → Type 0) (result : Result T ReportFault) (f : ReportFault)

@@ -1,5 +1,5 @@
 -- Serves ReportTwo.antt, Versions.antt.
--- By their ends the reports of both versions are told apart.
+-- The ends of the reports tell the versions apart.
 use Rattle.chip_report.proofs.Names.{◌≡◌, ◌≢◌, ℕ, Bool, true, false, List, [], ◌∷◌, ◌++◌, codes, Result, Ok, Err, inl}
 use Rattle.chip_report.proofs.Names.{inr, refl, sym, ap, ◌∙◌, arith, append_assoc, append_cancel_right, same_from_push}
 use Rattle.chip_report.proofs.Names.{SizeLimits, Outcome, Resumed, IsResumed, RoundTripTwo, IsReportOf}
@@ -33,7 +33,7 @@ none_at_all : (limits : SizeLimits) (bytes : List ℕ) → IsNoReportWithin limi
 none_at_all limits bytes none none_two r (inl first, fits) = none r.outcome (first.0, fits)
 none_at_all limits bytes none none_two r (inr went_on, fits) = none_two r (went_on, fits)
 
--- what was read as a report of the version that its end tells
+-- what was read as a report of the version that its end shows
 pub read_by_end : (went_on : Bool) (limits : SizeLimits) (bytes : List ℕ)
     → (went_on ≡ true → (front : List ℕ) × (bytes ≡ front ++ version true))
     → (went_on ≡ false → (front : List ℕ) → bytes ≢ front ++ version true) → (result : Result Resumed ReportFault)

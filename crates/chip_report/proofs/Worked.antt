@@ -11,14 +11,14 @@ triangle : content_by_text false (codes
     }
 triangle = refl
 
--- it is no matter what stands before the brackets
+-- what comes before the brackets does not matter
 other_fronts : content_by_text true (codes "[5] and [2], [], [7],[0]") ≡ record {
   last = record { fired = 2 ∷ []; chips = 5 ∷ []; over = []; sealed = 0 ∷ [] };
   prior = 7 ∷ [];
 }
 other_fronts = refl
 
--- what stands in the first brackets, and behind them
+-- what is in the first brackets, and after them
 first : first_list (codes "a[1,2],[3]") ≡ codes "1,2"
 first = refl
 

@@ -17,7 +17,7 @@ abbrev pub OneOutcome : Type 0
 OneOutcome = (one other : Outcome) → IsOutcome one → IsOutcome other → report_text one ≡ report_text other
     → content one ≡ content other
 
--- whatever `read_report_within` may answer at the report of an outcome that fits in the limits: an outcome with the
+-- whatever `read_report_within` may return for the report of an outcome that fits in the limits: an outcome with the
 -- same numbers, or that memory ran out
 abbrev pub RoundTrip : Type 0
 RoundTrip = (limits : SizeLimits) (outcome : Outcome) → IsOutcome outcome → FitsIn limits outcome
@@ -25,13 +25,13 @@ RoundTrip = (limits : SizeLimits) (outcome : Outcome) → IsOutcome outcome → 
     → GivesReport (IsReportWithin limits (report_text outcome)) (IsNoReportWithin limits (report_text outcome)) answer
     → ((read : Outcome) × (answer ≡ Ok read) × (content read ≡ content outcome)) ⊎ (answer ≡ Err fault.NoMemory)
 
--- sittings with the same report have the same numbers
+-- stages with the same report have the same numbers
 abbrev pub OneSitting : Type 0
 OneSitting = (one other : Resumed) → IsResumed one → IsResumed other
     → report_two_text one ≡ report_two_text other → sitting_content one ≡ sitting_content other
 
--- whatever `read_any_within` may answer at the report of a sitting that went on and fits in the limits: a sitting with
--- the same numbers, or that memory ran out
+-- whatever `read_any_within` may return for the report of a later stage that fits in the limits: a stage with the same
+-- numbers, or that memory ran out
 abbrev pub RoundTripTwo : Type 0
 RoundTripTwo = (limits : SizeLimits) (r : Resumed) → IsResumed r → FitsIn limits r.outcome
     → (answer : Result Resumed ReportFault)
@@ -39,6 +39,6 @@ RoundTripTwo = (limits : SizeLimits) (r : Resumed) → IsResumed r → FitsIn li
     → ((read : Resumed) × (answer ≡ Ok read) × (sitting_content read ≡ sitting_content r))
     ⊎ (answer ≡ Err fault.NoMemory)
 
--- no text is the report of a first sitting and of one that went on
+-- no text is the report both of a first stage and of a later one
 abbrev pub NotBoth : Type 0
 NotBoth = (bytes : List ℕ) (o : Outcome) (r : Resumed) → IsReportOf bytes o → IsReportTwoOf bytes r → ⊥

@@ -3,7 +3,7 @@ use Rattle.std.specs.Prelude.{◌≡◌, ℕ, ◌<◌, ◌≤◌, List, length, 
 use Rattle.std.specs.List.Sorted.{IsStrictlyIncreasing}
 use Rattle.chip_graph.specs.Limits.{max_vertices}
 
--- one number for each of some vertices, no more than a graph may have, and none above `most`
+-- one number for each of some vertices, no more vertices than a graph may have, and no number above `most`
 abbrev pub AreReportCounts : List ℕ → ℕ → ℕ → Type 0
 AreReportCounts numbers vertices most =
     (length numbers ≡ vertices) × (0 < vertices) × (vertices ≤ max_vertices) × All (λ n. n ≤ most) numbers

@@ -9,19 +9,19 @@ use Rattle.chip_report.specs.ReportText.{comma, array_text}
 abbrev pub opening_bracket : ℕ
 opening_bracket = 91
 
--- the code of the bracket behind it
+-- the code of the bracket after it
 abbrev pub closing_bracket : ℕ
 closing_bracket = 93
 
--- what stands in the first brackets
+-- the text in the first brackets
 abbrev pub first_list : List ℕ → List ℕ
 first_list text = before_first (λ b. b == closing_bracket) (after_first (λ b. b == opening_bracket) text)
 
--- what stands behind them
+-- the text after them
 abbrev pub text_behind_list : List ℕ → List ℕ
 text_behind_list text = after_first (λ b. b == closing_bracket) (after_first (λ b. b == opening_bracket) text)
 
--- what stands behind the first `lists` lists
+-- the text after the first `lists` lists
 abbrev pub text_behind_lists : ℕ → List ℕ → List ℕ
 text_behind_lists zero text = text
 text_behind_lists (suc lists) text = text_behind_lists lists (text_behind_list text)
@@ -35,7 +35,7 @@ abbrev pub numbers_spelled : List ℕ → List ℕ
 numbers_spelled [] = []
 numbers_spelled (b ∷ bs) = map spelled_number (slice_split (λ c. c == comma) (b ∷ bs))
 
--- the numbers of the list behind the first `lists` lists
+-- the numbers of the list after the first `lists` lists
 abbrev pub list_at : ℕ → List ℕ → List ℕ
 list_at lists text = numbers_spelled (first_list (text_behind_lists lists text))
 

@@ -12,7 +12,7 @@ comma = 44
 abbrev pub array_text : List ℕ → List ℕ
 array_text numbers = codes "[" ++ join_with_byte comma (map decimal numbers) ++ codes "]"
 
--- a number as the member of an array behind this number of others
+-- a number as the member of an array after this number of others
 abbrev pub member_text : ℕ → ℕ → List ℕ
 member_text zero number = decimal number
 member_text (suc before) number = comma ∷ decimal number
@@ -41,7 +41,7 @@ report_text outcome =
     ++ codes ",\"sealed\":" ++ array_text outcome.sealed.items
     ++ codes ",\"version\":1}\n"
 
--- what the reports of both versions begin with: an outcome as far as the vertices that are over
+-- the start of the reports of both versions: an outcome up to the vertices that are over
 abbrev pub start_text : Outcome → List ℕ
 start_text outcome =
     codes "{\"chips\":" ++ array_text outcome.chips.items

@@ -7,14 +7,14 @@ use Rattle.chip_report.specs.ReportText.{report_text}
 use Rattle.chip_report.specs.declared.fault.ReportFault.{ReportFault}
 use Rattle.chip_report.specs.declared.fault.ReportFault.TheVariants as fault
 
--- the numbers of an outcome, without where they lie in memory
+-- the numbers of an outcome, without their places in memory
 pub record Content : Type 0 where
   pub fired : List ℕ
   pub chips : List ℕ
   pub over : List ℕ
   pub sealed : List ℕ
 
--- what an outcome tells
+-- the numbers that an outcome reports
 abbrev pub content : Outcome → Content
 content outcome = record {
   fired = outcome.fired.items;
@@ -23,7 +23,7 @@ content outcome = record {
   sealed = outcome.sealed.items;
 }
 
--- a report takes the outcome, and the bytes are its report
+-- the outcome can be reported, and the bytes are its report
 pub record IsReportOf (bytes : List ℕ) (outcome : Outcome) : Type 0 where
   pub reportable : IsOutcome outcome
   pub spelled : bytes ≡ report_text outcome
@@ -40,7 +40,7 @@ IsReportWithin limits bytes outcome = IsReportOf bytes outcome × FitsIn limits 
 abbrev pub IsNoReportWithin : SizeLimits → List ℕ → Type 0
 IsNoReportWithin limits bytes = (outcome : Outcome) → IsReportWithin limits bytes outcome → ⊥
 
--- want of memory is answered only of bytes that end as a report does
+-- want of memory is returned only for bytes that end as a report does
 abbrev pub GrowsForALine : {T : Type 0} → List ℕ → Result T ReportFault → Type 0
 GrowsForALine bytes result = IfErr result (λ f. f ≡ fault.NoMemory → (json : List ℕ) × (bytes ≡ json ++ 10 ∷ []))
 

@@ -1,4 +1,4 @@
--- What a sink tells of the writes that were made to it.
+-- What a sink notes of the writes that were made to it.
 use Rattle.std.specs.Prelude.{◌≡◌, ℕ, ◌==◌, Bool, true, false, if◌then◌else◌, List, Option, Result, Ok, Err}
 use Rattle.chip_report.specs.declared.sink.Sink.{Sink}
 use Rattle.chip_report.specs.declared.sink.LastWrite.{LastWrite}

@@ -1,4 +1,4 @@
-//! The laws of reports: functions that do nothing, whose contracts are the laws.
+//! The laws of reports: functions without code, whose contracts are the laws.
 
 ghost use Rattle.chip_report.specs.Laws.{OneOutcome, RoundTrip, OneSitting, RoundTripTwo, NotBoth};
 
@@ -12,7 +12,7 @@ pub fn round_trip()
     ensures { RoundTrip }
 {}
 
-/// A report of a sitting that went on has that sitting alone, is read back as it, and is no report of a first one.
+/// A report of a later stage has that stage alone, is read back as it, and is no report of a first one.
 pub fn sittings()
     ensures one_sitting { OneSitting }
     ensures round_trip { RoundTripTwo }

@@ -1,7 +1,7 @@
 //! The report of an outcome, written and read, and exact writing.
 //!
 //! A report is one line of compact JSON (`specs/ReportText.antt`), made whole before its first byte is written. Only
-//! the report of an outcome that a game can have is read (`specs/Reportable.antt`).
+//! reports of outcomes that a game can have are read (`specs/Reportable.antt`).
 #![tactic(auto)]
 
 pub use fault::ReportFault;

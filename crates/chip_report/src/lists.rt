@@ -1,4 +1,4 @@
-//! The lists of numbers in a text, be it a report or not.
+//! The lists of numbers in a text, whether it is a report or not.
 
 ghost use Rattle.std.specs.Prelude.{◌≡◌, ◌≤◌, length, IsUtf8, MatchOption};
 ghost use Rattle.chip_report.specs.Reportable.{GivesReport};
@@ -12,7 +12,7 @@ use std::str;
 /// A text whose lists of numbers are taken one after another.
 #[derive(Drop)]
 pub(crate) struct Lists<'t> {
-    /// What is left of the text.
+    /// The rest of the text.
     rest: &'t str,
 }
 
@@ -27,7 +27,7 @@ impl<'t> Lists<'t> {
         }
     }
 
-    /// Takes the numbers between the next brackets, if they are at most `most`.
+    /// Takes the numbers between the next brackets, if there are at most `most`.
     pub(crate) fn take(&mut self, alloc: Global, most: u64) -> Result<Vec<u64>, ReportFault>
         ensures { GivesReport (λ numbers. (numbers.items ≡ numbers_spelled (first_list self.old.rest.now))
             × (self.new.rest.now ≡ text_behind_list self.old.rest.now) × (length numbers.items ≤ most))
@@ -44,7 +44,7 @@ impl<'t> Lists<'t> {
     }
 }
 
-/// The numbers of a list, if they are at most `most`.
+/// The numbers of a list, if there are at most `most`.
 fn numbers_of(alloc: Global, most: u64, list: &str) -> Result<Vec<u64>, ReportFault>
     ensures { GivesReport (λ numbers. (numbers.items ≡ numbers_spelled list.now) × (length numbers.items ≤ most))
         (IsNoList most list.now) result }

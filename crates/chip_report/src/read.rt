@@ -22,7 +22,7 @@ pub fn read_report(alloc: Global, bytes: &[u8]) -> Result<Outcome, ReportFault>
     read_report_within(alloc, Limits::standard(), bytes)
 }
 
-/// The outcome whose report the bytes are, if it fits in the limits.
+/// The outcome whose report the bytes are, if it fits in the limits, else `NotReport`.
 pub fn read_report_within(
     alloc: Global,
     limits: Limits,
@@ -35,7 +35,7 @@ pub fn read_report_within(
     Ok(resumed.outcome)
 }
 
-/// The sitting whose report the bytes are, within the standard limits.
+/// The stage whose report the bytes are, within the standard limits.
 pub fn read_any(alloc: Global, bytes: &[u8]) -> Result<Resumed, ReportFault>
     ensures sitting { GivesReport (IsAnyReportWithin standard bytes.now) (IsNoReportAtAllWithin standard bytes.now) result }
     ensures memory { GrowsForALine bytes.now result }
@@ -43,10 +43,10 @@ pub fn read_any(alloc: Global, bytes: &[u8]) -> Result<Resumed, ReportFault>
     read_any_within(alloc, Limits::standard(), bytes)
 }
 
-/// The sitting whose report the bytes are, if it fits in the limits: a first one, before which nothing was fired, or
-/// one that went on.
+/// The stage whose report the bytes are, if it fits in the limits, else `NotReport`: a first stage, before which
+/// nothing was fired, or a later one.
 ///
-/// Only the report of a sitting that went on ends in version 2, so the bytes are read as one version.
+/// Only the report of a later stage ends in version 2, so the bytes are read as one version.
 pub fn read_any_within(alloc: Global, limits: Limits, bytes: &[u8]) -> Result<Resumed, ReportFault>
     ensures sitting { GivesReport (IsAnyReportWithin limits bytes.now) (IsNoReportAtAllWithin limits bytes.now) result }
     ensures memory { GrowsForALine bytes.now result }
@@ -55,10 +55,10 @@ pub fn read_any_within(alloc: Global, limits: Limits, bytes: &[u8]) -> Result<Re
     read_version(alloc, limits, went_on, bytes)
 }
 
-/// The sitting whose report the bytes are, as one that went on or as a first one.
+/// The stage whose report the bytes are, as a later one or as a first one.
 ///
-/// The numbers come from the brackets, whatever else the bytes have. Their report is written again, and shows whether
-/// the bytes are it.
+/// The numbers are read from the brackets, whatever else the bytes have. Their report is written again and compared
+/// with the bytes.
 fn read_version(
     alloc: Global,
     limits: Limits,
@@ -79,7 +79,7 @@ fn read_version(
     }
 }
 
-/// The report of a sitting, as one that went on or as a first one.
+/// The report of a stage, as a later one or as a first one.
 fn text_of(alloc: Global, went_on: bool, resumed: &Resumed) -> Result<Vec<u8>, AllocError>
     ensures { IfOk result (λ bytes. bytes.items ≡ text_in went_on resumed.now) }
 {
@@ -90,7 +90,7 @@ fn text_of(alloc: Global, went_on: bool, resumed: &Resumed) -> Result<Vec<u8>, A
     }
 }
 
-/// The sitting of a text, if it is a report within the limits. No list has what was fired before a first one.
+/// The stage of a text, if it is a report within the limits. A first one has no list of earlier firings.
 fn sitting_of_text(
     alloc: Global,
     limits: Limits,

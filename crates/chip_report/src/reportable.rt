@@ -1,4 +1,4 @@
-//! Which sittings a report takes.
+//! The stages that can be reported.
 
 ghost use Rattle.std.specs.Prelude.{◌≡◌, ◌↔◌, true, Contains};
 ghost use Rattle.std.specs.List.Sorted.{IsStrictlyIncreasing};
@@ -62,7 +62,7 @@ fn is_ascending(list: &[u64]) -> bool
     list.is_sorted_by(|one, next| one < next)
 }
 
-/// Whether no vertex stands in both of two lists, of which the second ascends.
+/// Whether no vertex is in both of two lists, of which the second ascends.
 fn are_apart(over: &[u64], sealed: &[u64]) -> bool
     requires { IsStrictlyIncreasing sealed.now }
     ensures { (result ≡ true) ↔ AreDisjoint over.now sealed.now }
@@ -75,7 +75,7 @@ fn are_apart(over: &[u64], sealed: &[u64]) -> bool
     true
 }
 
-/// Whether a vertex stands in an ascending list.
+/// Whether a vertex is in an ascending list.
 pub fn is_in(list: &[u64], vertex: u64) -> bool
     requires { IsStrictlyIncreasing list.now }
     ensures { (result ≡ true) ↔ Contains list.now vertex }

@@ -43,7 +43,7 @@ impl<'w, W: Write> Sink<'w, W> {
         }
     }
 
-    /// How many writes were made.
+    /// The number of writes that were made.
     pub fn writes(&self) -> u64
         ensures { result ≡ writes self.now }
     {

@@ -1,4 +1,4 @@
-//! The report of an outcome, or of a play in several sittings: one line of compact JSON.
+//! The report of an outcome, or of a play in several stages: one line of compact JSON.
 
 ghost use Rattle.std.specs.Prelude.{◌≡◌, ◌++◌, IfOk, string_bytes};
 ghost use Rattle.chip_report.specs.ReportText.{member_text, array_text, bool_text, is_closed, report_text, start_text};
@@ -17,7 +17,7 @@ pub fn report(alloc: Global, outcome: &Outcome) -> Result<Vec<u8>, AllocError>
     Ok(text.into_bytes())
 }
 
-/// The report of a sitting and what was fired before it (version 2), with its newline.
+/// The report of a stage and what was fired before it (version 2), with its newline.
 pub fn report_two(alloc: Global, resumed: &Resumed) -> Result<Vec<u8>, AllocError>
     ensures { IfOk result (λ bytes. bytes.items ≡ report_two_text resumed.now) }
 {
@@ -29,7 +29,7 @@ pub fn report_two(alloc: Global, resumed: &Resumed) -> Result<Vec<u8>, AllocErro
     Ok(text.into_bytes())
 }
 
-/// What the reports of both versions begin with: an outcome as far as the vertices that are over.
+/// The start of the reports of both versions: an outcome up to the vertices that are over.
 fn start_of_report(alloc: Global, outcome: &Outcome) -> Result<String, AllocError>
     ensures { IfOk result (λ text. string_bytes text ≡ start_text outcome.now) }
 {

@@ -1,4 +1,4 @@
-//! Exact writing: all the bytes, or a fault that says how many were written.
+//! Exact writing: all the bytes, or a fault with the number of bytes written.
 
 ghost use Rattle.std.specs.Prelude.{◌≡◌, ◌≤◌, length, is_ok};
 ghost use Rattle.chip_report.specs.Sink.{IsUnwritten, bytes_out, goes_on, last_write, writes};
@@ -12,7 +12,7 @@ use thiserror::Error;
 #[derive(Clone, Copy, Debug, PartialEq, Eq, Error)]
 #[error("a write failed after {written} bytes")]
 pub struct WriteFault {
-    /// How many bytes were written before.
+    /// The number of bytes written before.
     pub written: u64,
 }
 
@@ -28,10 +28,9 @@ impl WriteFault {
     }
 }
 
-/// Writes all the bytes, by as many writes as the writer needs. The sink counts them.
+/// Writes all the bytes, in as many writes as the writer needs. The sink counts them.
 ///
-/// A write that fails for whatever reason, also an interruption, is a fault, and so is one that takes no byte. No write
-/// follows it.
+/// A write that fails for whatever reason, even an interruption, or that takes no byte is a fault. No write follows it.
 pub fn write_all_to<W: Write>(sink: &mut Sink<'_, W>, bytes: &[u8]) -> Result<(), WriteFault>
     requires { IsUnwritten sink.old }
     ensures bytes { WritesAll (bytes_out W.contents sink.old) (bytes_out W.contents sink.new) bytes.now result }

@@ -155,15 +155,15 @@ one_message (zero ∷ []) few some = grind arith
 one_message (suc x ∷ []) few some = grind arith
 one_message (x ∷ y ∷ xs) few some = absurd (omega arith)
 
--- what v recorded tells what its part did
+-- what v recorded says what its part did
 record RowsTell (g : Setting) (v : ℕ) (rows : List TraceRow) (s : Part) : Type 0 where
   fired : sum (fires rows) ≡ s.fired
   chips : chips_taken rows ≡ s.chips + degree g.game.graph v * s.fired
   taken : (e : ℕ) → takes_of e rows ≡ length (s.into e).got
-  -- what was sent on an edge of the graph, and what is left to send on it, is what the firings make
+  -- what was sent on an edge of the graph, and what is left to send on it, is the result of the firings
   sent : (e : ℕ) → e < graph_edges g → tail_of g e ≡ v
       → map (λ k. k * mult_of g e) (fires rows) ≡ due (s.out e).link (s.out e).pending
-  -- nothing but a vertex records anything
+  -- only a vertex records anything
   outside : g.game.graph.vertices ≤ v → rows ≡ []
 
 module _ (g : Setting) where
@@ -171,7 +171,7 @@ module _ (g : Setting) where
   abbrev recorded : Log → ℕ → List TraceRow
   recorded log v = traces.trace_rows_of (done_by g v log)
 
-  -- the rows of a log that are v's are those that it recorded
+  -- the rows of v in a log are those that it recorded
   rows_are : (log : Log) (v : ℕ) → rows_of (rows_in g log) v ≡ recorded log v
   rows_are [] v = refl
   rows_are (x ∷ log) v =
@@ -272,10 +272,10 @@ module _ (g : Setting) where
         (λ past. (tells log legal v).outside (omega arith) ∙ sym (get_or_past (traces_in g log) v []
         (let a = length-map-range_with_len (recorded log) 0 n in omega arith)))
 
-  -- ---- each row is met
+  -- ---- each row is enabled
 
   module _ (game : IsGame g.game) (some_ring : 0 < g.ring) (start : List ℕ) where
-    -- on each root edge nothing was sent but one message with the chips of its vertex in this list
+    -- on each root edge at most one message was sent, with the chips of its vertex in this list
     abbrev Opens : Log → Type 0
     Opens log = (v : ℕ) → v < g.game.graph.vertices
         → IsPrefix (sent_counts (out_in g log (root_edge g v)).link) (opening (slice_index start v))
@@ -295,7 +295,7 @@ module _ (g : Setting) where
     abbrev whole : ChipGame
     whole = record { graph = g.game.graph; start = start; limit = g.game.limit }
 
-    -- what was sent on an edge is how its messages by the firings begin
+    -- what was sent on an edge is a prefix of its messages by the firings
     begun : (log : Log) → IsLegalLog g log → Opens log → (e : ℕ) → e < all_edges g
         → IsPrefix (sent_counts (out_in g log e).link) (messages whole (λ u. fires (recorded log u)) e)
     begun log legal opened e below =
@@ -340,7 +340,7 @@ module _ (g : Setting) where
         rw told.fired (omega arith) in
         grind (arith, nat_tests)
 
-    -- it is met behind the rows of the log
+    -- it is enabled after the rows of the log
     met_behind : (log : Log) (v : ℕ) (row : TraceRow) → AreRowsEnabled whole [] (rows_in g log)
         → is_row_enabled whole (recorded log) v row ≡ true → AreRowsEnabled whole [] (rows_in g log ++ row_at_vertex v row ∷ [])
     met_behind log v row all met = AreMet-push whole [] (rows_in g log) (row_at_vertex v row) all

@@ -1,5 +1,5 @@
 -- Serves Laws.antt.
--- The rows of a run's actors are those of one log, so they fit together.
+-- The rows of a run's actors are those of one log, so they have an interleaving.
 use Rattle.std.proofs.Common.{◌≡◌, ℕ, ◌<◌, arith, true, false, List, [], ◌∷◌, length, map, inl, inr, Some, None}
 use Rattle.std.proofs.Common.{is_some, Ok, refl, sym, ap, ◌∙◌, subst}
 use Rattle.std.proofs.lemmas.Bool.Decides.{nat_tests}
@@ -91,7 +91,7 @@ module _ (shared : Sharing) (g : ChipGame) (feeds : Left) (plan : Plan) (f : Fin
             ∙ sym ((outcomes_tell t game ring log legal f.outcome outcome).comes.counted v ∙ counts_are t log v);
       })
 
--- ---- what `run` answers
+-- ---- the results of `run`
 
 writes_by : (shared : Sharing) (g : ChipGame) (feeds : Left) (plan : Plan) (old new : Outputs) (ended : Ended)
     → plan.seal ≡ None → IsGame g → (chips : List ℕ) → pairs feeds ≡ feeds_of chips

@@ -1,5 +1,5 @@
 -- Serves RunCommand.antt, Feeding.antt, Recording.antt, Laws.antt.
--- From the parts of the engine to its whole, and that what `run` wrote is what `plain` wrote.
+-- From the parts of the engine to its whole; and what `run` wrote is what `plain` wrote.
 use Rattle.std.proofs.Common.{◌≡◌, ℕ, Bool, false, refl, subst, List, map, Option, Some, None, Result, Ok, Err, IfOk}
 use Rattle.std.proofs.Common.{inl, inr, [], sym, ap, ◌∙◌, unwrap_or, arith}
 use Rattle.chip_graph.specs.Limits.{SizeLimits}
@@ -38,13 +38,13 @@ pub for_text : (left : Option (Option (List ℕ))) (P Q : Option (List ℕ) → 
 for_text None P Q then known = then None known
 for_text (Some left) P Q then known = λ text is. then (Some text) (known text is)
 
--- and what holds of each text holds of the one that is left
+-- what holds of each text holds of the one that is left
 pub for_each_text : (left : Option (Option (List ℕ))) (Q : Option (List ℕ) → Type 0)
     → ((text : Option (List ℕ)) → Q text) → ForText left Q
 for_each_text None Q each = each None
 for_each_text (Some left) Q each = λ text is. each (Some text)
 
--- nothing went out
+-- nothing was written
 pub keeps_both : (o : Outputs) → KeepsBoth o o
 keeps_both o = record { report = Keeps-same o.report; trace = refl }
 
@@ -77,7 +77,7 @@ pub means_fed : (limits : SizeLimits) (graph_text chips_text : List ℕ) (feed_t
 means_fed limits graph_text chips_text feed_text limit g feeds vertices same game fed =
     record { game = game; fed = subst (λ (n : ℕ). MeansFed limits feed_text n feeds) same fed }
 
--- the report of a crew that finished the game went out behind its trace, or its output failed
+-- the report of a crew that finished the game was written after its trace, or its output failed
 pub delivered_run : (shared : Sharing) (g : ChipGame) (feeds : Left) (plan : Plan) (old new : Option (List ℕ))
     (old_trace new_trace : Option (Option (List ℕ))) (actors : List ActorKnown) (text : List ℕ) (status : ℕ)
     (cut : Bool) → PlaysByCrew shared g feeds plan actors text status → RecordsIfAsked actors old_trace new_trace cut
@@ -89,14 +89,14 @@ delivered_run shared g feeds plan old new old_trace new_trace actors text status
 delivered_run shared g feeds plan old new old_trace new_trace actors text status cut plays records (Err f) failed =
     inr (inr (actors, text, status, plays, cut, records, failed.0, failed.1, failed.2))
 
--- why the rows of these actors did not go out, by the fault of what writes their text
+-- why the rows of these actors were not written, by the fault of what writes their text
 pub fails_by : (actors : List ActorKnown) (old new : Option (List ℕ)) (traces : List (List TraceRow))
     → traces ≡ map rows_kept actors → (e : TraceFault) → WritesText old new (trace_text traces) (Err e)
     → FailsToRecord actors (Some old) (Some new) (fault_of_trace e)
 fails_by actors old new traces is trace.Write wrote = rw is at wrote
 fails_by actors old new traces is trace.NoMemory wrote = wrote
 
--- a crew whose gate may answer false nowhere did not finish: its fault is that of one whose gate is never shut
+-- a crew whose gate may never return false did not finish: its fault is that of one whose gate is never shut
 pub not_played : (shared : Sharing) (g : ChipGame) (feeds : Left) (plan : Plan) (may_answer : ℕ → ℕ → Bool → Type 0)
     → ((worker turn : ℕ) → may_answer worker turn false → ⊥) → (e : CrewFault) (f : Fault)
     → IsFaultOf shared g feeds plan may_answer e → f ≡ fault_of_crew e → IsNotPlayed shared g feeds plan f
@@ -130,7 +130,7 @@ has_more g None whole is = subst (HasMore g []) (sym is) (record {
 pub one_whole : (g : ChipGame) (feeds : Left) (a b : ChipGame) → IsWhole g feeds a → IsWhole g feeds b → a ≡ b
 one_whole g feeds a b p q = one_more g (pairs feeds) a b (has_more g feeds a p) (has_more g feeds b q)
 
--- with all chips at the start a game is within the limits where what is fed stays within the total
+-- with all chips at the start a game is within the limits where the fed chips stay within the total
 pub whole_fits : (g : ChipGame) → IsGame g → (feeds : Left) → StaysWithin g feeds → (whole : ChipGame)
     → IsWhole g feeds whole → IsGame whole
 whole_fits g fits None within whole is = subst IsGame (sym is) fits

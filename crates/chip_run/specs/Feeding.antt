@@ -1,5 +1,5 @@
--- The chips that are fed to a game while threads play it. Of the text of feeds and of the feeds there is none if
--- nothing is fed.
+-- The chips that are fed to a game while threads play it. If nothing is fed there are neither a text of feeds nor
+-- feeds.
 use Rattle.std.specs.Prelude.{◌≡◌, ◌⊎◌, ℕ, Bool, nat_lt, ⊤, List, filter, Option, Some, None}
 use Rattle.std.specs.List.{enumerate_from}
 use Rattle.std.specs.Option.{ForSome}
@@ -9,11 +9,11 @@ use Rattle.chip_file.specs.ChipsText.{chips_of_text, chips_text_fault}
 use Rattle.chip_command.specs.Inputs.{ReadsWithin, MeansGame, RefusesInputs, RefusesText}
 use Rattle.chip_command.specs.declared.fault.Fault.{Fault}
 
--- whether a vertex, with how many chips it has, has any
+-- whether a vertex, with its number of chips, has any
 abbrev pub has_chips : ℕ × ℕ → Bool
 has_chips feed = nat_lt 0 feed.1
 
--- the vertices that have chips, ascending, each with how many
+-- the vertices that have chips, ascending, each with its number of chips
 abbrev pub feeds_of : List ℕ → List (ℕ × ℕ)
 feeds_of chips = filter has_chips (enumerate_from 0 chips)
 

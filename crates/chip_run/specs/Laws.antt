@@ -18,14 +18,14 @@ use Rattle.chip_run.specs.Feeding.{MeansFedGame}
 use Rattle.chip_run.specs.Replaying.{rows_in, traces_in, times_of, HasOneEach, AreGivenOnce, WritesOneRun, WritesFitting}
 use Rattle.chip_run.specs.RunCommand.{Outputs, RunAnswers, WritesReport}
 
--- `run` wrote this report of the game that the texts mean, by whatever limits of its size, and answered this status,
+-- `run` wrote this report of the game that the texts mean, by whatever limits of its size, and ended with this status,
 -- whatever its crew did
 abbrev pub RunWrote : (graph_text chips_text : List ℕ) → Option (List ℕ) → ℕ → List ℕ → ℕ → Type 0
 RunWrote graph_text chips_text feed_text limit report status =
     (limits : SizeLimits) × (ended : Ended)
     × WritesReport limits graph_text chips_text feed_text limit (Some []) (Some report) ended × (status ≡ ended.status)
 
--- two texts mean the game that has all chips at the start which the others give it at the start or feed it
+-- two texts mean the game that has at the start all chips that the others give it at the start or feed it
 abbrev pub MeanTheWhole : (graph_text chips_text : List ℕ) → Option (List ℕ) → ℕ → (whole_graph whole_chips : List ℕ) → Type 0
 MeanTheWhole graph_text chips_text feed_text limit whole_graph whole_chips =
     (g : ChipGame) × (feeds : Option (List (ℕ × ℕ))) × (limits : SizeLimits)
@@ -40,7 +40,7 @@ SameBytes =
     → RunWrote graph_text chips_text None limit one s → PlainWrote graph_text chips_text limit other t
     → (one ≡ other) × (s ≡ t)
 
--- and so they do if `run` is fed, and the files of `plain` have all those chips at the start
+-- the same if `run` is fed, and the files of `plain` have all those chips at the start
 abbrev pub SameBytesFed : Type 0
 SameBytesFed =
     (graph_text chips_text : List ℕ) (feed_text : Option (List ℕ)) (limit : ℕ) (whole_graph whole_chips : List ℕ)
@@ -48,7 +48,7 @@ SameBytesFed =
     → RunWrote graph_text chips_text feed_text limit one s → PlainWrote whole_graph whole_chips limit other t
     → (one ≡ other) × (s ≡ t)
 
--- what `run` writes tells a play from the start of the game that has all chips at the start, also those that were fed
+-- the report of `run` describes a play from the start of the game that has all chips at the start, the fed ones too
 abbrev pub RunTellsPlay : Type 0
 RunTellsPlay =
     (graph_text chips_text : List ℕ) (feed_text : Option (List ℕ)) (limit : ℕ) (report : List ℕ) (status : ℕ)
@@ -63,18 +63,19 @@ LogsFit = ForEveryLog (λ g log. HasOneEach g log
     → IsInterleaving (played_game g log) (traces_in g log) (rows_in g log)
     × ((v : ℕ) → times_of v (row_firings (rows_in g log)) ≡ fired_by g log v))
 
--- so it is with each legal log of a game that is not fed
+-- the same for each legal log of a game that is not fed
 abbrev pub UnfedLogsFit : Type 0
 UnfedLogsFit = ForEveryLog (λ g log. g.fed ≡ false → IsInterleaving g.game (traces_in g log) (rows_in g log))
 
--- if `run` is not fed, seals nothing and ends well, the rows of its actors fit together, with the counts of the report
+-- if `run` is not fed, seals nothing and ends well, the rows of its actors have an interleaving, with the counts of the
+-- report
 abbrev pub RowsFit : Type 0
 RowsFit =
     (limits : SizeLimits) (graph_text chips_text : List ℕ) (limit : ℕ) (shared : Sharing) (plan : Plan) (old new : Outputs) (ended : Ended) → plan.seal ≡ None
     → RunAnswers limits shared graph_text chips_text None limit plan old new (Ok ended)
     → (g : ChipGame) × MeansGame limits graph_text chips_text limit g × WritesOneRun g old new ended.cut
 
--- and if no trace was cut, so do the rows that it wrote
+-- if no trace was cut, so have the rows that it wrote
 abbrev pub UncutTracesFit : Type 0
 UncutTracesFit =
     (limits : SizeLimits) (graph_text chips_text : List ℕ) (limit : ℕ) (shared : Sharing) (plan : Plan)
@@ -85,8 +86,8 @@ UncutTracesFit =
     → (g : ChipGame) × MeansGame limits graph_text chips_text limit g
     × WritesFitting g old_report new_report old_trace new_trace
 
--- if `run` is fed, seals nothing and ends well, and no vertex has chips both at the start and by a feed, they fit
--- together in the game that has all chips at the start
+-- if `run` is fed, seals nothing and ends well, and no vertex has chips both at the start and by a feed, they have an
+-- interleaving in the game that has all chips at the start
 abbrev pub FedRowsFit : Type 0
 FedRowsFit =
     (limits : SizeLimits) (graph_text chips_text feed_text : List ℕ) (limit : ℕ) (shared : Sharing) (plan : Plan) (old new : Outputs) (ended : Ended)

@@ -22,20 +22,20 @@ is_cut a = nat_lt a.room (length (trace_rows_of a.did))
 abbrev pub is_any_cut : List ActorKnown → Bool
 is_any_cut actors = list_any is_cut actors
 
--- the rows of these actors went out, and the answer is whether one of them was cut
+-- the rows of these actors were written, and the result is whether one of them was cut
 pub record Records (actors : List ActorKnown) (old new : Option (List ℕ)) (cut : Bool) : Type 0 where
   pub text : Appends old new (trace_text (map rows_kept actors))
   pub cut_is : cut ≡ is_any_cut actors
 
--- the same of a writer, if there is one; without one no row is cut
+-- the same for a writer, if there is one; without one no row is cut
 abbrev pub RecordsIfAsked : List ActorKnown → Option (Option (List ℕ)) → Option (Option (List ℕ)) → Bool → Type 0
 RecordsIfAsked actors None None cut = cut ≡ false
 RecordsIfAsked actors None (Some new) cut = ⊥
 RecordsIfAsked actors (Some old) None cut = ⊥
 RecordsIfAsked actors (Some old) (Some new) cut = Records actors old new cut
 
--- why the rows of these actors did not go out: there is no memory, and nothing was written; or a write failed, and just
--- their first bytes were, and not all of them
+-- why the rows of these actors were not written: there is no memory, and nothing was written; or a write failed, and
+-- only their first bytes were, and not all of them
 abbrev pub FailsToRecord : List ActorKnown → Option (Option (List ℕ)) → Option (Option (List ℕ)) → Fault → Type 0
 FailsToRecord actors (Some old) (Some new) fault.NoMemory =
     WritesText old new (trace_text (map rows_kept actors)) (Err trace.NoMemory)

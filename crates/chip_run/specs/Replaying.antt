@@ -1,4 +1,4 @@
--- The rows of a run as one list, and that they fit together.
+-- The rows of a run as one list, and their interleaving.
 use Rattle.std.specs.Prelude.{◌≡◌, ◌⊎◌, ℕ, ◌<◌, ◌≤◌, ◌==◌, if◌then◌else◌, Bool, List, [], ◌∷◌, ◌++◌, map, sum_by, slice_index, Option}
 use Rattle.std.specs.List.{range_with_len}
 use Rattle.std.specs.Io.KnownBytes.{Appends}
@@ -31,7 +31,7 @@ rows_in g (x ∷ log) = rows_in g log ++ map (row_at_vertex (part_of g x.event))
 abbrev pub traces_in : Setting → Log → List (List TraceRow)
 traces_in g log = map (λ v. trace_rows_of (done_by g v log)) (range_with_len 0 g.game.graph.vertices)
 
--- on each root edge one message was sent at most: no vertex was given chips more than once
+-- on each root edge at most one message was sent: no vertex was given chips more than once
 abbrev pub HasOneEach : Setting → Log → Type 0
 HasOneEach g log = (v : ℕ) → v < g.game.graph.vertices → claims_of (out_in g log (root_edge g v)).link ≤ 1
 
@@ -39,7 +39,7 @@ HasOneEach g log = (v : ℕ) → v < g.game.graph.vertices → claims_of (out_in
 abbrev pub AreGivenOnce : ChipGame → List (ℕ × ℕ) → Type 0
 AreGivenOnce g feeds = (v : ℕ) → v < g.graph.vertices → (slice_index g.start v ≡ 0) ⊎ (brought_to feeds v ≡ 0)
 
--- all rows of these actors, also those for which they had no room
+-- all rows of these actors, those without room too
 abbrev pub all_rows : List ActorKnown → List (List TraceRow)
 all_rows actors = map (λ a. trace_rows_of a.did) actors
 
@@ -53,8 +53,8 @@ pub record FitTogether (g : ChipGame) (traces : List (List TraceRow)) (o : Outco
   pub interleaving : IsInterleaving g traces rows
   pub fired : (v : ℕ) → times_of v (row_firings rows) ≡ slice_index o.fired.items v
 
--- a report went out, and a trace if one is asked for: all rows of the actors, cut or not, fit together, with the
--- counts of the report
+-- a report was written, and a trace if asked: all rows of the actors, cut or not, have an interleaving, with the counts
+-- of the report
 pub record WritesOneRun (g : ChipGame) (old new : Outputs) (cut : Bool) : Type 0 where
   pub actors : List ActorKnown
   pub outcome : Outcome
@@ -62,7 +62,7 @@ pub record WritesOneRun (g : ChipGame) (old new : Outputs) (cut : Bool) : Type 0
   pub report : Appends old.report new.report (report_text outcome)
   pub trace : RecordsIfAsked actors old.trace new.trace cut
 
--- a report went out, and a trace: its rows fit together, with the counts of the report
+-- a report was written, and a trace: its rows have an interleaving, with the counts of the report
 pub record WritesFitting (g : ChipGame) (old_report new_report old_trace new_trace : Option (List ℕ)) : Type 0 where
   pub traces : List (List TraceRow)
   pub outcome : Outcome

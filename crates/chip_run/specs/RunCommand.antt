@@ -38,12 +38,12 @@ fault_of_crew (crew.Doubled vertex) = fault.Doubled vertex
 fault_of_crew (crew.Lost vertex) = fault.Lost vertex
 fault_of_crew (crew.Unfinished deficit root) = fault.Unfinished deficit
 
--- what is known by an answer of a gate that is never shut
+-- what is known of the result of a gate that is never shut
 abbrev pub never_shut : ℕ → ℕ → Bool → Type 0
 never_shut worker turn answer = answer ≡ true
 
 -- why a game has no report: a crew of it by this plan, which shares the actors so, has these feeds and a gate that is
--- never shut, didn't finish; or there is no memory for the report
+-- never shut, did not finish; or there is no memory for the report
 abbrev pub IsNotPlayed : Sharing → ChipGame → Left → Plan → Fault → Type 0
 IsNotPlayed shared g feeds plan f =
     ((e : CrewFault) × IsFaultOf shared g feeds plan never_shut e × (f ≡ fault_of_crew e)) ⊎ (f ≡ fault.NoMemory)
@@ -66,14 +66,14 @@ pub record Outputs : Type 0 where
   pub report : Option (List ℕ)
   pub trace : Option (Option (List ℕ))
 
--- nothing went out
+-- nothing was written
 pub record KeepsBoth (old new : Outputs) : Type 0 where
   pub report : Keeps old.report new.report
   pub trace : new.trace ≡ old.trace
 
--- what `run` answers if the inputs mean this game and these feeds: the trace of a crew that finished the game went out,
--- and the plain player's report; or nothing did, since the crew didn't finish; or the trace did not go out, and nothing
--- of the report; or the trace did, and the output of the report failed
+-- the results of `run` if the inputs mean this game and these feeds: the trace of a crew that finished the game was
+-- written, and the plain player's report; or nothing was, since the crew did not finish; or writing the trace failed,
+-- and nothing of the report was written; or the trace was written, and the output of the report failed
 abbrev pub RunAnswersFor : Sharing → ChipGame → Left → Plan → Outputs → Outputs → Result Ended Fault → Type 0
 RunAnswersFor shared g feeds plan old new (Ok ended) =
     (actors : List ActorKnown) × (text : List ℕ) × PlaysByCrew shared g feeds plan actors text ended.status
@@ -86,14 +86,14 @@ RunAnswersFor shared g feeds plan old new (Err f) =
     × (cut : Bool) × RecordsIfAsked actors old.trace new.trace cut
     × (w : WriteFault) × (f ≡ fault.Write w) × WritesAll old.report new.report text (Err w))
 
--- and if they mean none: nothing went out, and this is why
+-- if they mean none: nothing was written, and this is why
 abbrev pub IsRefused : SizeLimits → List ℕ → List ℕ → Option (List ℕ) → ℕ → Outputs → Outputs → Result Ended Fault
     → Type 0
 IsRefused limits graph_text chips_text feed_text limit old new (Ok ended) = ⊥
 IsRefused limits graph_text chips_text feed_text limit old new (Err f) =
     RefusesFedGame limits graph_text chips_text feed_text limit f × KeepsBoth old new
 
--- what `run` answers
+-- the results of `run`
 abbrev pub RunAnswers : SizeLimits → Sharing → List ℕ → List ℕ → Option (List ℕ) → ℕ → Plan → Outputs → Outputs
     → Result Ended Fault → Type 0
 RunAnswers limits shared graph_text chips_text feed_text limit plan old new result =
@@ -101,22 +101,22 @@ RunAnswers limits shared graph_text chips_text feed_text limit plan old new resu
     ⊎ ((g : ChipGame) × (feeds : Left) × MeansFedGame limits graph_text chips_text feed_text limit g feeds
     × RunAnswersFor shared g feeds plan old new result)
 
--- the same by what the readers have left, if that is known
+-- the same by the texts that the readers have left, if these are known
 abbrev pub RunReads : SizeLimits → Sharing → Option (List ℕ) → Option (List ℕ) → Option (Option (List ℕ)) → ℕ → Plan
     → Outputs → Outputs → Result Ended Fault → Type 0
 RunReads limits shared graph chips feed limit plan old new result =
     ForSome graph (λ graph_text. ForSome chips (λ chips_text. ForText feed
     (λ feed_text. RunAnswers limits shared graph_text chips_text feed_text limit plan old new result)))
 
--- what `run` wrote that ended well: the plain player's report of the game of these texts, with all chips that were fed
--- at the start, and its status
+-- what `run` wrote that ended well: the plain player's report of the game of these texts, with all fed chips at the
+-- start, and its status
 abbrev pub WritesReport : SizeLimits → List ℕ → List ℕ → Option (List ℕ) → ℕ → Option (List ℕ) → Option (List ℕ)
     → Ended → Type 0
 WritesReport limits graph_text chips_text feed_text limit old new ended =
     (g : ChipGame) × (feeds : Left) × MeansFedGame limits graph_text chips_text feed_text limit g feeds
     × (text : List ℕ) × ReportsFed g feeds text ended.status × Appends old new text
 
--- the same by what the readers have left, if that is known
+-- the same by the texts that the readers have left, if these are known
 abbrev pub RunReports : SizeLimits → Option (List ℕ) → Option (List ℕ) → Option (Option (List ℕ)) → ℕ
     → Option (List ℕ) → Option (List ℕ) → Result Ended Fault → Type 0
 RunReports limits graph chips feed limit old new result =
@@ -127,8 +127,8 @@ RunReports limits graph chips feed limit old new result =
 abbrev pub ReportsSome : List ℕ → ℕ → Type 0
 ReportsSome text status = (g : ChipGame) × IsGame g × Reports g text status
 
--- what `run` answers at readers of which nothing is known: the report of some game went out, with its status; or
--- nothing did; or its output failed
+-- the results of `run` for readers of which nothing is known: the report of some game was written, with its status; or
+-- nothing was; or its output failed
 abbrev pub ReportsSomeRun : Option (List ℕ) → Option (List ℕ) → Result Ended Fault → Type 0
 ReportsSomeRun old new (Ok ended) = (text : List ℕ) × ReportsSome text ended.status × Appends old new text
 ReportsSomeRun old new (Err f) =

@@ -7,8 +7,8 @@ use Rattle.chip_core.specs.Core.{Log, Take, Fire, Clear, Claim, Put}
 use Rattle.chip_trace.specs.Interleaving.{row_firings}
 use Rattle.chip_run.specs.Replaying.{row_at_vertex, rows_in, traces_in, times_of}
 
--- vertex 0 of the triangle takes its four chips, fires twice and sends on edge 0, and vertex 1 takes that message behind
--- an empty look; the latest stands first
+-- vertex 0 of the triangle takes its four chips, fires twice and sends on edge 0, and vertex 1 takes that message after
+-- an empty look; the latest comes first
 abbrev pub first_steps : Log
 first_steps = saw (Take 0) 2 ∷ saw (Put 0) 0 ∷ saw (Take 0) 0 ∷ saw (Claim 0) 0 ∷ saw (Clear 0) 0 ∷ saw (Fire 0 2) 0
     ∷ saw (Take 4) 4 ∷ []

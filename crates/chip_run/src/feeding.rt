@@ -41,7 +41,7 @@ fn read_feeds<F: Read>(
     Ok(feeds_of(alloc, &chips)?)
 }
 
-/// The vertices that have chips, ascending, each with how many.
+/// The vertices that have chips, ascending, each with its number of chips.
 fn feeds_of(alloc: Global, chips: &[u64]) -> Result<Vec<(u64, u64)>, AllocError>
     ensures { IfOk result (λ feeds. feeds.items ≡ Rattle.chip_run.specs.Feeding.feeds_of chips.now) }
 {

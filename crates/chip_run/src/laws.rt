@@ -1,17 +1,17 @@
-//! Laws of `run`: functions that do nothing, whose contracts are the laws.
+//! Laws of `run`: functions without code, whose contracts are the laws.
 
 ghost use Rattle.chip_run.specs.Laws.{SameBytes, SameBytesFed, RunTellsPlay, LogsFit, UnfedLogsFit, RowsFit, UncutTracesFit, FedRowsFit};
 ghost use Rattle.chip_run.specs.Worked.{RowsOfFirstSteps};
 
-/// A run on threads that wrote a report wrote the bytes of the plain player, with its status: of the same files, or,
-/// if chips were fed, of files that have all these chips at the start.
+/// A run on threads that wrote a report wrote the bytes of the plain player, with its status: for the same files, or,
+/// if chips were fed, for files that have all these chips at the start.
 pub fn same_bytes()
     ensures alike { SameBytes }
     ensures fed { SameBytesFed }
 {}
 
-/// The report of a run is that of a first sitting, on which `resume` goes on: its counts lead to its chips, from the start
-/// of the game that has all chips at the start, also those that were fed.
+/// The report of a run is that of a first stage, which `resume` continues: its counts lead to its chips, from the start
+/// of the game that has all chips at the start, those that were fed too.
 pub fn first_sitting()
     ensures { RunTellsPlay }
 {}
@@ -21,10 +21,10 @@ pub fn worked_rows()
     ensures { RowsOfFirstSteps }
 {}
 
-/// The rows of a run that is not fed have an interleaving, those that were cut too, and its firings are the counts of
-/// the report. So have the rows that were written, if no trace was cut, and those of each legal log, in its order. They
-/// fit as well if chips are fed, in the game that has all of them at the start, if no vertex is given any more than
-/// once.
+/// The rows of a run without feeds have an interleaving, those that were cut too, and its firings are the counts of the
+/// report. So have the rows that were written, if no trace was cut, and those of each legal log, in its order. If chips
+/// are fed and no vertex is given any more than once, the rows also have an interleaving in the game that has all of
+/// them at the start.
 pub fn rows_fit()
     ensures logs { LogsFit }
     ensures unfed { UnfedLogsFit }

@@ -1,7 +1,7 @@
 //! `run`: the report of a game that threads play.
 //!
-//! It is an engine as those of `chip_engine`, with their faults, in a crate of its own, so that a change of one of
-//! those need not read the running net.
+//! An engine like those of `chip_engine`, with their faults. It has its own crate, so that a change of one of those
+//! need not read the running net.
 #![tactic(auto)]
 
 pub use running::{RunOptions, run_engine, run_engine_with};

@@ -9,7 +9,7 @@ use chip_trace::write_trace;
 use std::alloc::Global;
 use std::io::Write;
 
-/// Writes the traces of all actors, if that is asked for, and tells whether one of them was cut.
+/// Writes the traces of all actors, if asked, and returns whether one of them was cut.
 pub(crate) fn record_if_asked<T: Write>(
     alloc: Global,
     actors: &[Actor],
@@ -24,7 +24,7 @@ pub(crate) fn record_if_asked<T: Write>(
     }
 }
 
-/// Writes the traces of all actors, and tells whether one of them was cut.
+/// Writes the traces of all actors, and returns whether one of them was cut.
 fn write_traces<T: Write>(alloc: Global, actors: &[Actor], writer: &mut T) -> Result<bool, Fault>
     ensures records { IfOk result (Records actors.now (T.contents writer.old) (T.contents writer.new)) }
     ensures fault { IfErr result (FailsToRecord actors.now (Some (T.contents writer.old))

@@ -20,7 +20,7 @@ use std::io::{Read, Write};
 use std::sync::Wait;
 use std::thread::Threads;
 
-/// Lets every worker pass.
+/// Admits every turn.
 struct Always;
 
 impl Gate for Always {
@@ -36,23 +36,23 @@ impl Gate for Always {
 /// The options of a run.
 #[derive(Clone, Copy)]
 pub struct RunOptions {
-    /// How large the game may be.
+    /// The limits of the game.
     pub limits: Limits,
-    /// How often a vertex may fire at most.
+    /// The most firings of a vertex, 0 to 2^40.
     pub limit: u64,
-    /// It seals nothing.
+    /// A plan that seals nothing.
     pub plan: Plan,
     pub sharing: Sharing,
 }
 
-/// Plays the game of a graph file, a chips file and a firing limit, within the standard limits, on `workers` threads,
-/// with rings of `ring` cells, each thread for `turns` turns at most. The chips of the file of feeds, if there is one,
-/// come while the vertices fire. If a trace is asked for, the rows that the actors wrote down are written first, at
-/// most `trace_rows` of each vertex, and then the report.
+/// Plays the game of a graph file, a chips file and a firing limit, within the standard limits, on `workers` threads (1
+/// to 64), with rings of `ring` cells (1 to 64), each thread for at most `turns` turns (1 to 2^40). The chips of the
+/// file of feeds, if there is one, come while the vertices fire. If a trace is asked for, the rows that the actors
+/// wrote down, at most `trace_rows` of each vertex (0 to 2^20), are written before the report.
 ///
 /// Its bytes and its status are those of `plain_engine` for the game that has all these chips at the start, however the
-/// threads were scheduled. The readers are read in their order. The report is made whole before the first byte of
-/// either is written, and if the trace cannot be written, nothing of the report is.
+/// threads were scheduled. The readers are read in order. The whole report is made before the first byte of either
+/// output is written. If the trace cannot be written, nothing of the report is.
 pub fn run_engine<R: Threads + Wait + Sync, G: Read, C: Read, F: Read, T: Write, W: Write>(
     rt: &R,
     alloc: Global,
@@ -95,7 +95,7 @@ pub fn run_engine<R: Threads + Wait + Sync, G: Read, C: Read, F: Read, T: Write,
 }
 
 /// Does what `run_engine` does, by these options; the workers of `run_engine` share one queue. The gate is asked before
-/// each turn and always answers true. It is told of the polls, and changes nothing of the bytes and the status.
+/// each turn and always returns true. It also sees the polls, and changes neither the bytes nor the status.
 pub fn run_engine_with<
     R: Threads + Wait + Sync,
     G: Read,
@@ -126,7 +126,7 @@ pub fn run_engine_with<
         (W.contents output.old) (W.contents output.new) result }
     ensures any { ReportsSomeRun (W.contents output.old) (W.contents output.new) result }
 {
-    // (the game is not held while the texts go out)
+    // (the game is dropped before the texts are written)
     let (answer, actors) = {
         let game = read_game(alloc, options.limits, graph, chips, options.limit)?;
         let feeds = read_fed(alloc, options.limits, feed, game.graph().vertices())?;
@@ -143,7 +143,7 @@ pub fn run_engine_with<
     )
 }
 
-/// Plays a game, with these feeds if there are any: its report with the exit status, and who played it.
+/// Plays a game, with these feeds if there are any: its report with the exit status, and the actors that played it.
 fn play<R: Threads + Wait + Sync, K: Gate + Sync>(
     rt: &R,
     alloc: Global,
@@ -170,7 +170,7 @@ fn play<R: Threads + Wait + Sync, K: Gate + Sync>(
     }
 }
 
-/// A crew's fault, without the root. Its number is the same.
+/// A crew's fault without the root. Its number is the same.
 fn fault_of_crew(fault: CrewFault) -> Fault
     ensures fault { result ≡ Rattle.chip_run.specs.RunCommand.fault_of_crew fault }
     ensures number { command_fault_number result ≡ crew_fault_number fault }

@@ -1,4 +1,4 @@
--- What `chip_log` wants of a log, so that it computes.
+-- What `chip_log` requires of a log, in a form that computes.
 use Rattle.std.specs.Prelude.{ℕ, ◌==◌, nat_lt, Bool, true, ◌&&◌, List, [], ◌∷◌, ◌++◌, if◌then◌else◌}
 use Rattle.chip_log.specs.Log.{steps_of, is_out, is_in, active_after, begins_active}
 use Rattle.chip_log.specs.Order.{may_send}
@@ -44,6 +44,6 @@ abbrev pub fit : Sizes → List LogRow → Bool
 fit sizes [] = true
 fit sizes (x ∷ xs) = nat_lt x.process sizes.processes && (has_channel sizes.channels x.step && fit sizes xs)
 
--- `ordered` may be asked for the order of a log
+-- `ordered` may be called for the log
 abbrev pub may_order : Sizes → List LogRow → Bool
 may_order sizes log = have_ends log log && (are_sent log [] log && fit sizes log)

@@ -1,4 +1,4 @@
-//! Logs worked out by hand: that they have an order and claims a verdict, and which.
+//! Logs worked out by hand: that they have an order, and the verdicts on their claims.
 
 mod detectors;
 mod ends;

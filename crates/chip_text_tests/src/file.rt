@@ -1,4 +1,4 @@
-//! Worked files, with values from outside, and readers that are slow or fail.
+//! Worked files, with expected values from outside, and readers that are slow or fail.
 
 ghost use Rattle.chip_file.specs.Source.{IsFresh};
 
@@ -13,7 +13,7 @@ use std::alloc::{AllocError, Global};
 use std::io;
 use std::io::{ErrorKind, Read};
 
-/// The most bytes of an input by the standard limits.
+/// The most bytes of an input within the standard limits.
 pub(crate) const MAX_BYTES: usize = 16_777_216;
 
 /// The triangle: its root edges are 4, 5 and 6.
@@ -25,7 +25,7 @@ pub(crate) fn triangle(alloc: Global) -> Result<Graph, FileFault> {
     read_graph(alloc, &mut TRIANGLE.as_bytes())
 }
 
-/// Gives one byte at each read, and may fail at one of them.
+/// A reader that gives one byte at each read, and may fail at one of them.
 #[derive(Drop)]
 pub(crate) struct Slow<'t> {
     text: &'t [u8],
@@ -57,7 +57,7 @@ impl Read for Slow<'_> {
     }
 }
 
-/// Never ends, and counts its reads, of one byte each.
+/// A reader that never ends, and counts its reads, of one byte each.
 #[derive(Drop)]
 struct Endless(u64);
 
@@ -85,7 +85,7 @@ fn reads_the_triangle(rt: HostRuntime) {
     assert!(rt; graph.edges() == edges.as_slice());
 }
 
-/// Texts of graphs, each with the first thing wrong with it, if something is.
+/// Texts of graphs, each with the first thing wrong with it, if anything.
 const GRAPHS: &[&(&str, Option<FileFault>)] = &[
     &(TRIANGLE, None),
     &(
@@ -152,7 +152,7 @@ const GRAPHS: &[&(&str, Option<FileFault>)] = &[
         "{\"edges\":[],\"sink\":18446744073709551615,\"version\":1,\"vertices\":1}",
         Some(FileFault::Graph(GraphFault::Sink)),
     ),
-    // These have their edges first, and something else in or behind them.
+    // These have their edges first, and something else in or after them.
     &(
         " { \"edges\": [ [0, 1,\t1],\n[0,1,2] ] , \"sink\":1,\"version\":1,\"vertices\":2 } ",
         None,
@@ -187,7 +187,7 @@ const GRAPHS: &[&(&str, Option<FileFault>)] = &[
     &("1e300", Some(FileFault::Shape)),
 ];
 
-/// The first thing wrong with a text of a graph, if something is.
+/// The first thing wrong with a text of a graph, if anything.
 fn fault_of_graph(alloc: Global, text: &[u8]) -> Option<FileFault> {
     graph_of_text(alloc, Limits::standard(), text).err()
 }
@@ -279,15 +279,15 @@ const WRONG_CHIPS: &[&(&str, FileFault)] = &[
     ),
     &("vertex,chips\n0\n", FileFault::Row(0)),
     &("vertex,chips\n1,1\n0,1,1\n", FileFault::Row(1)),
-    // The end of a line in quotes ends no row, and a comma there parts no fields.
+    // The end of a line in quotes ends no row, and a comma there separates no fields.
     &("vertex,chips\n0,\"1\n2\"\n1,1\n", FileFault::Number(0)),
     &("vertex,chips\n0,1\r1,\"1\r", FileFault::Number(1)),
     &("vertex,chips\n0,\",\"\n", FileFault::Number(0)),
-    // Two quotes are one within quotes, which go on behind them.
+    // Two quotes within quotes are one, and the field goes on after them.
     &("vertex,chips\n\"0\"\"\n\",1\n", FileFault::Number(0)),
-    // A quote in a field that has none before it opens none.
+    // A quote in a field that does not begin with one opens none.
     &("vertex,chips\n0\"\n1,1\n\"", FileFault::Row(0)),
-    // A byte order mark is none behind the start.
+    // A byte order mark is one only at the start.
     &("vertex,chips\n0,1\n\u{feff}1,1\n", FileFault::Number(1)),
     &("vertex,chips\n0,1\r\n,,,,,\"", FileFault::Row(1)),
     &("vertex,chips\n0,1099511627777\n", FileFault::Total),
@@ -407,7 +407,7 @@ fn a_source_tells_the_reads_to_a_failed_one(rt: HostRuntime) {
     assert!(rt; slow.reads == 3);
 }
 
-/// Whether a source of `bytes` bytes tells one read for each, and that the last one went so.
+/// Whether a source of `bytes` bytes counted one read for each, and the last one went so.
 fn tells(source: &Source<'_, Slow<'_>>, bytes: usize, last: LastRead) -> bool {
     source.reads() == (bytes as u64).saturating_add(1) && source.last_read() == last
 }
@@ -421,7 +421,7 @@ const TEXTS: [&str; 5] = [
     "process,kind,channel\n0,over,0\n",
 ];
 
-/// What reading a source as this kind of text answers: none, or its fault.
+/// The result of reading a source as this kind of text: none, or its fault.
 fn fault_of_source(
     alloc: Global,
     source: &mut Source<'_, Slow<'_>>,
@@ -585,7 +585,7 @@ fn reads_chips_of_every_vertex(rt: HostRuntime) {
     assert!(rt; are_largest_chips(&chips));
 }
 
-/// Limits that the triangle's text just meets, but for as many vertices, edges and bytes fewer.
+/// Limits that the triangle's text just meets, less this number of vertices, edges and bytes.
 fn limits_less(vertices: u64, edges: u64, bytes: u64) -> Option<Limits> {
     let length = TRIANGLE.len() as u64;
     Limits::new(
@@ -595,7 +595,7 @@ fn limits_less(vertices: u64, edges: u64, bytes: u64) -> Option<Limits> {
     )
 }
 
-/// What is wrong with the triangle's text by such limits, if something is.
+/// What is wrong with the triangle's text by such limits, if anything.
 fn fault_within(alloc: Global, vertices: u64, edges: u64, bytes: u64) -> Option<FileFault> {
     let limits = limits_less(vertices, edges, bytes)?;
     read_graph_within(alloc, limits, &mut TRIANGLE.as_bytes()).err()
@@ -612,7 +612,7 @@ fn each_limit_is_met(rt: HostRuntime) {
     assert!(rt; fault_within(alloc, 0, 0, 1) == Some(FileFault::TooLong));
 }
 
-/// What is wrong with chips within `bytes` bytes, if something is.
+/// What is wrong with chips within `bytes` bytes, if anything.
 fn fault_of_chips_within(alloc: Global, bytes: u64) -> Option<FileFault> {
     let limits = Limits::new(3, 4, bytes)?;
     read_chips_within(alloc, limits, &mut "vertex,chips\n0,4\n".as_bytes(), 3).err()
@@ -624,7 +624,7 @@ fn chips_meet_their_limit(rt: HostRuntime) {
     assert!(rt; fault_of_chips_within(rt.alloc(), 16) == Some(FileFault::TooLong));
 }
 
-/// What is wrong with a schedule and with a run of the triangle within `bytes` bytes, if something is.
+/// What is wrong with a schedule and with a run of the triangle within `bytes` bytes, if anything.
 fn faults_of_rows_within(
     alloc: Global,
     graph: &Graph,

@@ -1,5 +1,5 @@
-//! Inputs of the largest graph, and of the greatest length. A reader that gives up with no memory meets its contract,
-//! so that only these tests tell it from one that reads.
+//! Inputs of the largest graph, and of the greatest length. A reader that gives up for want of memory meets its
+//! contract. Only these tests tell it from one that reads.
 
 use crate::file::{
     MAX_BYTES, Slow, are_largest_chips, largest_chips, largest_graph, read_largest_chips,
@@ -65,7 +65,7 @@ fn reads_an_event_at_every_edge(rt: HostRuntime) {
     }
 }
 
-/// The text with this byte again and again after it, 16,777,216 bytes in all.
+/// The text followed by copies of this byte, 16,777,216 bytes in all.
 fn filled(mut text: String, byte: char) -> Result<String, AllocError> {
     for _ in text.len()..MAX_BYTES {
         text.push(byte)?;
@@ -73,7 +73,7 @@ fn filled(mut text: String, byte: char) -> Result<String, AllocError> {
     Ok(text)
 }
 
-/// A header and `count` times the same row.
+/// A header, and the same row `count` times.
 fn rows(alloc: Global, header: &str, row: &str, count: u64) -> Result<String, AllocError> {
     let mut text = String::new(alloc);
     text.push_str(header)?;
@@ -83,7 +83,7 @@ fn rows(alloc: Global, header: &str, row: &str, count: u64) -> Result<String, Al
     Ok(text)
 }
 
-/// A header and `count` times the same row, with empty lines up to 16,777,216 bytes.
+/// A header, and the same row `count` times, with empty lines up to 16,777,216 bytes.
 fn longest_rows(alloc: Global, header: &str, row: &str, count: u64) -> Result<String, AllocError> {
     let text = rows(alloc, header, row, count)?;
     filled(text, '\n')

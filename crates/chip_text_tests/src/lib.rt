@@ -1,5 +1,5 @@
-//! Texts read and written, with values from outside: what no contract says of `chip_file`, `chip_report` and `chip_trace`,
-//! and of `chip_log`, which judges the logs that are read.
+//! Tests of texts read and written, with expected values from outside: what is not proved of `chip_file`, `chip_report`
+//! and `chip_trace`, and of `chip_log`, which judges the logs that are read.
 #![tactic(auto)]
 
 #[cfg(test)]

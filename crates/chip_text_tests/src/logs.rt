@@ -1,4 +1,4 @@
-//! Logs, with values from outside.
+//! Logs, with expected values from outside.
 
 use chip_file::{FileFault, Log, read_log_within};
 use chip_graph::Limits;
@@ -15,7 +15,7 @@ fn row(process: u32, step: Step) -> LogRow {
     LogRow { process, step }
 }
 
-/// The basic, or the control messages of a channel.
+/// The basic or the control messages of a channel.
 fn stream(channel: u32, is_control: bool) -> Stream {
     Stream {
         channel,
@@ -23,7 +23,7 @@ fn stream(channel: u32, is_control: bool) -> Stream {
     }
 }
 
-/// Process 0 gives process 2 work, and says that all is over once it heard that the work is done.
+/// Process 0 gives process 2 work, and claims the end once it heard that the work is done.
 const WORK: &str =
     "process,kind,channel\n0,active,7\n0,send,3\n2,receive,3\n0,passive,18446744073709551615\n\
 2,passive,7\n2,tell,4\n0,hear,4\n0,over,7\n";
@@ -70,7 +70,7 @@ fn takes_rows_without_a_fault(rt: HostRuntime) {
     }
 }
 
-/// Rows with a fault. The first row with one tells it, and of its faults the first in the order of the table.
+/// Rows with a fault. The first row with one decides, and of its faults the first in the order of the table.
 const FAULTS: &[&(&str, FileFault)] = &[
     &("0,active\nx,y,z\n", FileFault::Row(0)),
     &("0,over,0\n0,Send,0\n", FileFault::Kind(1)),
@@ -80,7 +80,7 @@ const FAULTS: &[&(&str, FileFault)] = &[
     &("8191,over,0\n8192,over,0\n", FileFault::Vertex(1)),
     &("0,tell,131071\n0,tell,131072\n", FileFault::Vertex(1)),
     &("0,send,4294967296\n", FileFault::Vertex(0)),
-    // Another process sends, or gets; and that is told before a send while passive.
+    // Another process sends, or gets; and that is reported before a send while passive.
     &("0,tell,1\n1,hear,1\n1,tell,1\n", FileFault::End(2)),
     &("0,hear,1\n1,hear,1\n", FileFault::End(1)),
     &("0,active,0\n0,send,1\n1,send,1\n", FileFault::End(2)),
@@ -88,7 +88,7 @@ const FAULTS: &[&(&str, FileFault)] = &[
     &("0,send,1\n", FileFault::Passive(0)),
     &("0,active,0\n0,passive,0\n0,send,1\n", FileFault::Passive(2)),
     &("0,hear,1\n0,send,1\n", FileFault::Passive(1)),
-    // A process that begins behind its first row.
+    // A process that begins after its first row.
     &("0,over,0\n1,active,0\n0,active,0\n", FileFault::Woken(2)),
     &("0,active,0\n0,active,0\n", FileFault::Woken(1)),
 ];
@@ -107,7 +107,7 @@ fn refuses_another_header(rt: HostRuntime) {
     assert!(rt; found == Some(FileFault::Header));
 }
 
-/// A row of each channel within the standard limits, and with them of each process.
+/// A row of each channel within the standard limits, and so of each process.
 fn row_of_every_channel(alloc: Global) -> Result<String, AllocError> {
     let mut text = String::new(alloc);
     text.push_str("process,kind,channel\n")?;

@@ -1,4 +1,4 @@
-//! Reports worked out by hand, and writers that are slow or fail. What holds for all inputs stands in the contracts.
+//! Reports worked out by hand, and writers that are slow or fail. What holds for all inputs is in the contracts.
 
 use crate::writers::Faulty;
 use chip_graph::Limits;
@@ -46,7 +46,7 @@ pub(crate) fn is_same(outcome: &Outcome, other: &Outcome) -> bool {
         && outcome.sealed.as_slice() == other.sealed.as_slice()
 }
 
-/// The report of an outcome is its text, which is read back.
+/// Checks that the report of an outcome is this text, which is read back.
 fn writes_and_reads(rt: &(impl AllocGlobal + Abort), worked: &Worked) {
     let name = worked.name;
     let outcome = outcome_of(rt, worked);
@@ -173,7 +173,7 @@ const NO_REPORTS: &[&str] = &[
     // lists of different lengths, and no vertex
     "{\"chips\":[1,0],\"closed\":true,\"fired\":[2,1,0],\"over\":[],\"sealed\":[],\"version\":1}\n",
     "{\"chips\":[],\"closed\":true,\"fired\":[],\"over\":[],\"sealed\":[],\"version\":1}\n",
-    // halted vertices that do not ascend, are no vertices, or stand in both lists
+    // halted vertices that do not ascend, are no vertices, or are in both lists
     "{\"chips\":[1,0,3],\"closed\":false,\"fired\":[2,1,0],\"over\":[1,0],\"sealed\":[],\"version\":1}\n",
     "{\"chips\":[1,0,3],\"closed\":false,\"fired\":[2,1,0],\"over\":[],\"sealed\":[1,1],\"version\":1}\n",
     "{\"chips\":[1,0,3],\"closed\":false,\"fired\":[2,1,0],\"over\":[3],\"sealed\":[],\"version\":1}\n",
@@ -224,11 +224,11 @@ fn each_cut_of_a_report_with_a_newline_is_none(rt: HostRuntime) {
     }
 }
 
-/// How many vertices of a wide report are over.
+/// The number of vertices of a wide report that are over.
 const HALF: u64 = 2_048;
 
-/// A report of `vertices` vertices with these chips and firings each. The first half is over, and of the others all but
-/// the last one were sealed.
+/// A report of `vertices` vertices with these chips and firings each. The first half is over, and all others but the
+/// last were sealed.
 pub(crate) fn wide(alloc: Global, vertices: u64, number: &str) -> Result<String, AllocError> {
     let mut text = String::new(alloc);
     text.push_str("{\"chips\":[")?;
@@ -285,8 +285,8 @@ fn a_report_of_one_vertex_too_many(rt: HostRuntime) {
     assert!(rt; sitting.expect(&rt, "a sitting").prior.len() == 4_097);
 }
 
-/// Writes bytes to a writer that fails at this write, or takes none there, and maybe from there on. What is written
-/// ends there, and the writer is not asked again.
+/// Writes bytes to a writer that fails at this write, or takes none there, and maybe from there on. The output ends
+/// there, and the writer is not called again.
 fn writes_up_to(
     rt: &(impl AllocGlobal + Abort),
     bytes: &[u8],

@@ -1,4 +1,4 @@
-//! Worked schedules and recorded runs of the triangle, with values from outside.
+//! Worked schedules and recorded runs of the triangle, with expected values from outside.
 
 use crate::file::{MAX_BYTES, Slow, spaces, triangle};
 use chip_file::{FileFault, read_schedule, read_trace};
@@ -6,7 +6,7 @@ use chip_link::{Event, TraceRow};
 use std::alloc::Global;
 use std::io::Read;
 
-/// A stop of edge 1 while vertex 0 sends.
+/// A seal of edge 1 while vertex 0 sends.
 const SEALED_HALF_WAY: &str =
     "event,at,count\nseal,1,0\ntake,4,0\nfire,0,2\nclear,0,0\nclaim,0,0\nput,0,0\nclear,1,0\nclaim,1,0\nhalt,0,0\n";
 
@@ -40,7 +40,7 @@ fn reads_the_schedule_of_sealed_half_way(rt: HostRuntime) {
     assert!(rt; events.as_slice() == SEALED_HALF_WAY_EVENTS.as_slice());
 }
 
-/// Schedules of the triangle, each with the event that it names, if it names one.
+/// Schedules of the triangle, each with its one event, if it has one.
 const SCHEDULES: &[&(&str, Option<Event>)] = &[
     &("event,at,count\ntake,6,0\n", Some(Event::Take(6))),
     &("event,at,count\nack,06,007\n", Some(Event::Ack(6))),
@@ -189,7 +189,7 @@ fn reads_runs_of_no_rows(rt: HostRuntime) {
     assert!(rt; are_runs(&traces, &[&[], &[], &[]]));
 }
 
-/// Recorded runs of the triangle that mean none, each with the first thing wrong with them.
+/// Recorded runs of the triangle that mean none, each with the first thing wrong with it.
 const WRONG_RUNS: &[&(&str, FileFault)] = &[
     &("", FileFault::Header),
     &("0,take,4,4\n", FileFault::Header),

@@ -1,14 +1,14 @@
-//! Reports of plays in several sittings, worked out by hand.
+//! Reports of plays in several stages, worked out by hand.
 
 use crate::report::{is_same, wide};
 use chip_report::{ReportFault, read_any, read_report, report_two};
 use chip_sequence::Resumed;
 use std::process::Abort;
 
-/// The triangle with five chips on vertex 0, after a sitting with limit 2 and one without a limit.
+/// The triangle with five chips on vertex 0, after a stage with limit 2 and one without a limit.
 const WENT_ON: &[u8] =
     b"{\"chips\":[0,1,4],\"closed\":true,\"fired\":[1,0,0],\"over\":[],\"prior\":[2,1,0],\"sealed\":[],\"version\":2}\n";
-/// The first of these sittings.
+/// The first of these stages.
 const FIRST: &[u8] =
     b"{\"chips\":[2,0,3],\"closed\":false,\"fired\":[2,1,0],\"over\":[0],\"sealed\":[],\"version\":1}\n";
 
@@ -30,21 +30,21 @@ fn first_sitting(rt: HostRuntime) {
     assert!(rt; resumed.prior.as_slice() == [0, 0, 0].as_slice());
 }
 
-/// The text of a sitting is read back.
+/// Checks that the text of a stage is read back.
 fn reads_back(rt: &(impl AllocGlobal + Abort), text: &[u8], resumed: &Resumed) {
     let read = read_any(rt.alloc(), text).expect(rt, "a report");
     assert!(rt; is_same(&read.outcome, &resumed.outcome));
     assert!(rt; read.prior.as_slice() == resumed.prior.as_slice());
 }
 
-/// A report of a first sitting is read as such a one, in which nobody had fired before.
+/// A report of a first stage is read as one, before which no vertex had fired.
 fn reads_first(rt: &(impl AllocGlobal + Abort), text: &[u8], resumed: &Resumed) {
     let first = read_any(rt.alloc(), text).expect(rt, "a report");
     assert!(rt; is_same(&first.outcome, &resumed.outcome));
     assert!(rt; first.prior.len() == 4_096 && first.prior.iter().all(|times| *times == 0));
 }
 
-/// The outcome that a report of a first sitting tells, after a sitting in which each vertex fired 2^60 times.
+/// The outcome of a report of a first stage, after a stage in which each vertex fired 2^60 times.
 fn after_many(rt: &(impl AllocGlobal + Abort), text: &[u8]) -> Resumed {
     let outcome = read_report(rt.alloc(), text).expect(rt, "a report");
     let prior = vec![in rt.alloc(); 1 << 60; 4_096].expect(rt, "memory");
@@ -62,13 +62,13 @@ fn the_widest_sitting(rt: HostRuntime) {
     reads_first(&rt, last.as_bytes(), &resumed);
 }
 
-/// Whether a text is the report of no sitting.
+/// Whether a text is the report of no stage.
 fn is_refused(rt: &(impl AllocGlobal + Abort), text: &[u8]) -> bool {
     matches!(read_any(rt.alloc(), text), Err(ReportFault::NotReport))
 }
 
-/// Fewer numbers of earlier firings than vertices, one past 2^60, none, some in the wrong place, one with a leading
-/// zero, lists alone, none of them, and some in a first sitting's report.
+/// Fewer numbers of earlier firings than vertices, one above 2^60, none, some in the wrong place, one with a leading
+/// zero, lists alone, none of them, and some in a first stage's report.
 const NO_SITTINGS: &[&str] = &[
     "{\"chips\":[0,1,4],\"closed\":true,\"fired\":[1,0,0],\"over\":[],\"prior\":[2,1],\"sealed\":[],\"version\":2}\n",
     "{\"chips\":[0],\"closed\":true,\"fired\":[1],\"over\":[],\"prior\":[1152921504606846977],\"sealed\":[],\"version\":2}\n",

@@ -1,4 +1,4 @@
-//! Worked runs of the triangle, with values from outside.
+//! Worked runs of the triangle, with expected values from outside.
 
 ghost use Rattle.std.specs.Prelude.{◌<◌};
 
@@ -39,7 +39,7 @@ fn game_of(
     Game::new(graph, start, limit).expect(rt, "a game")
 }
 
-/// What a replay on the triangle answers, with four chips on vertex 0: its root edges are 4, 5 and 6.
+/// The result of a replay on the triangle, with four chips on vertex 0: its root edges are 4, 5 and 6.
 fn replayed(
     rt: &(impl AllocGlobal + Abort),
     limit: u64,
@@ -87,7 +87,7 @@ fn replays_the_triangle(rt: HostRuntime) {
     is_replayed(&rt, &[&[take(4, 4), fire(2)], SECOND, &[]]);
 }
 
-/// What a replay within this limit says to be left.
+/// What a replay within this limit reports as left.
 fn leaves(rt: &(impl AllocGlobal + Abort), limit: u64, traces: &[&[TraceRow]], left: &[Left]) {
     let told = replayed(rt, limit, traces).expect(rt, "a replay");
     assert!(rt; told.left.as_slice() == left, "{:?}", told.left);
@@ -114,7 +114,7 @@ const TWICE: &[TraceRow] = &[
 fn tells_what_is_left(rt: HostRuntime) {
     leaves(&rt, 1 << 40, &[FIRST, SECOND, SINK], &[]);
     leaves(&rt, 1 << 40, &[&[], &[], &[]], &[messages(4, 1)]);
-    // two of its four chips are enough for one firing more
+    // two of its four chips are enough for one more firing
     let can_fire = [messages(1, 1), Left::CanFire { vertex: 0 }];
     leaves(&rt, 2, &[ONCE, &[take(0, 1)], &[]], &can_fire);
     let at_limit = [messages(1, 1), Left::AtLimit { vertex: 0 }];
@@ -153,7 +153,7 @@ fn is_stuck(
 fn names_where_it_is_stuck(rt: HostRuntime) {
     // a message of two chips taken as one; vertex 0 waits at its last row
     is_stuck(&rt, 1 << 40, &[FIRST, &[take(0, 1), fire(1)], SINK], 1, 0);
-    // each trace cut behind its first row
+    // each trace cut after its first row
     is_stuck(
         &rt,
         1 << 40,
@@ -175,7 +175,7 @@ fn writes_the_triangle(rt: HostRuntime) {
     assert!(rt; written.as_slice() == lines.as_bytes());
 }
 
-/// As many vertices as there may be, each with a chip and an edge to the one before it; the sink is vertex 0.
+/// As many vertices as possible, each with a chip and an edge to the one before it; the sink is vertex 0.
 fn row(rt: &(impl AllocGlobal + Abort)) -> Game {
     let mut ends = Vec::new(rt.alloc());
     for head in 0..4_095u64 {
@@ -206,7 +206,7 @@ fn run_of_the_row(rt: &(impl AllocGlobal + Abort)) -> Vec<Vec<TraceRow>> {
     traces
 }
 
-/// A replay tells this number of firings, each of one.
+/// Checks that a replay has this number of firings, each of one.
 fn replays_ones(
     rt: &(impl AllocGlobal + Abort),
     game: &Game,
@@ -232,7 +232,7 @@ fn single(rt: &(impl AllocGlobal + Abort)) -> Game {
     game_of(rt, &[(0, 1)], 1, start, 1 << 40)
 }
 
-/// A run of it: 50,000 firings of one, each message taken by itself.
+/// A run of it: 50,000 single firings, each message taken by itself.
 fn long_run(rt: &(impl AllocGlobal + Abort)) -> Vec<Vec<TraceRow>> {
     let mut sender = vec![in rt.alloc(); fire(1); 50_000].expect(rt, "memory");
     sender.insert(0, take(1, 50_000)).expect(rt, "memory");
@@ -279,7 +279,7 @@ fn tells_a_write_that_failed(rt: HostRuntime) {
     assert!(rt; told == Err(TraceFault::Write));
 }
 
-/// The long run goes out byte by byte, and a failure is told when it comes, an interruption among them.
+/// The long run is written byte by byte, and a failure is reported when it comes, even an interruption.
 fn trickles(
     rt: &(impl AllocGlobal + Abort),
     traces: &[Vec<TraceRow>],

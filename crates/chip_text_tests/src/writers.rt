@@ -4,8 +4,8 @@ use std::io;
 use std::io::Write;
 use std::process::Abort;
 
-/// Takes one byte at each write, up to the write with this index. That one fails, or takes none; and those behind it do
-/// so too if it `stays` so.
+/// Takes one byte at each write, up to the write with this index. That one fails, or takes none; and so do those after
+/// it if it `stays` so.
 #[derive(Drop)]
 pub(crate) struct Faulty {
     pub taken: Vec<u8>,

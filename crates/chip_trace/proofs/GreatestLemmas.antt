@@ -1,5 +1,5 @@
 -- Serves Interleaving.antt.
--- Where no next row is met, each vertex has used as many rows as any partial interleaving lets it use.
+-- Where no next row is enabled, each vertex has used as many rows as in any partial interleaving.
 use Rattle.chip_trace.proofs.Names.{◌≡◌, ℕ, ◌<◌, ◌≤◌, true, false, List, [], ◌∷◌, ◌++◌, length, refl, sym, ap, ◌∙◌}
 use Rattle.chip_trace.proofs.Names.{arith, append_assoc, append-nil, length-append, Some, nat_tests, cond_yes, dite}
 use Rattle.chip_trace.proofs.Names.{ℕ_discrete, TraceRow, ChipGame, is_row_enabled, Placed, rows_of, AreRowsEnabled, trace_of}
@@ -9,7 +9,7 @@ use Rattle.chip_trace.proofs.RowLemmas.{rows_of-append, met_stays}
 
 module _ (g : ChipGame) (traces : List (List TraceRow)) (xs : List Placed) (partial : IsPartial g traces xs)
     (settled : (v : ℕ) (row : TraceRow) → next_row traces xs v ≡ Some row → is_row_enabled g (rows_of xs) v row ≡ false) where
-  -- behind a beginning that goes no further anywhere, the next row goes no further either
+  -- after a prefix that goes no further anywhere, the next row goes no further either
   one_more : (ys before rest : List Placed) (v : ℕ) (row : TraceRow)
       → before ++ record { vertex = v; row = row } ∷ rest ≡ ys →
       ((u : ℕ) → (left : List TraceRow) × (rows_of ys u ++ left ≡ trace_of traces u)) →
@@ -19,7 +19,7 @@ module _ (g : ChipGame) (traces : List (List TraceRow)) (xs : List Placed) (part
       (ℕ_discrete (length (rows_of before v)) (length (rows_of xs v))) (λ same. absurd (impossible same))
       (λ other. let l = within v in omega arith)
     where
-      -- what the other list has left behind this beginning
+      -- what the other list has left after this prefix
       left : (u : ℕ) → (left : List TraceRow) × (rows_of before u ++ left ≡ trace_of traces u)
       left u = (
         rows_of (record { vertex = v; row = row } ∷ rest) u ++ (in_order u).0,
@@ -53,7 +53,7 @@ module _ (g : ChipGame) (traces : List (List TraceRow)) (xs : List Placed) (part
           let no' = settled v row here in
           cc
 
-  -- no list goes further from a beginning that goes no further
+  -- no list goes further from a prefix that goes no further
   no_further : (ys before rest : List Placed) → before ++ rest ≡ ys →
       ((u : ℕ) → (left : List TraceRow) × (rows_of ys u ++ left ≡ trace_of traces u)) →
       AreRowsEnabled g before rest →
@@ -68,14 +68,14 @@ module _ (g : ChipGame) (traces : List (List TraceRow)) (xs : List Placed) (part
       grind (arith, nat_tests, length-append))
       u
 
-  -- so this is greatest progress
+  -- so this is maximal progress
   pub settled_is_greatest : IsGreatestProgress g traces xs
   settled_is_greatest = record {
     partial = partial;
     greatest = λ ys other. no_further ys [] ys refl other.in_order other.met (λ u. omega arith);
   }
 
--- where some vertex has a row left at greatest progress, there is no interleaving
+-- where some vertex has a row left after maximal progress, there is no interleaving
 pub none_whole : (g : ChipGame) (traces : List (List TraceRow)) (xs : List Placed) → IsGreatestProgress g traces xs
     → (v : ℕ) → length (rows_of xs v) < length (trace_of traces v) →
     (ys : List Placed) → IsInterleaving g traces ys → ⊥

@@ -1,5 +1,5 @@
 -- Serves Interleaving.antt, Kept.antt, Runner.antt.
--- What a replay keeps: at the start, and as a vertex uses a row that is met. Then one row fewer is left.
+-- What a replay keeps: at the start, and as a vertex uses a row that is enabled. Then one row fewer is left.
 use Rattle.chip_trace.proofs.Names.{◌≡◌, ◌≢◌, ℕ, zero, suc, ◌+◌, ◌-◌, ◌*◌, ◌^◌, ◌<◌, ◌≤◌, true, List, [], ◌∷◌, ◌++◌}
 use Rattle.chip_trace.proofs.Names.{length, take, set, get_or, replicate, refl, sym, ap, ◌∙◌, arith, append-nil}
 use Rattle.chip_trace.proofs.Names.{length-append, dite, ℕ_discrete, get_or-set_same, get_or-set_other}
@@ -15,7 +15,7 @@ use Rattle.chip_trace.proofs.RowLemmas.{firings-append, met_stays, AreMet-push}
 one_head : (G : Multigraph) (e u v : ℕ) → goes_into G u e ≡ true → goes_into G v e ≡ true → u ≡ v
 one_head G e u v into goes = grind (arith, nat_tests)
 
--- how far a vertex has come behind one more row
+-- how far a vertex has come after one more row
 abbrev after : TraceRow → RunnerState → RunnerState
 after (Take edge count) r = record { used = r.used + 1; fires = r.fires; chips = r.chips + count }
 after (Fire k) r = record { used = r.used + 1; fires = r.fires ++ k ∷ []; chips = r.chips }
@@ -29,7 +29,7 @@ moves : (v : ℕ) (row : TraceRow) (p q : ReplayProgress) → UsesRow v row p q
 moves v (Take edge count) p q uses = uses.0
 moves v (Fire k) p q uses = uses.0
 
--- v uses its next row, which is met
+-- v uses its next row, which is enabled
 module _ (g : ChipGame) (traces : List (List TraceRow)) (p q : ReplayProgress) (v : ℕ) (row : TraceRow)
     (kept : IsReplayKept g traces p) (is_vertex : v < g.graph.vertices) (may : MayUse g traces p v row)
     (uses : UsesRow v row p q) where

@@ -1,5 +1,5 @@
 -- Serves Interleaving.antt, Kept.antt.
--- What a look at a row that is met tells.
+-- What a visit to a row that is enabled finds.
 use Rattle.chip_trace.proofs.Names.{◌≡◌, ℕ, ◌+◌, ◌-◌, ◌*◌, ◌^◌, ◌<◌, ◌≤◌, true, cond, List, [], ◌∷◌, length, get_or}
 use Rattle.chip_trace.proofs.Names.{map, sym, ap, ◌∙◌, arith, eq-eqb, slice_get, slice_index, Option, Some, nat_lt}
 use Rattle.chip_trace.proofs.Names.{and_from, nat_tests, TraceRow, Take, Fire, Multigraph, edge_at, ChipGame, fires}

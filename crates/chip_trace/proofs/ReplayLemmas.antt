@@ -1,5 +1,5 @@
 -- Serves Kept.antt.
--- A replay as it goes on.
+-- A replay while it runs.
 use Rattle.chip_trace.proofs.Names.{◌≡◌, ℕ, ◌+◌, ◌^◌, ◌<◌, List, ◌∙◌, arith, TraceRow, ChipGame, ReplayProgress}
 use Rattle.chip_trace.proofs.Names.{ReplayAgenda, IsReplayKept, MayUse, UsesRow, work_left, ReplayGoesOn}
 use Rattle.chip_trace.proofs.KeptLemmas.{kept_after, left_after}

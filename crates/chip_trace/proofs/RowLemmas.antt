@@ -1,5 +1,5 @@
 -- Serves Interleaving.antt.
--- What rows come to as they grow, and that a row that is met stays met.
+-- The result of rows as they grow; and a row that is enabled stays enabled.
 use Rattle.chip_trace.proofs.Names.{and_parts, and_from, nat_tests, ◌≡◌, ℕ, ◌+◌, ◌*◌, true, List, [], ◌∷◌, ◌++◌, length}
 use Rattle.chip_trace.proofs.Names.{map, refl, ap, ◌∙◌, arith, append_assoc, append-nil, eq-eqb, Option, Some, nat_lt}
 use Rattle.chip_trace.proofs.Names.{map-append, TraceRow, Take, Fire, edge_at, ChipGame, by_test, fires, chips_taken}
@@ -38,9 +38,9 @@ firings-append (x ∷ xs) v row = let more = firings-append xs v row in grind ar
 has_count_is : (o : Option ℕ) (count : ℕ) → has_count o count ≡ true → o ≡ Some count
 has_count_is o count is = grind (arith, nat_tests)
 
--- ---- a row that is met stays met
+-- ---- a row that is enabled stays enabled
 
--- more messages behind those that were there
+-- more messages after those that were there
 more_messages : (g : ChipGame) (used later : ℕ → List TraceRow) (e : ℕ)
     → ((u : ℕ) → (more : List TraceRow) × (used u ++ more ≡ later u))
     → (more : List ℕ) × (messages g (λ u. fires (used u)) e ++ more ≡ messages g (λ u. fires (later u)) e)
@@ -71,7 +71,7 @@ met_stays g used later v (Take edge count) same goes met =
     and_from (goes_into g.graph v edge) _ parts.0
     (ap (λ (o : Option ℕ). has_count o count) (rw (more.1, same) at next) ∙ eq-eqb count count refl)
 
--- ---- lists in which each row is met
+-- ---- lists in which each row is enabled
 
 pub AreMet-push : (g : ChipGame) (before xs : List Placed) (x : Placed) → AreRowsEnabled g before xs
     → is_row_enabled g (rows_of (before ++ xs)) x.vertex x.row ≡ true → AreRowsEnabled g before (xs ++ x ∷ [])

@@ -1,5 +1,5 @@
 -- Serves Kept.antt, Progress.antt, Interleaving.antt.
--- What follows once no next row is met: an interleaving and what it leaves, or a vertex to blame.
+-- What follows once no next row is enabled: an interleaving and what it leaves, or a vertex to blame.
 use Rattle.chip_trace.proofs.Names.{◌≡◌, ℕ, ◌<◌, ◌≤◌, List, [], ◌++◌, length, drop, sym, ap, ◌∙◌, arith, inl, inr}
 use Rattle.chip_trace.proofs.Names.{subst, true, slice_get, Some, None, ◌⊎◌, dite, dec_lt, take_all, take-append-drop}
 use Rattle.chip_trace.proofs.Names.{get_or_past, slice_get_within, TraceRow, ChipGame, is_row_enabled, Placed, rows_of}

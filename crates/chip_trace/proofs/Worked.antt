@@ -35,7 +35,7 @@ other_count_is_wrong : is_wrong triangle
     (rows_of (record { vertex = 0; row = Take 4 4 } ∷ record { vertex = 0; row = Fire 2 } ∷ [])) 1 (Take 0 1) ≡ true
 other_count_is_wrong = refl
 
--- a take of a message that is not there yet is not met, and waits
+-- a take of a message that is not there yet is not enabled, and waits
 no_message_is_not_met : is_row_enabled triangle (rows_of []) 1 (Take 0 2) ≡ false
 no_message_is_not_met = refl
 

@@ -1,8 +1,8 @@
--- Which vertices a replay is to look at.
+-- The vertices that a replay is to visit.
 use Rattle.std.specs.Prelude.{ℕ, ◌<◌, length, All}
 use Rattle.chip_trace.specs.declared.agenda.Agenda.TheInside.{Inside}
 
--- what an `Agenda` shows: of how many vertices it is, and how many it has that are to be looked at
+-- what an `Agenda` shows: the numbers of its vertices, and of those to visit
 pub record ReplayAgenda : Type 0 where
   pub vertices : ℕ
   pub due : ℕ

@@ -1,4 +1,4 @@
--- Interleavings of recorded runs: all rows of all vertices in one list, each enabled where it stands.
+-- Interleavings of recorded runs: all rows of all vertices in one list, each enabled at its place.
 use Rattle.std.specs.Prelude.{◌≡◌, ℕ, zero, suc, ◌+◌, ◌-◌, ◌*◌, ◌==◌, nat_lt, nat_le, Bool, true, false, ◌&&◌, not}
 use Rattle.std.specs.Prelude.{if◌then◌else◌, List, [], ◌∷◌, ◌++◌, length, map, sum, slice_get, slice_index}
 use Rattle.std.specs.Prelude.{slice_index_or, Option, Some, None}
@@ -7,7 +7,7 @@ use Rattle.chip_link.specs.declared.trace.TraceRow.TheVariants.{Take, Fire}
 use Rattle.chip_graph.specs.Multigraph.{Multigraph, edge_at, degree}
 use Rattle.chip_graph.specs.ChipGame.{ChipGame}
 
--- ---- what the rows of one vertex come to
+-- ---- what the rows of one vertex result in
 
 -- the firings, in order
 abbrev pub fires : List TraceRow → List ℕ
@@ -34,8 +34,8 @@ abbrev pub opening : ℕ → List ℕ
 opening zero = []
 opening (suc chips) = suc chips ∷ []
 
--- the messages of an edge, in order, if the vertices have made these firings: one for each firing of its tail;
--- root edge m + v, behind the m graph edges, has the start of v
+-- the messages of an edge, in order, if the vertices have made these firings: one for each firing of its tail; root
+-- edge m + v, after the m graph edges, has the start of v
 abbrev pub messages : ChipGame → (ℕ → List ℕ) → ℕ → List ℕ
 messages g fired e =
     if nat_lt e (length g.graph.edges)
@@ -78,7 +78,7 @@ abbrev pub rows_of : List Placed → ℕ → List TraceRow
 rows_of [] v = []
 rows_of (x ∷ xs) v = if x.vertex == v then x.row ∷ rows_of xs v else rows_of xs v
 
--- each row of a list is enabled where it stands, after the rows before it
+-- each row of a list is enabled at its place, after the rows before it
 abbrev pub AreRowsEnabled : ChipGame → List Placed → List Placed → Type 0
 AreRowsEnabled g before [] = Unit {0}
 AreRowsEnabled g before (x ∷ xs) = (is_row_enabled g (rows_of before) x.vertex x.row ≡ true) × AreRowsEnabled g (before ++ x ∷ []) xs
@@ -87,12 +87,12 @@ AreRowsEnabled g before (x ∷ xs) = (is_row_enabled g (rows_of before) x.vertex
 abbrev pub trace_of : List (List TraceRow) → ℕ → List TraceRow
 trace_of traces v = slice_index_or traces v []
 
--- some rows of the traces in one list: of each vertex the first ones, in their order, and each enabled where it stands
+-- some rows of the traces in one list: of each vertex the first ones, in their order, and each enabled at its place
 pub record IsPartial (g : ChipGame) (traces : List (List TraceRow)) (xs : List Placed) : Type 0 where
   pub in_order : (v : ℕ) → (rest : List TraceRow) × (rows_of xs v ++ rest ≡ trace_of traces v)
   pub met : AreRowsEnabled g [] xs
 
--- all rows of the traces in one list: those of each vertex in their order, and each enabled where it stands
+-- all rows of the traces in one list: those of each vertex in their order, and each enabled at its place
 pub record IsInterleaving (g : ChipGame) (traces : List (List TraceRow)) (xs : List Placed) : Type 0 where
   pub whole : (v : ℕ) → rows_of xs v ≡ trace_of traces v
   pub met : AreRowsEnabled g [] xs

@@ -1,4 +1,4 @@
--- What a replay keeps on its way.
+-- What a replay keeps while it runs.
 use Rattle.std.specs.Prelude.{◌≡◌, ℕ, ◌+◌, ◌-◌, ◌*◌, ◌^◌, ◌<◌, ◌≤◌, true, false, List, [], ◌∷◌, ◌++◌, length, sum, take}
 use Rattle.std.specs.Prelude.{◌==◌, ◌&&◌, not, nat_lt, nat_le, map, slice_get, slice_set, slice_index, slice_index_or}
 use Rattle.std.specs.Prelude.{Option, Some, None, ◌⊎◌}
@@ -58,14 +58,14 @@ rows_used traces p v = take (runner_at p v).used (trace_of traces v)
 abbrev pub row_after : List (List TraceRow) → ReplayProgress → ℕ → Option TraceRow
 row_after traces p v = slice_get (trace_of traces v) (runner_at p v).used
 
--- the rows used so far stand in some list in which each is enabled, and the firings are those of that list
+-- some list has the rows used so far, each enabled, and these firings
 pub record IsReplayReached (g : ChipGame) (traces : List (List TraceRow)) (p : ReplayProgress)
     (xs : List Placed) : Type 0 where
   pub met : AreRowsEnabled g [] xs
   pub rows : (v : ℕ) → rows_of xs v ≡ rows_used traces p v
   pub fired : p.firings.items ≡ row_firings xs
 
--- what is kept for vertices and edges is what the used rows come to, and these were enabled one after another
+-- what is kept for vertices and edges is the result of the used rows, which were enabled one after another
 pub record IsReplayKept (g : ChipGame) (traces : List (List TraceRow)) (p : ReplayProgress) : Type 0 where
   pub runner_each : length p.runners.items ≡ g.graph.vertices
   pub taken_each : length p.taken.items ≡ length g.graph.edges + g.graph.vertices
@@ -132,7 +132,7 @@ IsUnusedAt traces p v = (runner_at p v).used < length (trace_of traces v)
 abbrev pub NoneBelow : ℕ → (ℕ → Type 0) → Type 0
 NoneBelow n P = (v : ℕ) → v < n → P v → ⊥
 
--- what a search for the least vertex below n with a property answers
+-- the result of a search for the least vertex below n with a property
 abbrev pub IsLeastFound : ℕ → (ℕ → Type 0) → Option ℕ → Type 0
 IsLeastFound n P None = NoneBelow n P
 IsLeastFound n P (Some v) = (v < n) × IsLeast P v
@@ -144,7 +144,7 @@ IsToBlame g traces p (Some v) = (v < g.graph.vertices)
     × (IsLeast (IsWrongAt g traces p) v
     ⊎ (NoneBelow g.graph.vertices (IsWrongAt g traces p) × IsLeast (IsUnusedAt traces p) v))
 
--- what a look at the next row of v finds
+-- what a visit to the next row of v finds
 abbrev pub Finds : ChipGame → List (List TraceRow) → ReplayProgress → ℕ → Finding → Type 0
 Finds g traces p v finding.Done = row_after traces p v ≡ None
 Finds g traces p v (finding.Met row) = MayUse g traces p v row
@@ -153,11 +153,11 @@ Finds g traces p v finding.Wrong = (row : TraceRow) × (row_after traces p v ≡
 Finds g traces p v (finding.Waits edge) = (row : TraceRow) × (row_after traces p v ≡ Some row)
     × (is_row_enabled g (rows_used traces p) v row ≡ false) × (is_wrong g (rows_used traces p) v row ≡ false)
 
--- how much is left to do: rows to use, and behind them vertices to look at
+-- how much is left to do: rows to use, and after them vertices to visit
 abbrev pub work_left : List (List TraceRow) → ReplayProgress → ReplayAgenda → ℕ
 work_left traces p a = rows_left traces p * 2 ^ 64 + a.due
 
--- a replay goes on from p and a to q and b: it keeps what it keeps, and has no more left to do
+-- a replay goes on from p and a to q and b: what is kept stays right, and no more is left to do
 pub record ReplayGoesOn (g : ChipGame) (traces : List (List TraceRow)) (p : ReplayProgress) (a : ReplayAgenda)
     (q : ReplayProgress) (b : ReplayAgenda) : Type 0 where
   pub kept : IsReplayKept g traces q

@@ -47,8 +47,8 @@ abbrev pub IsBlamed : ChipGame → List (List TraceRow) → List Placed → ℕ 
 IsBlamed g traces xs v = IsLeast (HasWrongRow g traces xs) v
     ⊎ (((u : ℕ) → HasWrongRow g traces xs u → ⊥) × IsLeast (HasUnusedRow traces xs) v)
 
--- the traces have no interleaving, and this vertex is the one to blame at greatest progress; `row` is the place of its
--- next row
+-- the traces have no interleaving, and this vertex is to blame after maximal progress; `row` is the place of its next
+-- row
 pub record IsStuck (g : ChipGame) (traces : List (List TraceRow)) (vertex row : ℕ) : Type 0 where
   pub none : (xs : List Placed) → IsInterleaving g traces xs → ⊥
   pub blamed : (xs : List Placed) × IsGreatestProgress g traces xs × (length (rows_of xs vertex) ≡ row)

@@ -1,4 +1,4 @@
--- What a replay answers.
+-- The results of a replay.
 use Rattle.std.specs.Prelude.{◌≡◌, ℕ, List}
 use Rattle.chip_link.specs.declared.trace.TraceRow.{TraceRow}
 use Rattle.chip_graph.specs.ChipGame.{ChipGame}

@@ -4,7 +4,7 @@ use Rattle.chip_link.specs.declared.trace.TraceRow.{TraceRow}
 use Rattle.chip_trace.specs.declared.runner.Runner.TheInside.{Inside}
 use Rattle.chip_trace.specs.Interleaving.{fires, chips_taken}
 
--- what a `Runner` shows: how many rows it has used, its firings in order, and the chips that it took
+-- what a `Runner` shows: the number of rows it has used, its firings in order, and the chips that it took
 pub record RunnerState : Type 0 where
   pub used : ℕ
   pub fires : List ℕ

@@ -11,7 +11,7 @@ use Rattle.chip_trace.specs.declared.fault.TraceFault.TheVariants as fault
 abbrev pub header : List ℕ
 header = codes "vertex,kind,edge,count\n"
 
--- the line of a row of v; a firing has no edge, and 0 stands in its place
+-- the line of a row of v; a firing has no edge, and 0 in its place
 abbrev pub trace_row_text : ℕ → TraceRow → List ℕ
 trace_row_text v (Take edge count) = decimal v ++ codes ",take," ++ decimal edge ++ codes "," ++ decimal count ++ codes "\n"
 trace_row_text v (Fire k) = decimal v ++ codes ",fire,0," ++ decimal k ++ codes "\n"
@@ -30,8 +30,8 @@ lines_from v (trace ∷ traces) = trace_rows_text v trace ++ lines_from (suc v) 
 abbrev pub trace_text : List (List TraceRow) → List ℕ
 trace_text traces = header ++ lines_from 0 traces
 
--- the text went out and nothing else; if a write failed, just its first bytes did, and not all of them; if memory
--- ran out, nothing did
+-- the whole text was written and nothing else; if a write failed, only its first bytes were; if memory ran out, nothing
+-- was
 abbrev pub WritesText : Option (List ℕ) → Option (List ℕ) → List ℕ → Result (Unit {0}) TraceFault → Type 0
 WritesText old new text (Ok done) = Appends old new text
 WritesText old new text (Err fault.Write) = (n : ℕ) × (n < length text) × Appends old new (take n text)

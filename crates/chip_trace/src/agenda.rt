@@ -1,8 +1,8 @@
 use std::alloc::{AllocError, Global};
 use std::marker::Model;
 
-/// Which vertices are to be looked at, and which wait for a firing of which tail, so that a row is looked at again only
-/// if something came for it.
+/// The vertices to visit, and for each tail those that wait for its firing, so that a row is visited again only after
+/// something came for it.
 #[derive(Drop)]
 pub(crate) struct Agenda {
     due: Vec<u64>,
@@ -24,7 +24,7 @@ impl Model for Agenda {
 impl Agenda {
     ghost use Rattle.std.specs.Prelude.{◌≡◌, ◌+◌, ◌^◌, ◌<◌, IfOk, MatchOption};
 
-    /// Each of `vertices` vertices is to be looked at, the least first.
+    /// All of `vertices` vertices to visit, the least first.
     pub(crate) fn of_all(alloc: Global, vertices: u64) -> Result<Agenda, AllocError>
         ensures { IfOk result (λ agenda. agenda.vertices ≡ vertices) }
     {
@@ -37,7 +37,7 @@ impl Agenda {
         Ok(Agenda { due, waiting })
     }
 
-    /// A vertex to look at, which is off the agenda with that.
+    /// Removes a vertex to visit and returns it.
     pub(crate) fn next(&mut self) -> Option<u64>
         ensures same { self.new.vertices ≡ self.old.vertices }
         ensures cases { MatchOption result (self.new.due ≡ self.old.due)
@@ -46,7 +46,7 @@ impl Agenda {
         self.due.pop()
     }
 
-    /// The vertex waits for a firing of this tail.
+    /// Notes that the vertex waits for a firing of this tail.
     pub(crate) fn wait_for(&mut self, vertex: u64, tail: u64) -> Result<(), AllocError>
         requires is_vertex { vertex < self.old.vertices }
         requires is_tail { tail < self.old.vertices }
@@ -57,7 +57,7 @@ impl Agenda {
         Ok(())
     }
 
-    /// The vertices that wait for a firing of this tail are to be looked at.
+    /// Adds the vertices that wait for a firing of this tail to those to visit.
     pub(crate) fn wake(&mut self, tail: u64) -> Result<(), AllocError>
         requires { tail < self.old.vertices }
         ensures same { self.new.vertices ≡ self.old.vertices }

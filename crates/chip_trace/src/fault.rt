@@ -4,7 +4,8 @@ use thiserror::Error;
 /// Why recorded runs have no interleaving.
 #[derive(Clone, Copy, Debug, PartialEq, Eq, Error)]
 pub enum ReplayFault {
-    /// At greatest progress the next row of this vertex is wrong, or it waits if none is wrong.
+    /// After maximal progress this is the least vertex whose next row is wrong, or the least with a row left if none is
+    /// wrong.
     #[error("vertex {vertex} is stuck at its row {row}")]
     Stuck {
         vertex: u64,
@@ -55,7 +56,7 @@ impl<T: Drop> From<AllocFailed<T>> for ReplayFault {
 /// Why recorded runs were not written.
 #[derive(Clone, Copy, Debug, PartialEq, Eq, Error)]
 pub enum TraceFault {
-    /// A write failed; the first bytes of the text may have gone out before, and not all of them.
+    /// A write failed. The first bytes of the text may have been written before, but not all of them.
     #[error("a write failed")]
     Write,
     #[error("out of memory")]

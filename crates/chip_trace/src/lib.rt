@@ -1,9 +1,8 @@
 //! Recorded runs: what each vertex wrote down of its own run, replayed and written as text.
 //!
-//! A trace is the list of rows of one vertex. `replay` tells whether the traces of all vertices fit together in some
-//! order (`specs/Interleaving.antt`), and where they are stuck if they do not (`specs/Progress.antt`);
-//! `replay_complete` tells what is left then too (`specs/Left.antt`); `write_trace` writes them
-//! (`specs/TraceText.antt`).
+//! A trace is the list of rows of one vertex. `replay` finds an order in which the rows of all vertices are enabled
+//! (`specs/Interleaving.antt`), or where they are stuck if there is none (`specs/Progress.antt`); `replay_complete`
+//! returns also what is left (`specs/Left.antt`); `write_trace` writes them (`specs/TraceText.antt`).
 #![tactic(auto)]
 
 pub use fault::{ReplayFault, TraceFault};

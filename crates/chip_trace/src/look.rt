@@ -1,4 +1,4 @@
-//! A look at the next row of a vertex: is it met?
+//! Whether the next row of a vertex is enabled.
 
 ghost use Rattle.std.specs.Prelude.{◌≡◌, ◌+◌, ◌^◌, ◌<◌, length, map, sum, slice_get, slice_index, OnSome};
 ghost use Rattle.chip_graph.specs.ChipGame.{IsGame};
@@ -11,12 +11,12 @@ use crate::runner::Runner;
 use chip_graph::{AnyEdge, Edge, Game, Graph};
 use chip_link::TraceRow;
 
-/// What a look at the next row of a vertex finds.
+/// What a visit to the next row of a vertex finds.
 #[derive(Clone, Copy)]
 pub(crate) enum Finding {
     /// There is none: all its rows are used.
     Done,
-    /// It is met: this is the row.
+    /// It is enabled: this is the row.
     Met(TraceRow),
     /// It is wrong.
     Wrong,
@@ -24,7 +24,7 @@ pub(crate) enum Finding {
     Waits(u64),
 }
 
-/// Looks at the next row of this vertex.
+/// Visits the next row of this vertex.
 pub(crate) fn look_at(
     game: &Game,
     traces: &[Vec<TraceRow>],

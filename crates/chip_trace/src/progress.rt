@@ -6,11 +6,11 @@ use std::alloc::{AllocError, Global};
 /// How far a replay has come.
 #[derive(Drop)]
 pub(crate) struct ReplayProgress {
-    /// By vertex.
+    /// How far each vertex has come.
     pub(crate) runners: Vec<Runner>,
-    /// How many messages were taken, by edge.
+    /// The number of messages taken from each edge.
     pub(crate) taken: Vec<usize>,
-    /// The vertex of each firing, and how often it fired.
+    /// The vertex of each firing, with the number of times that it fired.
     pub(crate) firings: Vec<(u64, u64)>,
 }
 
@@ -20,7 +20,7 @@ impl ReplayProgress {
     ghost use Rattle.chip_trace.specs.Runner.{at_start};
     ghost use Rattle.chip_trace.specs.Kept.{runner_at, UsesRow, FitsTypes};
 
-    /// No row used.
+    /// The progress with no row used.
     pub(crate) fn new(alloc: Global, game: &Game) -> Result<ReplayProgress, AllocError>
         ensures runners { IfOk result (λ p. p.runners.items ≡ replicate game.now.graph.vertices at_start) }
         ensures taken { IfOk result (λ p. p.taken.items ≡ replicate (edges_and_roots game.now.graph) 0) }

@@ -73,7 +73,7 @@ fn is_legal(game: &Game, progress: &ReplayProgress, vertex: u64) -> bool
     vertex != game.graph().sink() && u128::from(degree) <= held
 }
 
-/// What is left of a vertex that is legal.
+/// What is left at a vertex that is legal.
 fn legal_left(game: &Game, progress: &ReplayProgress, vertex: u64) -> Left
     requires runner_each { length progress.now.runners.items ≡ game.now.graph.vertices }
     requires is_vertex { vertex < game.now.graph.vertices }

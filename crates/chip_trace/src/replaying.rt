@@ -17,13 +17,13 @@ use std::alloc::{AllocError, Global};
 /// A replay that used all rows.
 #[derive(Drop)]
 pub struct Replayed {
-    /// The firings of one interleaving, each with its vertex, in its order.
+    /// The firings of one interleaving, each with its vertex, in order.
     pub firings: Vec<(u64, u64)>,
     /// What is left of the game then: first of edges, and then of vertices, both ascending.
     pub left: Vec<Left>,
 }
 
-/// Notes that a vertex has used a row that is met, and wakes those that waited for it.
+/// Notes that a vertex has used a row that is enabled, and wakes those that waited for it.
 fn use_met(
     progress: &mut ReplayProgress,
     agenda: &mut Agenda,
@@ -45,7 +45,7 @@ fn use_met(
     Ok(())
 }
 
-/// Uses the rows of this vertex as long as they are met.
+/// Uses the rows of this vertex while they are enabled.
 fn advance(
     game: &Game,
     traces: &[Vec<TraceRow>],
@@ -74,7 +74,7 @@ fn advance(
     }
 }
 
-/// Looks at all vertices on the agenda, and at those that come onto it.
+/// Visits all vertices on the agenda, and those added meanwhile.
 fn run_agenda(
     game: &Game,
     traces: &[Vec<TraceRow>],
@@ -93,7 +93,7 @@ fn run_agenda(
     Ok(())
 }
 
-/// The least vertex whose next row is met, with that row.
+/// The least vertex whose next row is enabled, with that row.
 fn first_met(
     game: &Game,
     traces: &[Vec<TraceRow>],
@@ -114,9 +114,9 @@ fn first_met(
     None
 }
 
-/// Uses rows until no next row is met.
+/// Uses rows until no next row is enabled.
 ///
-/// The agenda only saves looks: that nothing more is met is seen by a last look at every vertex.
+/// The agenda only saves time. Each vertex is visited once more at the end, to see that no next row is enabled.
 fn settle(
     game: &Game,
     traces: &[Vec<TraceRow>],
@@ -138,8 +138,8 @@ fn settle(
     }
 }
 
-/// The firings of one interleaving of recorded runs, each with its vertex, in its order; in time linear in rows and
-/// edges.
+/// The firings of one interleaving of recorded runs, each with its vertex, in order; `Stuck` if there is none. The time
+/// is linear in rows and edges.
 ///
 /// `traces` has the rows of each vertex.
 pub fn replay(
@@ -154,7 +154,7 @@ pub fn replay(
     Ok(replay_complete(alloc, game, traces)?.firings)
 }
 
-/// What `replay` answers, and what is left of the game then.
+/// The firings that `replay` returns, and what is left of the game then.
 pub fn replay_complete(
     alloc: Global,
     game: &Game,

@@ -46,14 +46,14 @@ impl Runner {
         self.used
     }
 
-    /// Its firing with this number, if it has made that.
+    /// Its firing with this number, if it was made.
     pub(crate) fn firing(&self, i: usize) -> Option<u64>
         ensures { result ≡ slice_get self.now.fires i }
     {
         self.fires.get(i).copied()
     }
 
-    /// How many firings it has made, each of one or more at once.
+    /// The number of its firings, each of one or more at once.
     pub(crate) fn firings(&self) -> usize
         ensures { result ≡ length self.now.fires }
     {
@@ -75,7 +75,7 @@ impl Runner {
             .saturating_sub(u128::from(self.fired) * u128::from(degree))
     }
 
-    /// Whether with `k` more its firings stay within the limit, and it took the chips for them, `degree` each.
+    /// Whether `k` more firings stay within the limit, and it took the chips for them, `degree` each.
     pub(crate) fn can_pay(&self, k: u64, degree: u64, limit: u64) -> bool
         ensures { result ≡ (nat_le (sum self.now.fires + k) limit
             && nat_le ((sum self.now.fires + k) * degree) self.now.chips) }
@@ -84,7 +84,7 @@ impl Runner {
         firings <= u128::from(limit) && firings * u128::from(degree) <= self.chips
     }
 
-    /// It takes a message of `count` chips.
+    /// Takes a message of `count` chips.
     pub(crate) fn take(&mut self, count: u64)
         requires room { self.old.used + 1 < 2 ^ 64 }
         requires fits { self.old.chips + count < 2 ^ 128 }
@@ -94,7 +94,7 @@ impl Runner {
         self.chips += u128::from(count);
     }
 
-    /// It fires `k` times.
+    /// Fires `k` times.
     pub(crate) fn fire(&mut self, k: u64) -> Result<(), AllocError>
         requires room { self.old.used + 1 < 2 ^ 64 }
         requires fits { sum self.old.fires + k < 2 ^ 64 }

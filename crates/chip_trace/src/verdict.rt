@@ -8,7 +8,7 @@ use crate::progress::ReplayProgress;
 use chip_graph::Game;
 use chip_link::TraceRow;
 
-/// The vertex that is to blame for rows that are left, if no next row is met.
+/// The vertex that is to blame for rows that are left, if no next row is enabled.
 pub(crate) fn vertex_to_blame(
     game: &Game,
     traces: &[Vec<TraceRow>],

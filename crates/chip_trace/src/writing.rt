@@ -11,10 +11,10 @@ use chip_report::{Sink, write_all_to};
 use std::alloc::{AllocError, Global};
 use std::io::Write;
 
-/// Writes recorded runs as rows of text, the vertices ascending, and in the sink how many writes that took.
+/// Writes recorded runs as rows of text, the vertices ascending, and counts the writes in the sink.
 ///
-/// `traces` has the rows of each vertex. The text is made whole before anything of it is written, and then goes out as
-/// `write_all_to` writes it.
+/// `traces` has the rows of each vertex. The whole text is made before any of it is written, as `write_all_to` writes
+/// it.
 pub fn write_trace_to<W: Write>(
     alloc: Global,
     traces: &[&[TraceRow]],

@@ -1,7 +1,7 @@
 //! chipfire: a chip-firing machine that is proved right.
 //!
-//! Each command is an engine, of `chip_engine` or of `chip_run`, whose contract goes from the bytes that it reads to the
-//! bytes that it writes. The program reads the arguments, and `chip_console` opens the files that they name and calls the
+//! Each command is an engine, of `chip_engine` or of `chip_run`, whose contract relates the bytes that it reads to the
+//! bytes that it writes. The program reads the arguments; `chip_console` opens the files that they name and calls the
 //! engine.
 #![tactic(auto)]
 
@@ -24,7 +24,7 @@ use std::sync::Wait;
 use std::thread::Threads;
 use std::{env, io};
 
-// What the arguments may ask for is what the engines take.
+// The limits of the arguments are those of the engines.
 const _: () = prove!(limits::MAX_LIMIT == MAX_LIMIT);
 
 const _: () = prove!(limits::MAX_RING == MAX_RING);
@@ -44,10 +44,10 @@ const FOUR_CHIPS: &str = "vertex,chips\n0,4\n";
 fn main(rt: HostRuntime) -> ExitCode {
     // What the command-line library says of the arguments, or the name of the file that was opened or read last.
     let mut about = String::new(rt.alloc());
-    // Where the waits of a log lead that is in no order.
+    // Where the waits of a log without an order lead.
     let mut waits = String::new(rt.alloc());
     let ended = run(&rt, &mut about, &mut waits);
-    // If even this cannot be written, the status still says it.
+    // If this cannot be written, the exit status still says it.
     match &ended {
         Ok(ended) if ended.cut => {
             let _ = eprintln!(&rt; "chipfire: trace cut");
@@ -73,8 +73,8 @@ fn exit_code(ended: &Result<Ended, Fault>) -> ExitCode
     }
 }
 
-/// Does what the program's arguments ask for. Of a fault, `about` gets what it is about, and `waits` where the waits of a log
-/// lead, if there is memory for that.
+/// Does what the program's arguments ask for. If there is a fault, `about` gets what it is about, and `waits` where the
+/// waits of a log lead, if there is memory for that.
 fn run<
     R: Env
         + Files<File = File>
@@ -123,7 +123,7 @@ fn run<
     }
 }
 
-/// Does what is asked for.
+/// Runs the requested command.
 fn serve<
     R: Files<File = File> + Input + Clock + Eprint + AllocGlobal + Threads + Wait + Sync,
     W: io::Write,

@@ -1,4 +1,4 @@
-//! The order of a turn. Each function tells what is due in a phase of it, and goes on to the next phase if nothing is.
+//! The order of a turn. Each function returns what is due in a phase, or goes on to the next phase if nothing is.
 
 ghost use Rattle.std.specs.Prelude.{◌≡◌, ◌==◌, not, true, ⊤};
 
@@ -15,7 +15,7 @@ impl ActorState {
     ghost use Rattle.chip_detect.specs.Acknowledging.{may_ack};
 
     /// The next operation of a turn, and the cursor after it; `Act::End` at the end. The cursor is `Cursor::start()`,
-    /// or the last one that was given, with its operation applied: see `IsUnderWay`.
+    /// or the last one that was returned, with its operation applied: see `IsUnderWay`.
     pub fn next(&self, cursor: Cursor) -> (Act, Cursor)
         requires { StandsAt self.now cursor }
         ensures goes { TurnContinues self.now cursor result.0 result.1 }
@@ -27,8 +27,8 @@ impl ActorState {
         }
     }
 
-    // What is due at a cursor, with the cursor after it; nothing at the end of the turn. A turn over a medium seldom comes
-    // here, so that its loops have the registers.
+    // What is due at a cursor, with the cursor after it; nothing at the end of the turn. A turn over a medium seldom
+    // comes here, so that its loops have the registers.
     #[cold]
     pub(crate) fn due(&self, cursor: Cursor) -> Option<(Event, Cursor)>
         requires { MayBeAt self.now cursor }
@@ -70,7 +70,7 @@ impl ActorState {
         }
     }
 
-    /// It may fire now.
+    /// Whether the vertex may fire now.
     pub(crate) fn may_fire(&self) -> bool
         ensures { WhateverPart self.now (λ g s. result ≡ may_fire g self.now.vertex s) }
     {
@@ -78,7 +78,7 @@ impl ActorState {
         is_free && self.is_legal() && self.fired < self.limit
     }
 
-    /// How often it fires if it may: as often as its chips and its limit allow.
+    /// How often the vertex fires if it may: as often as its chips and its limit allow.
     pub(crate) fn batch(&self) -> u64
         requires { SomePart self.now (λ g s. may_fire g self.now.vertex s ≡ true) }
         ensures { WhateverPart self.now (λ g s. result ≡ batch_of g self.now.vertex s) }
@@ -165,7 +165,7 @@ impl ActorState {
         Some((Event::Halt(self.vertex), Cursor::Limit))
     }
 
-    /// It may halt by the limit now.
+    /// Whether the vertex may halt by the limit now.
     pub(crate) fn is_at_limit(&self) -> bool
         ensures { WhateverPart self.now (λ g s. result ≡ is_at_limit g self.now.vertex s) }
     {

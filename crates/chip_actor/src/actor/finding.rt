@@ -1,8 +1,7 @@
-//! Where the edge of an event stands among the ends of its vertex. It is found once, for the rules, the operation and
-//! the books.
+//! The place of an event's edge among the ends of its vertex. It is found once, for the rules, the operation and the
+//! books.
 //!
-//! All that an event goes through is inlined: a reply that one function passes to the next through memory costs as much
-//! as the event itself.
+//! All functions of an event are inlined: to pass a reply through memory costs as much as the event itself.
 
 ghost use Rattle.std.specs.Prelude.{◌≡◌};
 
@@ -54,7 +53,7 @@ impl ActorState {
         }
     }
 
-    /// Makes an event of the vertex over a medium, or answers the first of its rules that isn't met.
+    /// Makes an event of the vertex over a medium, or returns the first of its rules that is not met.
     #[inline(always)]
     pub fn step<M: Medium>(&mut self, event: &Event, medium: &mut M) -> Reply
         requires { MeetsEvent (M.holds medium.old) self.old event.now }
@@ -72,7 +71,7 @@ impl ActorState {
 
 ghost use Rattle.chip_part.specs.Acting.{event_of};
 
-/// The event that an operation of a vertex makes. `End` is none: it is given an event that no vertex makes.
+/// The event that an operation of a vertex makes. For `End`, which is none, it is an event that no vertex makes.
 pub(crate) fn event_of(vertex: u64, act: Act) -> Event
     ensures { result ≡ event_of vertex act }
 {

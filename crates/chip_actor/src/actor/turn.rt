@@ -1,7 +1,8 @@
-//! A whole turn over a medium: loops over the edges in the order of the turn, and what is rare operation by operation.
+//! A whole turn over a medium: loops over the edges in the order of the turn, and the rare cases operation by
+//! operation.
 //!
-//! All that has the medium is inlined. No function then asks for its address, so that what it holds stays in registers,
-//! and nothing of it is read again behind an atomic operation.
+//! All functions that take the medium are inlined. Then its address is not needed, so that what it holds stays in
+//! registers and is not read again after an atomic operation.
 
 ghost use Rattle.std.specs.Prelude.{◌≡◌, ◌≢◌, ◌^◌, ◌<◌, ◌≤◌, ◌==◌, ◌&&◌, is_none};
 
@@ -126,7 +127,7 @@ impl ActorState {
         let Some(edge) = self.detect.parent() else {
             return 0;
         };
-        // So it is after most turns, and nothing is searched for.
+        // This is so after most turns, and then nothing is searched for.
         if self.detect.keeps_last(passive) {
             return 0;
         }
@@ -164,15 +165,15 @@ impl ActorState {
         }
     }
 
-    /// It runs, and nothing is left from before the turn: no message that is claimed and not put, no refusal.
+    /// Whether it runs, and nothing is left from before the turn: no message that is claimed and not put, no refusal.
     fn may_send(&self) -> bool
         ensures { result ≡ (is_none self.now.halt && self.now.unput == 0 && self.now.refused == 0) }
     {
         self.halt.is_none() && self.unput == 0 && self.refused == 0
     }
 
-    /// What is left of a turn after the firing. A vertex that is halted, or that a schedule left in the middle of a
-    /// turn, goes operation by operation, and so does one that halts by the limit, which it does once.
+    /// Makes the rest of a turn after the firing. A vertex that is halted, or that a schedule left in the middle of a
+    /// turn, goes operation by operation, and so does one that halts by the limit, once.
     #[inline(always)]
     fn send_and_acknowledge<M: Medium>(&mut self, medium: &mut M) -> usize
         requires { Meets (M.holds medium.old) self.old (Cursor.Put 0) }
@@ -187,7 +188,7 @@ impl ActorState {
         if self.is_at_limit() {
             return sent + self.finish(medium, Cursor::Limit);
         }
-        // (a vertex that isn't engaged owes nothing)
+        // (a vertex that is not engaged owes nothing)
         if !self.detect.engaged() {
             return sent;
         }
@@ -196,7 +197,7 @@ impl ActorState {
         sent + acked + self.ack_parent(medium, passive)
     }
 
-    /// One whole turn over a medium; how many of its steps count as work.
+    /// Makes one whole turn over a medium; the number of its steps that count as work.
     #[inline(always)]
     pub fn turn<M: Medium>(&mut self, medium: &mut M) -> usize
         requires { Meets (M.holds medium.old) self.old (Cursor.Take 0) }
@@ -211,7 +212,7 @@ impl ActorState {
 
 ghost use Rattle.chip_actor.specs.Medium.{MayServe, Serves};
 
-/// Makes an operation on the shared words, and gives the word that it saw.
+/// Makes an operation on the shared words, and returns the word that it saw.
 #[inline(always)]
 pub(crate) fn perform<M: Medium>(medium: &mut M, act: Act) -> u64
     requires some { act ≢ Act.End }

@@ -44,7 +44,7 @@ impl Ins {
         Slot { index, edge }
     }
 
-    /// What is known of the edges, in their order.
+    /// All edges, in order.
     pub fn ends(&self) -> &[HeadLink]
         ensures ends { result.now ≡ self.now.ends }
         ensures edges { (in_ends_of result.now).edges ≡ self.now.edges }
@@ -53,7 +53,7 @@ impl Ins {
         self.ends.as_slice()
     }
 
-    /// What is known of the edge at this index.
+    /// The edge at this index.
     pub fn at(&self, index: usize) -> &HeadLink
         requires { index < length self.now.edges }
         ensures end { result.now ≡ in_on self.now (slice_index self.now.edges index) }
@@ -73,7 +73,8 @@ impl Ins {
         end.taken(cell)
     }
 
-    /// Takes once from each edge over a medium, for the vertex with these chips and books: how many count.
+    /// Takes once from each edge over a medium, for the vertex with these chips and books; the number of takes that
+    /// count as work.
     #[inline(always)]
     pub fn take_all<M: Medium>(
         &mut self,

@@ -15,9 +15,9 @@ use std::marker::Model;
 pub struct OutEnd {
     /// The chips that one firing sends along it.
     pub mult: u64,
-    /// What is left to send of the last batch.
+    /// The number of chips of the last batch that are left to send.
     pub pending: u64,
-    /// What was sent along it.
+    /// Its tail: what was sent along it.
     pub link: TailLink,
 }
 
@@ -60,7 +60,7 @@ impl Outs {
         Slot { index, edge }
     }
 
-    /// What is known of the edges, in their order.
+    /// All edges, in order.
     pub fn ends(&self) -> &[OutEnd]
         ensures ends { result.now ≡ self.now.ends }
         ensures edges { (out_ends_of result.now).edges ≡ self.now.edges }
@@ -69,7 +69,7 @@ impl Outs {
         self.ends.as_slice()
     }
 
-    /// What is known of the edge at this index.
+    /// The edge at this index.
     pub fn at(&self, index: usize) -> &OutEnd
         requires { index < length self.now.edges }
         ensures end { result.now ≡ out_on self.now (slice_index self.now.edges index) }
@@ -102,8 +102,8 @@ impl Outs {
         None
     }
 
-    /// Notes what a look at the cell of the edge at this slot found, and gives the words of a claim that may follow,
-    /// the first of which is its place.
+    /// Notes what a look at the cell of the edge at this slot found, and returns the words of a claim that may follow:
+    /// its place and its new word.
     pub fn clear(&mut self, slot: Slot, cell: u64) -> Option<(u64, u64)>
         requires { IsSlotOf self.old.edges slot }
         ensures words { result ≡ claim_words (tail_after_clear cell (out_on self.old slot.edge).link) }
@@ -129,7 +129,7 @@ impl Outs {
         Some(message)
     }
 
-    /// The cell and the value of what is claimed and not put on the edge at this slot, and notes that it is stored.
+    /// Notes that what is claimed on the edge at this slot is stored, and returns its cell and its value.
     pub fn put(&mut self, slot: Slot) -> Option<(u64, u64)>
         requires { IsSlotOf self.old.edges slot }
         ensures stored { result ≡ put_of (out_on self.old slot.edge).link }
@@ -150,7 +150,8 @@ impl Outs {
     }
 
     /// Sends over a medium on each edge on which something is pending, for the vertex with these books, `pending` chips
-    /// pending and `refused` refusals, until a claim is refused: how many steps count, and the index of the refusal.
+    /// pending and `refused` refusals, until a claim is refused: the number of steps that count, and the index of the
+    /// refusal.
     #[inline(always)]
     pub fn send_all<M: Medium>(
         &mut self,

@@ -12,8 +12,8 @@ impl OutEnd {
     ghost use Rattle.chip_actor.specs.Medium.{Meets, Moves};
 
     /// Sends over a medium all that is pending on the edge at this index, if there is something and its cell is empty,
-    /// for the vertex with these books, `pending` chips pending on all edges and `refused` refusals: how many steps
-    /// count. `None` if the claim was refused.
+    /// for the vertex with these books, `pending` chips pending on all edges and `refused` refusals: the number of
+    /// steps that count. `None` if the claim was refused.
     #[inline(always)]
     pub(crate) fn send<M: Medium>(
         &mut self,

@@ -19,7 +19,7 @@ use json::{Reader, Scratch, Token};
 use std::alloc::Global;
 use std::str;
 
-/// How deep arrays and objects nest at most.
+/// The deepest nesting of arrays and objects.
 const MAX_DEPTH: usize = 127;
 
 /// What a graph file says. If it has more edges than the caller asked for, only the first are here.
@@ -31,7 +31,7 @@ pub struct GraphFile {
     pub edges: Vec<Edge>,
 }
 
-/// The members as far as they were read, and whether there was another.
+/// The members read so far, and whether there was another.
 #[derive(Drop)]
 pub(crate) struct Parts {
     version: Option<u64>,
@@ -69,7 +69,7 @@ impl Parts {
         }
     }
 
-    /// Takes the value of the member of this name.
+    /// Takes the value of the member with this name.
     fn take(
         &mut self,
         alloc: Global,
@@ -94,7 +94,7 @@ impl Parts {
         Ok(())
     }
 
-    /// The file, if each part is there and no other member.
+    /// The file, if each part and no other member is there.
     fn into_file(self) -> Option<GraphFile>
         ensures { (most : ℕ) (found : Members) → Stands most found self
             → KeepsFile most (file_of_value (object found)) result }
@@ -136,7 +136,7 @@ pub fn file_of_text(alloc: Global, text: &[u8], most: u64) -> Result<GraphFile, 
     file_of_tokens(alloc, text, most)
 }
 
-/// The graph file of an object with these edges, and with what a text says after them.
+/// The graph file of an object with these edges, and with the members that follow in a text.
 fn file_behind(
     alloc: Global,
     edges: Vec<Edge>,

@@ -14,7 +14,7 @@ use serde_json::Number;
 /// A number with this many digits fits into 64 bits.
 const FEW_DIGITS: usize = 19;
 
-/// The number that the first digits of a text write, and how many they are: as many as surely fit.
+/// The value of the first digits of a text, and their number: as many as surely fit.
 #[inline(always)]
 pub fn leading_number(text: &[u8]) -> (u64, usize)
     ensures digits { AllDigits 10 (take result.1 text.now) }
@@ -42,7 +42,7 @@ pub(crate) fn number_of(text: &str) -> Option<Number>
     }
 }
 
-/// The integer that few digits alone write. Nearly all numbers are such, and this is quick.
+/// The integer that a few digits alone write. Nearly all numbers are such, and this is fast.
 pub(crate) fn integer(text: &str) -> Option<u64>
     ensures { IfSome result (λ n. number_of text.now ≡ Some (unsigned n)) }
 {

@@ -1,4 +1,4 @@
-//! Values that are passed over.
+//! Values that are skipped.
 
 ghost use Rattle.std.specs.Prelude.{◌<◌, ◌≤◌, ◌∷◌, length, OnOk, ⊤};
 ghost use Rattle.json.specs.Reads.{token_of};
@@ -23,7 +23,7 @@ impl From<NotJson> for FileFault {
     }
 }
 
-/// Passes over a value, in which arrays and objects nest no deeper than `depth`.
+/// Skips a value, in which arrays and objects nest no deeper than `depth`.
 #[cycle(pass)]
 pub(crate) fn pass(reader: &mut Reader<'_>, depth: usize) -> Result<(), NotJson>
     ensures value { ReadsValue depth reader.old reader.new (λ d x. ⊤) result }
@@ -33,7 +33,7 @@ pub(crate) fn pass(reader: &mut Reader<'_>, depth: usize) -> Result<(), NotJson>
     pass_rest(reader, token, depth)
 }
 
-/// Passes over the rest of the value that a token begins.
+/// Skips the rest of the value that a token begins.
 #[cycle(pass)]
 pub(crate) fn pass_rest(
     reader: &mut Reader<'_>,
@@ -65,7 +65,7 @@ pub(crate) fn pass_rest(
     }
 }
 
-/// Passes over the items that are left of an array.
+/// Skips the items that are left of an array.
 #[cycle(pass)]
 pub(crate) fn pass_items(reader: &mut Reader<'_>, depth: usize) -> Result<(), NotJson>
     ensures value { ReadsItems depth reader.old reader.new (λ ds x. ⊤) result }
@@ -77,7 +77,7 @@ pub(crate) fn pass_items(reader: &mut Reader<'_>, depth: usize) -> Result<(), No
     Ok(())
 }
 
-/// Passes over the members that are left of an object.
+/// Skips the members that are left of an object.
 #[cycle(pass)]
 pub(crate) fn pass_members(reader: &mut Reader<'_>, depth: usize) -> Result<(), NotJson>
     ensures value { ReadsMembers depth reader.old reader.new (λ ms x. ⊤) result }

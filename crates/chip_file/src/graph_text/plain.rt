@@ -1,7 +1,7 @@
 //! The rows of a text that is written plainly, read byte by byte.
 //!
 //! What is found here is what the tokens of the text would give. If a text is written otherwise, nothing is found, and
-//! the tokens say what it is.
+//! the tokens are read.
 
 ghost use Rattle.std.specs.Prelude.{◌≡◌, ◌<◌, ◌≤◌, length, drop, codes, IfSome, IfOk, IfErr};
 ghost use Rattle.json.specs.Word.{is_space};
@@ -33,7 +33,7 @@ fn is_blank(byte: u8) -> bool
     byte == b' ' || byte == b'\t' || byte == b'\n' || byte == b'\r'
 }
 
-/// Where the next byte stands that is no blank, or the end.
+/// The place of the next byte that is no blank, or of the end.
 #[inline(always)]
 fn skip_blanks(text: &[u8], from: usize) -> usize
     requires { from ≤ length text.now }
@@ -47,7 +47,7 @@ fn skip_blanks(text: &[u8], from: usize) -> usize
     at
 }
 
-/// Where the text goes on behind this byte, if it is next.
+/// Where the text goes on after this byte, if it is next.
 #[inline(always)]
 fn skip(text: &[u8], from: usize, byte: u8) -> Option<usize>
     requires inside { from ≤ length text.now }
@@ -140,7 +140,7 @@ fn edges_start(text: &[u8]) -> Option<usize>
     skip(text, name, b'[')
 }
 
-/// Where the text goes on behind the name of the edges, if it is next.
+/// Where the text goes on after the name of the edges, if it is next.
 fn skip_name(text: &[u8], from: usize) -> Option<usize>
     requires { from ≤ length text.now }
     ensures { IfSome result (λ next. IsBehindName text.now from next) }

@@ -5,7 +5,7 @@ use crate::claims::play::{SIZES, hear, judged, last_verdict, receive, row, send,
 use chip_log::{LogRow, OrderFault, Step, Stream, Unwatched, Verdict};
 
 /// Dijkstra and Scholten: a process acknowledges the message that woke it when it is passive and all of its own are
-/// acknowledged. The rows stand as they happened.
+/// acknowledged. The rows are in the order of time.
 const DIJKSTRA_SCHOLTEN: [LogRow; 13] = [
     row!(0, Step::Active),
     send!(0, 0),
@@ -89,7 +89,7 @@ fn early_acknowledgements(rt: HostRuntime) {
     assert!(rt; last_verdict(&rt, SIZES, &WHEN_PASSIVE) == Some(on_its_way));
 }
 
-/// Safra: the token goes from 0 to 2 to 1 to 0. Behind its first visit process 2 is woken by 1 and answers. The token
+/// Safra: the token goes from 0 to 2 to 1 to 0. After its first visit process 2 is woken by 1 and replies. The token
 /// comes back black in the first round and in the second, and white in the third.
 const SAFRA: [LogRow; 26] = [
     hear!(2, 0),
@@ -120,7 +120,7 @@ const SAFRA: [LogRow; 26] = [
     row!(0, Step::Over),
 ];
 
-/// Without colours process 0 claims at the end of the first round, in which the counts of messages make 0.
+/// Without colours process 0 claims at the end of the first round, in which the message counts add up to 0.
 const WITHOUT_COLOURS: [LogRow; 14] = [
     hear!(2, 0),
     tell!(2, 1),
@@ -144,7 +144,7 @@ fn safra(rt: HostRuntime) {
     assert!(rt; last_verdict(&rt, SIZES, &WITHOUT_COLOURS) == Some(Verdict::Active { process: 2 }));
 }
 
-/// Credit: a process gives back what came with its message when it is passive.
+/// Credit: a process gives back the credit of its message when it is passive.
 const CREDIT: [LogRow; 13] = [
     receive!(2, 1),
     row!(2, Step::Passive),

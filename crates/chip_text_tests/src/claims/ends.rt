@@ -1,4 +1,4 @@
-//! All claims of a log, their pasts, and how logs end.
+//! All claims of a log, their causal pasts, and how logs end.
 
 use crate::claims::play::{
     SIZES, absent, end, first, hear, judged, receive, row, send, stream, tell,
@@ -7,8 +7,8 @@ use chip_log::{
     ClaimVerdict, ClaimWatch, LogEnd, LogRow, PastRows, Step, Stream, Unwatched, Verdict,
 };
 
-/// Process 0 claims before it sends and behind that, process 1 when it is passive and again, and process 2, which knows
-/// nothing, last.
+/// Process 0 claims before it sends and after that, process 1 when it is passive and again, and last process 2, which
+/// knows nothing.
 const CLAIMS: [LogRow; 12] = [
     row!(2, Step::Over),
     receive!(1, 0),
@@ -24,7 +24,7 @@ const CLAIMS: [LogRow; 12] = [
     row!(0, Step::Over),
 ];
 
-/// Counts the claims that it is told of.
+/// Counts the claims that it sees.
 #[derive(Drop)]
 struct Count(usize);
 
@@ -39,7 +39,7 @@ fn seen(claim: &ClaimVerdict) -> (u32, u64, Verdict) {
     (claim.process, claim.row, claim.verdict)
 }
 
-/// Process 0 is active at its first claim. Its second knows nothing of process 1, so the message may be on its way.
+/// Process 0 is active at its first claim. Its second knows nothing of process 1, so the message may be in transit.
 /// Process 1 heard that 0 is passive. Process 2 heard nothing, so 0 may not have begun.
 #[test]
 fn all_claims(rt: HostRuntime) {
@@ -139,7 +139,7 @@ fn ends(rt: HostRuntime) {
     assert!(rt; end(&rt, SIZES, &ACTIVE) == LogEnd::Active { process: 1 });
 }
 
-/// Process 0 is active at its first claim. Where nobody claims, and where each claim is right, there is none.
+/// Process 0 is active at its first claim. Without a claim, and where each claim is right, there is none.
 #[test]
 fn first_early_claim(rt: HostRuntime) {
     let found = first(&rt, SIZES, &CLAIMS).ok().expect(&rt, "an order");

@@ -1,4 +1,4 @@
-//! Short words for rows, and what is asked of a log.
+//! Short words for rows, and questions to a log.
 
 ghost use Rattle.std.specs.Prelude.{◌^◌, ◌<◌, IsTrue, length};
 ghost use Rattle.chip_text_tests.specs.Checks.{may_order};
@@ -66,7 +66,7 @@ pub(crate) const SIZES: Sizes = Sizes {
     channels: 3,
 };
 
-/// What is said of a log, with the least past of each early claim.
+/// The judgment of a log, with the causal past of each early claim.
 pub(crate) fn judged<W: ClaimWatch>(
     rt: &impl AllocGlobal,
     sizes: Sizes,
@@ -79,7 +79,7 @@ pub(crate) fn judged<W: ClaimWatch>(
     judge_log(rt.alloc(), sizes, rows, true, watch)
 }
 
-/// The first early claim of a log, with its least past, if there is one.
+/// The first early claim of a log, with its causal past, if there is one.
 pub(crate) fn first(
     rt: &impl AllocGlobal,
     sizes: Sizes,

@@ -13,7 +13,7 @@ length_places only [] = refl
 length_places only (x ∷ xs) =
     let rest = length_places (only || bytes_eq x (codes "--")) xs in grind (arith, common_steps, rest)
 
--- the places of an argument and of those behind it
+-- the places of an argument and of those after it
 from_here : (only : Bool) (xs : List (List ℕ)) (i : ℕ) (x : List ℕ) → i < length xs → get_or xs i x ≡ x
     → argument_places only (drop i xs) ≡ places_of only x ∷ argument_places (only || bytes_eq x (codes "--")) (drop (i + 1) xs)
 from_here only xs i x inside here = rw (drop-cons xs i x inside, here, add-one i) refl

@@ -11,7 +11,7 @@ use Rattle.chip_engine.specs.Board.{books_text, owed_text, vertex_line}
 use Rattle.chip_engine.proofs.board.push_vertex.Goals as goal
 use Rattle.chip_engine.proofs.board.push_vertex.Goals.{After-ins}
 
--- four pieces behind a text
+-- four pieces after a text
 four_pieces : (old a b c d t1 t2 t3 t4 : List ℕ) → t1 ≡ old ++ a → t2 ≡ t1 ++ b → t3 ≡ t2 ++ c → t4 ≡ t3 ++ d
     → t4 ≡ old ++ (a ++ b ++ c ++ d)
 four_pieces old a b c d t1 t2 t3 t4 one two three four = rw (four, three, two, one) (simp append_assoc)

@@ -6,7 +6,7 @@ use Rattle.chip_command.proofs.InputLemmas.{at_some}
 use Rattle.chip_engine.specs.JudgeCommand.{judging}
 use Rattle.chip_engine.proofs.judge.judge.Goals as goal
 
--- what follows what a computation gave
+-- what follows from the result of a computation
 follows : {A : Type 0} (first : Spec A) (a : A) (next : A → Spec (List ℕ × ℕ)) (result : Result Answer Fault)
     → first.gives a → GivesAnswer (next a) result → GivesAnswer (bind first next) result
 follows first a next (Ok answer) given gives = (a, given, gives)

@@ -19,7 +19,7 @@ use Rattle.chip_engine.proofs.laws.one_answer.Goals as goal
 abbrev Told : Type 0
 Told = RowPlace × Verdict × List PastRows
 
--- the lines of what is told of a claim, and all lines
+-- the lines of the judgment of a claim, and all lines
 abbrev claim_lines : Told → List ℕ
 claim_lines (place, verdict, past) = codes "over " ++ decimal place.process ++ codes " " ++ decimal place.row
     ++ verdict_text verdict ++ flat_map past_text past

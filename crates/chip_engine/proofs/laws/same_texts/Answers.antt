@@ -24,14 +24,14 @@ one_log : (limits : SizeLimits) (text : List ℕ) (log rows : List LogRow) (size
 one_log limits text log rows sizes more one two =
     ap (λ (o : Option (List LogRow × Sizes)). (unwrap_or o (log, sizes)).0) (sym two ∙ one)
 
--- no fault of a text is that of a process that is absent
+-- no fault of a text is that of an absent process
 not_absent : (f : FileFault) (p : ℕ) → Absent p ≡ fault_of_file f → ⊥
 not_absent file.NoMemory p is = cc is
 not_absent f p is = cc is
 
 module _ (options : JudgeOptions) (text : List ℕ) (log : List LogRow) (sizes : Sizes)
     (means : log_of_text options.limits text ≡ Some (log, sizes)) (out : List ℕ) where
-  -- what was written is the judgement of the log
+  -- what was written is the judgment of the log
   gave : (ended : Ended) → JudgeAnswers (Some text) options (Some []) (Some out) (Ok ended)
       → (judging options log).gives (out, ended.status) × HasEnds log × (ended.cut ≡ false)
   gave ended answers =
@@ -44,7 +44,7 @@ module _ (options : JudgeOptions) (text : List ℕ) (log : List LogRow) (sizes :
         whole,
       )
 
-  -- a process that is absent is so in the log
+  -- an absent process is absent in the log
   absent_there : (p : ℕ) → JudgeAnswers (Some text) options (Some []) (Some out) (Err (Absent p))
       → IsFirstAbsent log options.processes (Some p)
   absent_there p answers = by answers.answer

@@ -3,7 +3,7 @@ use Rattle.chip_report.proofs.Names.{◌∙◌, arith, append_assoc, string_byte
 use Rattle.chip_report.proofs.Names.{map-append, length-map, length-take-le, comma, member_text}
 use Rattle.chip_report.proofs.text.push_array.Goals as goal
 
--- one more number behind others
+-- one more number after others
 join-push : (pieces : List (List ℕ)) (number : ℕ) → join_with_byte comma (pieces ++ decimal number ∷ [])
     ≡ join_with_byte comma pieces ++ member_text (length pieces) number
 join-push [] number = refl

@@ -1,7 +1,7 @@
 use Rattle.chip_actor.proofs.Names.{refl, ap, arith, Actor, may_fire_pays}
 use Rattle.chip_actor.proofs.actor.ActorState.batch.Goals as goal
 
--- if it may fire it isn't the sink, and has edges out of it
+-- if it may fire it is not the sink, and has edges out of it
 pub nonzero_div-self-inside : goal.nonzero_div-self-inside
 nonzero_div-self-inside c =
     let r = c.requires in

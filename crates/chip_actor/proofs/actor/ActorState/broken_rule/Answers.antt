@@ -1,6 +1,6 @@
 use Rattle.chip_actor.proofs.actor.ActorState.broken_rule.Goals as goal
 
--- each arm asks its own event
+-- each arm checks its own event
 pub returns-in-Ack : goal.returns-in-Ack
 returns-in-Ack c = λ g s stands at.
     rw c.in-Ack.is (c.ack_rule.ensures g s stands (rw c.in-Ack.is at (at)))

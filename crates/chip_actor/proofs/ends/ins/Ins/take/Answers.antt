@@ -13,7 +13,7 @@ taken-requires c = rw (is c) c.requires.few
 pub returns-clause-message : goal.returns-clause-message
 returns-clause-message c = rw (← is (goal.at.returns-clause-message c).After-index_mut-end) c.taken.ensures.message
 
--- a take says nothing of which edge it is
+-- a take does not change which edge it is
 keeps : (c : After-taken) → c.taken.new.self.edge ≡ c.index_mut-end.result.now.edge
 keeps c = rw c.taken.ensures.after (take_keeps c.args.cell c.index_mut-end.result.now)
 

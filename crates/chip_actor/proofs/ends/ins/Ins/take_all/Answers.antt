@@ -39,7 +39,7 @@ found g c a h =
 at_cell : (g : Over) (c : After-cell-cell g) → c.cell-cell.result ≡ head_cell c.end-item.result
 at_cell g c = cc
 
--- what the end is after a take, which leaves its number, and the message that it told
+-- the end after a take, which keeps its number, and the message that was found
 left : (g : Over) (c : After-taken g) → c.taken.new.self ≡ head_after_take c.take-seen.result c.end-item.result
 left g c = cc
 

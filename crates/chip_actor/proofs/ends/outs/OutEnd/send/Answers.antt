@@ -12,7 +12,7 @@ pub returns-then-self-eq0-clause-moves : goal.returns-then-self-eq0-clause-moves
 returns-then-self-eq0-clause-moves g c = λ a apart below meets.
     sends_nothing a c.args.self.now apart below meets c.if-self-eq0.true
 
--- an actor with this end stands before the look
+-- an actor with this end is before the look
 looks : (g : Over) (c : After-cell-cell g) (a : Actor) → AreApart a.outs.edges a.outs.ends
     → c.args.index < length a.outs.edges
     → Meets (g.M.Medium.holds c.args.medium.now)
@@ -29,7 +29,7 @@ looks g c a apart below meets = record {
   meets = meets;
 }
 
--- the same of the actor that there is
+-- the same for the actor that there is
 some : (g : Over) (c : After-cell-cell g) → Looks c.requires.0 c.args.index c.edge-edge.result c.cell-cell.result
     c.args.self.now c.args.pending.now c.args.refused.now c.args.detect.now (g.M.Medium.holds c.args.medium.now)
 some g c = looks g c c.requires.0 c.requires.1 c.requires.2 c.requires.3

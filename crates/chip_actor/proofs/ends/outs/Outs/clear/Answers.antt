@@ -8,7 +8,7 @@ returns-clause-words c =
     let found = found_out c.self.view_is c.self.invariant c.requires c.index_mut-out.ensures.value in
     rw (c.claim_next.ensures.words, c.cleared-is_clear.ensures.after, ← found) refl
 
--- the cell says nothing of which edge it is
+-- the cell does not change which edge it is
 keeps : (c : After-cleared-is_clear) → c.cleared-is_clear.new.self.edge ≡ c.index_mut-out.result.now.link.edge
 keeps c = rw c.cleared-is_clear.ensures.after (clear_keeps c.args.cell c.index_mut-out.result.now.link)
 

@@ -6,7 +6,7 @@ use Rattle.chip_actor.proofs.EndLemmas.{reads_old, done_more, rest_less, filled,
 use Rattle.chip_actor.proofs.ends.outs.Outs.fire.Goals.{After-loop-out}
 use Rattle.chip_actor.proofs.ends.outs.Outs.fire.Goals as goal
 
--- what stands there is what stood there before the loop
+-- what is there was there before the loop
 pub overflow_mul-out : goal.overflow_mul-out
 overflow_mul-out c =
     let read = reads_old (out_after_fire c.args.k) c.deref_mut-out-items.result.now c.loop-out.out-items
@@ -49,7 +49,7 @@ fired c =
     ∙ rw (← now, c.loop-out.invariant.done, take_all c.loop-out.out-index old all, c.deref_mut-out-items.ensures.value)
     refl
 
--- the numbers are as they were
+-- the numbers do not change
 numbers : (k : ℕ) (ends : List OutEnd) → (out_ends_of (map (out_after_fire k) ends)).edges ≡ (out_ends_of ends).edges
 numbers k [] = refl
 numbers k (o ∷ os) = rw (numbers k os) refl

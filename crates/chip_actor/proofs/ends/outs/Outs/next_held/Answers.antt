@@ -3,7 +3,7 @@ use Rattle.chip_actor.proofs.EndLemmas.{out_there, from_more}
 use Rattle.chip_actor.proofs.ends.outs.Outs.next_held.Goals.{After-is_some}
 use Rattle.chip_actor.proofs.ends.outs.Outs.next_held.Goals as goal
 
--- the place is one of the list, and what the test tells there
+-- the place is one of the list, and the result of the test there
 within : (c : After-is_some) → c.loop-next.next < length c.args.self.now.edges
 within c = rw (← c.self.view_is) (omega arith)
 

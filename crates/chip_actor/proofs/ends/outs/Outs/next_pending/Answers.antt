@@ -4,7 +4,7 @@ use Rattle.chip_actor.proofs.EndLemmas.{out_there, from_more}
 use Rattle.chip_actor.proofs.ends.outs.Outs.next_pending.Goals.{After-index}
 use Rattle.chip_actor.proofs.ends.outs.Outs.next_pending.Goals as goal
 
--- the place is one of the list, and what the test tells there
+-- the place is one of the list, and the result of the test there
 within : (c : After-index) → c.loop-next.next < length c.args.self.now.edges
 within c = rw (← c.self.view_is) (omega arith)
 

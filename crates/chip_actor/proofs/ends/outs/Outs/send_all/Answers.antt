@@ -51,7 +51,7 @@ items_are : (g : Over) (c : At-loop-index g) (ts : List OutEnd) → length ts �
 items_are g c ts same-length = filled c.self.inside.ends.len ts _
     (omega (arith, ap length c.deref_mut-out-items.ensures.value))
 
--- a send writes an end that has the number of the one that stood there
+-- a send writes an end that has the number of the one that was there
 kept : (g : Over) (c : After-send g)
     → (out_ends_of (set c.loop-index.out-items c.loop-index.index c.send.new.self)).edges ≡ c.args.self.now.edges
 kept g c = same_numbers (λ (o : OutEnd). o.link.edge) c.loop-index.out-items c.loop-index.index c.out-item.result

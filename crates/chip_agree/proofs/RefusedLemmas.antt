@@ -1,5 +1,5 @@
 -- Serves Refused.antt.
--- A game has no fault, a graph has none, and texts that name numbers of a game have none but that of the game.
+-- A game has no fault, a graph has none, and texts with the numbers of a game have only the game's.
 use Rattle.std.proofs.Common.{◌≡◌, ◌⊎◌, ℕ, suc, ◌<◌, ◌≤◌, List, [], ◌∷◌, length, Option, Some, None, Result, Ok, Err}
 use Rattle.std.proofs.Common.{refl, sym, ap, ◌∙◌, subst, arith, inl, inr, unwrap_or}
 use Rattle.std.proofs.lemmas.Bool.Decides.{nat_tests}
@@ -74,7 +74,7 @@ means_none limits text G means (file.Graph f) (graph, is, fault) =
     graph_none limits G f means.valid (subst (λ (H : Multigraph). IsGraphFault limits H f) same fault)
 means_none limits text G means _ fault = fault
 
--- a text is read: it was not refused but for the machine
+-- a text is read: only the machine may have refused it
 read_none : (limits : SizeLimits) (text : List ℕ) (IsFault : FileFault → Type 0) (fault : Fault)
     → length text ≤ limits.bytes → ((f : FileFault) → IsFault f → ⊥) → RefusesText limits text IsFault fault
     → (fault ≡ File file.Read) ⊎ (fault ≡ NoMemory)

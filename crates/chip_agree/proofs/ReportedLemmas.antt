@@ -1,5 +1,5 @@
 -- Serves Reported.antt.
--- What is reported of a game is its outcome, and each call of the library answers that.
+-- The report of a game is of its outcome, and each call of the library returns that.
 use Rattle.std.proofs.Common.{◌≡◌, ◌↔◌, ℕ, zero, suc, ◌<◌, List, [], ◌∷◌, length, slice_index, refl, sym, ◌∙◌, inl, inr}
 use Rattle.std.proofs.Common.{arith, ◌&&◌, if◌then◌else◌}
 use mathlib.Core.Logic.{dite}

@@ -1,5 +1,5 @@
 -- Serves DropsReported.antt.
--- Drops have one list of avalanches, so what a call tells of them are the rows that `avalanches` writes.
+-- Drops have one list of avalanches, so the results of a call are the rows that `avalanches` writes.
 use Rattle.std.proofs.Common.{◌≡◌, ◌⊎◌, ℕ, zero, suc, ◌+◌, ◌<◌, ◌≤◌, false, List, [], ◌∷◌, ◌++◌, length, map, take, drop}
 use Rattle.std.proofs.Common.{sum, slice_index, get_or, Option, None, Some, Ok, refl, sym, ap, ◌∙◌, subst, arith, inl, inr}
 use Rattle.std.proofs.lemmas.List.{get_or_past, get_or-map, nil_from_length, length-map, take_all, take-append-drop, take-map, take_more}
@@ -98,7 +98,7 @@ all_drops : (told : List Told) (ds : List (ℕ × ℕ)) → AreOn told (map (λ 
     → drops_of told ≡ ds
 all_drops told ds on = same_drops (drops_of told) ds (vertices_of told ∙ on.vertices) (chips_of told ∙ on.chips)
 
--- ---- where a play ends
+-- ---- the end of a play
 
 same_chips : (g : ChipGame) (o p : Outcome) → IsPlayed g o → IsPlayed g p → slice_index o.chips.items ≡ slice_index p.chips.items
 same_chips g o p one two =
@@ -135,7 +135,7 @@ no_more g = record {
 
 -- ---- what `avalanches` wrote
 
--- with few enough chips, the drops of the texts were played, and the report tells how that ended
+-- with few enough chips, the drops of the texts were played, and the report has the end of that
 pub record ArePlayed (g : ChipGame) (ds : List (ℕ × ℕ)) (rows : List ℕ) (asked report : Option (Option (List ℕ)))
     (ended : Ended) : Type 0 where
   pub game : IsGame g
@@ -178,7 +178,7 @@ module _ (g : ChipGame) (at amounts rows : List ℕ) (asked report : Option (Opt
 
 module _ (g : ChipGame) (ds : List (ℕ × ℕ)) (rows : List ℕ) (asked report : Option (Option (List ℕ))) (ended : Ended)
     (is : ArePlayed g ds rows asked report ended) where
-  -- if the game with all drops comes to rest, so does that with the first of them
+  -- if the game with all drops stabilizes, so does that with the first of them
   first_rest : (all : ChipGame) → HasMore g ds all → ComesToRest all → (i : ℕ) (few : ChipGame) → HasMore g (take i ds) few
       → (o : Outcome) → IsPlayed few o → IsStable few.graph (slice_index o.chips.items)
   first_rest all more rests i few first o played = stable_there few o played (rests_too g (take i ds) (drop i ds) few all first
@@ -275,7 +275,7 @@ abbrev told_before : (g : ChipGame) (ds : List (ℕ × ℕ)) (i : ℕ) → Stops
 told_before g ds i (inl game) = []
 told_before g ds i (inr before) = before.0
 
--- they are then told
+-- they are then reported
 abbrev TellsFirst : List Told → List (ℕ × ℕ) → List ℕ → Ended → ℕ → Type 0
 TellsFirst told ds rows ended i =
     (length told ≡ i) × (drops_of told ≡ take i ds) × (rows ≡ rows_text told) × (ended.status ≡ 2)
@@ -294,7 +294,7 @@ module _ (g : ChipGame) (ds : List (ℕ × ℕ)) (rows : List ℕ) (asked report
     low_limit = rw more.same_limit is.game.low_limit;
   }
 
-  -- if the limit does not stop it, it comes to rest
+  -- if the limit does not stop it, it stabilizes
   first_closes : (j : ℕ) → Closes g (take j ds) → (few : ChipGame) × HasMore g (take j ds) few × ComesToRest few
   first_closes j (few, more, stable) =
       let (o, played) = some_outcome few (first_game j few more) is.outcome.fired in
@@ -404,7 +404,7 @@ next_drop ds n l = take_more ds n (0, 0) l ∙ ap (λ (d : ℕ × ℕ). take n d
     pair : get_or ds n (0, 0) ≡ (slice_index (map (λ (d : ℕ × ℕ). d.0) ds) n, slice_index (map (λ (d : ℕ × ℕ). d.1) ds) n)
     pair = λ i. (sym vertex i, sym chips i)
 
--- why a call says that the limit stops drop i
+-- why a call reports that the limit stops drop i
 stops_of : (g : ChipGame) (ds : List (ℕ × ℕ)) (i : ℕ)
     → IsFaultOfDrops g (map (λ (d : ℕ × ℕ). d.0) ds) (map (λ (d : ℕ × ℕ). d.1) ds) (Stopped i) → Stops g ds i
 stops_of g ds i (inl none) = absurd (cc none)
@@ -417,7 +417,7 @@ stops_of g ds i (inr (inr (told, y, made, fault))) =
     let now : HasMore g (take (length told + 1) ds) all = rw (next_drop ds (length told) there, ← drops) adds in
     inr (told, y, made, sym same, rw same drops, rw same there, all, rw same now, stopped)
 
--- what is told of drops that a limit stopped
+-- what is reported of drops that a limit stopped
 module _ (g : ChipGame) (at amounts rows : List ℕ) (asked report : Option (Option (List ℕ))) (ended : Ended)
     (reported : AreReported g at amounts rows asked report ended) (i : ℕ) (stops : Stops g reported.drops i) where
   abbrev before_it : List Told

@@ -83,7 +83,7 @@ rests_there g o played stable =
     (λ i v. played.position vs whole v i) in
     (vs, whole, subst (IsStable g.graph) same stable)
 
--- drops on vertices bring nothing where no vertex is
+-- drops on vertices bring nothing to numbers that are no vertices
 pub none_outside : (n : ℕ) (ds : List (ℕ × ℕ)) (u : ℕ) → All (λ (d : ℕ × ℕ). d.0 < n) ds → n ≤ u → brought_to ds u ≡ 0
 none_outside n [] u all past = refl
 none_outside n (d ∷ ds) u all past =
@@ -94,7 +94,7 @@ none_outside n (d ∷ ds) u all past =
 
 -- ---- each game has an outcome
 
--- a list of few numbers in the place of another
+-- a list of few numbers in place of another
 with_few : (v : Vec ℕ Global) (xs : List ℕ) → length xs < 2 ^ 63 → (w : Vec ℕ Global) × (w.items ≡ xs)
 with_few v xs few =
     (record { ptr = v.ptr; len = length xs; cap = length xs; alloc = v.alloc; items = xs; ok = (refl, omega arith); small = few }, refl)

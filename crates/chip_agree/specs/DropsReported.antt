@@ -1,4 +1,4 @@
--- What the library answers of drops, and the rows that `avalanches` writes of them.
+-- The library's results for drops, and the rows that `avalanches` writes of them.
 use Rattle.std.specs.Prelude.{◌≡◌, ℕ, List, [], length, map, take, Option, Some, Ok, Err}
 use Rattle.chip_graph.specs.Limits.{SizeLimits}
 use Rattle.chip_graph.specs.ChipGame.{ChipGame}
@@ -13,8 +13,8 @@ use Rattle.chip_library.specs.declared.fault.CallFault.TheVariants.{Stopped}
 use Rattle.chip_library.specs.Drops.{Told, Columns, Avalanches, AreOn, AreTold, game_of}
 use Rattle.chip_library.specs.KeptGames.{KeptGame, IsKept, BeginsGame, Rows, DropsEach, with_rows}
 
--- three texts mean this game and these drops, and `avalanches` wrote these rows of them, and a report if it was asked for,
--- and ended so
+-- three texts mean this game and these drops, and `avalanches` wrote these rows of them, a report if it was requested,
+-- and ended with this status
 pub record AreReported (g : ChipGame) (at amounts rows : List ℕ) (asked report : Option (Option (List ℕ)))
     (ended : Ended) : Type 0 where
   pub limits : SizeLimits
@@ -29,11 +29,11 @@ pub record AreReported (g : ChipGame) (at amounts rows : List ℕ) (asked report
   pub wrote : AvalanchesAnswers limits (Some graph_text) (Some chips_text) (Some drops_text) g.limit
       (record { rows = Some []; report = asked }) (record { rows = Some rows; report = report }) (Ok ended)
 
--- the rows tell the drops on these vertices of these amounts, each with its avalanche
+-- the rows are of the drops on these vertices, of these amounts, each with its avalanche
 abbrev pub RowsTell : (told : List Told) → (at amounts rows : List ℕ) → Type 0
 RowsTell told at amounts rows = AreOn told at amounts × (rows ≡ rows_text told)
 
--- no limit stopped a play, and the report, if it was asked for, is of an outcome that has these chips
+-- no limit stopped a play, and the report, if it was requested, is of an outcome that has these chips
 abbrev pub EndsWith : List ℕ → (asked report : Option (Option (List ℕ))) → Ended → Type 0
 EndsWith chips asked report ended = (ended.status ≡ 0)
     × (o : Outcome) × (chips ≡ o.chips.items) × ReportAnswer asked report o (Ok ended)
@@ -47,8 +47,8 @@ AvalanchesAgree = (lists : EdgeLists) (limit : ℕ) (at amounts : List ℕ) (old
     → (told : List Told) × AreTold told new.sizes new.extents new.losts × RowsTell told at amounts rows
     × EndsWith new.chips asked report ended
 
--- if the limit stops the play of drop i, or that of the game, and then i is 0, the rows that `avalanches` writes are those
--- of the drops before it
+-- if the limit stops the play of drop i, or that of the game, and then i is 0, the rows that `avalanches` writes are
+-- those of the drops before it
 abbrev pub StoppedDropsAgree : Type 0
 StoppedDropsAgree = (lists : EdgeLists) (limit : ℕ) (at amounts : List ℕ) (old new : Columns) (i : ℕ)
     → Avalanches lists limit at amounts old new (Err (Stopped i))
@@ -56,7 +56,8 @@ StoppedDropsAgree = (lists : EdgeLists) (limit : ℕ) (at amounts : List ℕ) (o
     → AreReported (game_of lists limit old) at amounts rows asked report ended
     → (told : List Told) × (length told ≡ i) × RowsTell told (take i at) (take i amounts) rows × (ended.status ≡ 2)
 
--- so it is of drops on a kept pile that was not played yet: if all are made, the columns have what the rows tell
+-- the same holds of drops on a kept pile that was not yet played: if all are made, the columns have the contents of the
+-- rows
 abbrev pub KeptDropsAgree : Type 0
 KeptDropsAgree = (g : ChipGame) (k new : KeptGame) (at amounts : List ℕ) (before after : Rows)
     → BeginsGame g k → DropsEach k new at amounts before after (Ok tt)

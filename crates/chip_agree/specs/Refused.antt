@@ -1,4 +1,4 @@
--- Numbers of a game that make no game: what the library and `plain` answer.
+-- Numbers that make no game: the results of the library and of `plain`.
 use Rattle.std.specs.Prelude.{◌≡◌, ◌⊎◌, ℕ, List, Option, Some, Result, Ok, Err}
 use Rattle.chip_graph.specs.Limits.{SizeLimits}
 use Rattle.chip_graph.specs.declared.fault.GameFault.{GameFault}
@@ -15,12 +15,12 @@ use Rattle.chip_library.specs.Batch.{Games, StabilizesAll, game_at}
 use Rattle.chip_library.specs.CallFaults.{call_fault_number}
 use Rattle.chip_library.specs.EdgeLists.{graph_of}
 
--- a command ends with a fault of this number, or the machine failed: a read, or there was no memory
+-- a command ends with a fault of this number, or the machine failed: a read failed, or memory ran out
 abbrev pub EndsByNumber : ℕ → Result Ended Fault → Type 0
 EndsByNumber number (Ok ended) = ⊥
 EndsByNumber number (Err fault) = (command_fault_number fault ≡ number) ⊎ (fault ≡ File Read) ⊎ (fault ≡ NoMemory)
 
--- numbers that make a graph and no game, of which a call names the first fault, `plain` refuses by the same number
+-- numbers that make a graph and no game: a call names the first fault, and `plain` refuses with the same number
 abbrev pub GamesAreRefused : Type 0
 GamesAreRefused = (lists : EdgeLists) (limit : ℕ) (guesses : List ℕ) (old new : Games) (f : GameFault) (i : ℕ)
     → StabilizesAll lists limit guesses old new (Err (OfGame f i))

@@ -1,4 +1,4 @@
--- What the library answers of a game, and the report that `plain` writes of it.
+-- The library's results for a game, and the report that `plain` writes of it.
 use Rattle.std.specs.Prelude.{◌≡◌, ◌↔◌, ℕ, zero, suc, ◌<◌, List, [], length, slice_index, Ok, Err}
 use Rattle.chip_graph.specs.Limits.{SizeLimits}
 use Rattle.chip_graph.specs.ChipGame.{ChipGame}
@@ -23,18 +23,18 @@ pub record IsReported (g : ChipGame) (report : List ℕ) (status : ℕ) : Type 0
   pub means : MeansGame limits graph_text chips_text g.limit g
   pub wrote : PlainWrote graph_text chips_text g.limit report status
 
--- the exit status of a game whose limit stopped so many vertices
+-- the exit status of a game whose limit stopped this number of vertices
 abbrev pub status_of_stopped : ℕ → ℕ
 status_of_stopped zero = 0
 status_of_stopped (suc n) = 2
 
--- a report and its status are of an outcome, whose vertices the limit may have stopped, and no seal
+-- a report and its status are of an outcome in which the limit, and no seal, may have stopped vertices
 pub record IsReportOfOutcome (o : Outcome) (report : List ℕ) (status : ℕ) : Type 0 where
   pub text : report ≡ report_text o
   pub status_is : status ≡ status_of_stopped (length o.over.items)
   pub none_sealed : o.sealed.items ≡ []
 
--- a report has these chips and counts, and its limit stopped so many vertices
+-- a report has these chips and counts, and its limit stopped this number of vertices
 pub record Has (report : List ℕ) (status : ℕ) (chips fired : List ℕ) (stopped : ℕ) : Type 0 where
   pub outcome : Outcome
   pub is_of : IsReportOfOutcome outcome report status
@@ -56,7 +56,7 @@ ClaimsAgree = (lists : EdgeLists) (limit : ℕ) (chips fired ends : List ℕ)
     → (report : List ℕ) (status : ℕ) → IsReported (game_from (graph_of lists) chips limit) report status
     → (stopped : ℕ) × Has report status ends fired stopped
 
--- and of those that it refuses, the vertex that it names is the least of which the report has others
+-- and of those that it refuses, it names the least vertex for which the report has others
 abbrev pub DifferencesAgree : Type 0
 DifferencesAgree = (lists : EdgeLists) (limit : ℕ) (chips fired ends : List ℕ) (v : ℕ)
     → Verifies lists limit chips fired ends (Err (Differs v))

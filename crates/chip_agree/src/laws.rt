@@ -1,4 +1,4 @@
-//! The laws: functions that do nothing, whose contracts are the laws.
+//! The laws: theorems, as the contracts of functions that do nothing.
 
 ghost use Rattle.chip_agree.specs.Worked.{WorkedStatuses};
 ghost use Rattle.chip_agree.specs.Reported.{RowsAgree, ClaimsAgree, DifferencesAgree, PilesAgree};
@@ -15,13 +15,13 @@ pub fn rows_agree()
     ensures { RowsAgree }
 {}
 
-/// Counts and chips that a call accepts are those in the report, and those that it refuses differ from it.
+/// Counts and chips that a call accepts are those in the report; those that it refuses differ from it.
 pub fn claims_agree()
     ensures accepted { ClaimsAgree }
     ensures refused { DifferencesAgree }
 {}
 
-/// A pile that was played to its end has the chips and counts in the report of its game.
+/// A pile played to its end has the chips and counts in the report of its game.
 pub fn piles_agree()
     ensures { PilesAgree }
 {}
@@ -32,13 +32,13 @@ pub fn avalanches_agree()
     ensures stopped { StoppedDropsAgree }
 {}
 
-/// So it is of drops on a pile that is kept.
+/// The same holds of drops on a kept pile.
 pub fn kept_drops_agree()
     ensures all { KeptDropsAgree }
     ensures stopped { KeptStopsAgree }
 {}
 
-/// What is no game is refused by both, by one number.
+/// Both refuse what is no game, with the same number.
 pub fn games_are_refused()
     ensures { GamesAreRefused }
 {}

@@ -1,5 +1,5 @@
--- Serves Core.antt. If the root is closed nothing changes any more, everything is delivered, and chips and counts are
--- those of every end.
+-- Serves Core.antt. Once the root is closed nothing changes, everything is delivered, and chips and counts are those of
+-- every end.
 use Rattle.chip_core.proofs.Names.{nat_tests, pending_of, is_passive, is_legal, ◌≡◌, ℕ, ◌<◌, true}
 use Rattle.chip_core.proofs.Names.{eqb, ◌∷◌, length, get_or, Option, None, refl, sym, ap, ◌∙◌, arith}
 use Rattle.chip_core.proofs.Names.{⊎_elim, ◌≢◌, ◌+◌, ◌-◌, Bool, cond, List, [], sum, Some, get_or_past}
@@ -21,7 +21,7 @@ use Rattle.chip_core.proofs.InstanceLemmas.{IsIdle, idle, at_root}
 use Rattle.chip_core.proofs.PositionLemmas.{counts_are, leads_to, is_sequence, is_within}
 use Rattle.chip_core.proofs.ReachingLemmas.{step_legal}
 
--- which events may come once the root is closed, and that a take leaves the part as it is
+-- the events enabled once the root is closed; a take then leaves the part unchanged
 abbrev pub Rests : Setting → Event → ℕ → Part → Type 0
 Rests g (Take e) seen s = does g (saw (Take e) seen) s ≡ s
 Rests g (Put e) seen s = ⊥
@@ -32,7 +32,7 @@ module _ (g : Setting) (game : IsGame g.game) (some_ring : 0 < g.ring) where
     resting : (v : ℕ) → v < g.game.graph.vertices → IsNeutral g v (part_in g log v)
     resting = all_neutral g game some_ring log legal closed
 
-    -- ---- no later event changes a part, but the stopper's
+    -- ---- no later event changes a part but the stopper's
 
     all_passive : (p : ℕ) → passive_of g p (part_in g log p) ≡ true
     all_passive p =
@@ -162,7 +162,7 @@ module _ (g : Setting) (game : IsGame g.game) (some_ring : 0 < g.ring) where
       has_ended : HasEndedWithin g.game.graph (chips_given g log) g.game.limit (firings log)
       has_ended v can = counts_are g log v ∙ ((part_kept g game log legal v).at_limit (legal_halted v can)).0
 
-      -- the firings that were made are a whole play
+      -- the firings made are a whole play
       pub played : IsWholePlay g.game.graph (chips_given g log) g.game.limit (firings log)
       played = record {
         sequence = is_sequence g game some_ring log legal;
@@ -201,7 +201,7 @@ module _ (g : Setting) (game : IsGame g.game) (some_ring : 0 < g.ring) where
       all_ended v can = none_halt g (part_in g log v).halt FiringLimit (no_halts v can.is_vertex)
           (legal_halted no_seals v can)
 
-      -- counts and chips are those of every sequence that ends with no vertex legal
+      -- counts and chips are those of every sequence that ends with no legal vertex
       pub agrees : (vs : List ℕ) → IsFiringSequence g.game.graph (chips_given g log) vs
           → HasEnded g.game.graph (chips_given g log) vs → AgreesWith g log vs
       agrees vs ok ended =
@@ -221,7 +221,7 @@ module _ (g : Setting) (game : IsGame g.game) (some_ring : 0 < g.ring) where
       (legal, (met, refl)) in (still_closed log legal closed _ next, still log legal closed _ next)
   still_answer log x (Some r) met legal closed = (closed, λ p ne. refl)
 
-  -- whatever is asked for, the root stays closed and no part changes but the stopper's
+  -- whatever is requested, the root stays closed and no part but the stopper's changes
   pub still_run : (log : Log) → IsLegalLog g log → IsClosed g log → (ys : List Event) → IsClosed g (log_after g log ys)
       × ((p : ℕ) → p ≢ stopper g → part_in g (log_after g log ys) p ≡ part_in g log p)
   still_run log legal closed [] = (closed, λ p ne. refl)

@@ -1,5 +1,5 @@
--- Serves Detection.antt, Closing.antt. If the end is noted and nobody has anything to do the root is closed; so until
--- then there is something to do, and if everything is asked for in vain it is closed.
+-- Serves Detection.antt, Closing.antt. If the end is noted and no part has anything to do the root is closed; so until
+-- then some event advances, and if everything is tried and nothing advances, it is closed.
 use Rattle.chip_core.proofs.Names.{nat_tests, rules, ◌≡◌, ◌≢◌, ◌⊎◌, ℕ, ◌+◌, ◌<◌, ◌≤◌, true, false, not, ◌&&◌, eqb}
 use Rattle.chip_core.proofs.Names.{List, [], ◌∷◌, length, Option, Some, None, option_to_list, Contains, refl, sym, ap}
 use Rattle.chip_core.proofs.Names.{◌∙◌, arith, inl, inr, ⊎_elim, eqb-true, eq-eqb, zero, suc, Bool, cond, ltb}
@@ -31,7 +31,7 @@ idle_passive : (g : Setting) (v : ℕ) (s : Part) → unput_count g v s ≡ 0 �
 idle_passive g v s unput pending legal = grind (arith, nat_tests)
 
 module _ (g : Setting) where
-  -- nobody has anything to do after this log
+  -- no part has anything to do after this log
   pub record Quiet (log : Log) : Type 0 where
     pub taken : (e : ℕ) → e < all_edges g → length (into_in g log e).got ≡ length (out_in g log e).link.put
     pub put : (e : ℕ) → e < all_edges g → (out_in g log e).link.held ≡ None
@@ -68,7 +68,7 @@ module _ (g : Setting) where
     all_taken : (e : ℕ) → e < all_edges g → claims_of (out_in g log e).link ≤ length (into_in g log e).got
     all_taken e l = let a = quiet.taken e l in let b = none_held (out_in g log e).link (quiet.put e l) in omega arith
 
-    -- so nobody has anything to acknowledge or to settle in the computation that this is
+    -- so no part of the computation that this is has anything to acknowledge or to settle
     pub quiet_closes : HasEnd g log → IsClosed g log
     quiet_closes end = closed_here g game some_ring log legal (diffusing.quiet_closes (net g)
         (is_network g game some_ring) (was g log)
@@ -90,7 +90,7 @@ find (suc n) test = ⊎_elim (λ some. let l = some.1 in inl (some.0, omega arit
     (λ off. inr (λ k l. let old = none k in grind (arith, nat_tests))))
     (find n test)
 
--- an element of a list stands between others
+-- an element of a list is between a front and a back
 parted : {X : Type 0} (xs : List X) (x : X) → Contains xs x
     → (front : List X) × (back : List X) × (xs ≡ front ++ x ∷ back)
 parted [] x has = let a = has.1 in absurd (omega arith)
@@ -104,12 +104,12 @@ module _ (g : Setting) where
   abbrev pub is_refused : Log → Event → Bool
   is_refused log x = is_refusal g (acting_part g log x) (saw x (sees g log x))
 
-  -- the rules of an event are met, and something is told of it
+  -- the event is enabled, and it counts or is refused
   abbrev Tells : Log → Event → Type 0
   Tells log x = (unmet_rule g x (acting_part g log x) ≡ None)
       × ((reply_counts log x ≡ true) ⊎ (is_refused log x ≡ true))
 
-  -- the rules of an event are met, and it counts
+  -- the event is enabled, and it counts
   abbrev pub Works : Log → Event → Type 0
   Works log x = (unmet_rule g x (acting_part g log x) ≡ None) × (reply_counts log x ≡ true)
 
@@ -157,7 +157,7 @@ module _ (g : Setting) where
           (λ zero. (FiringLimit, grind (arith, nat_tests))) (λ some. (SealedEdge, grind (arith, nat_tests))) in
           (met_rules g (Halt v) s (vertex, (λ at. grind (arith, nat_tests)), runs, unput, why), refl)
 
-      -- a vertex of which a claim was refused halts
+      -- a vertex with a refused claim halts
       pub refused_halts : (e : ℕ) → e < graph_edges g → tail_of g e ≡ v → ((part_in g log v).out e).link.refused ≡ true
           → Works log (Halt v)
       refused_halts e l at on =
@@ -169,14 +169,14 @@ module _ (g : Setting) where
           let tail = tail_graph g e l in
           (met_rules g (Halt v) s (vertex, (λ z. other (cc)), runs, unput, (SealedEdge, why)), refl)
 
-    -- a claim is taken or refused
+    -- a claim is accepted or refused
     pub claim_tells : (e : ℕ) → e < graph_edges g → (part_in g log (tail_of g e)).halt ≡ None
         → (out_in g log e).link.clear ≡ true
         → Tells log (Claim e)
     claim_tells e l runs clear =
         (met_rules g (Claim e) (part_in g log (tail_of g e)) (l, runs, clear), grind (arith, nat_tests))
 
-    -- a look at a cell that is empty
+    -- a look at an empty cell
     pub look_finds : (e : ℕ) → claims_of (out_in g log e).link ≢ length (into_in g log e).got + g.ring
         → sees g log (Clear e) ≡ 0
     look_finds e room = cond_no (claims_of (out_in g log e).link) (length (into_in g log e).got + g.ring) _ 0 room
@@ -263,7 +263,7 @@ module _ (g : Setting) where
   abbrev Idle : Log → Event → Type 0
   Idle log x = tells_in (step g log x).0 ≡ tells_in log
 
-  -- the step of an event whose rules are met
+  -- the step of an enabled event
   pub made : (log : Log) (x : Event) → unmet_rule g x (acting_part g log x) ≡ None
       → (step g log x).0 ≡ saw x (sees g log x) ∷ log
   made log x none = cc
@@ -284,7 +284,7 @@ module _ (g : Setting) where
   cases_rule None = inl refl
   cases_rule (Some r) = Rattle.std.proofs.Common.inr (r, refl)
 
-  -- what an event does, by whether its rules are met
+  -- the effect of an event, whether or not it is enabled
   pub by_rule : {A : Type 0} (log : Log) (x : Event) → (unmet_rule g x (acting_part g log x) ≡ None → A)
       → ((step g log x).0 ≡ log → A) → A
   by_rule log x yes' no' = ⊎_elim yes'
@@ -298,7 +298,7 @@ module _ (g : Setting) where
   run_grows log [] = omega arith
   run_grows log (x ∷ xs) = let a = step_grows log x in let b = run_grows (step g log x).0 xs in omega arith
 
-  -- two logs that leave the same parts, but for the notes of clear and for the root's
+  -- two logs that leave the same parts, except for the notes of clear and the root's
   pub record Still (a b : Log) : Type 0 where
     pub parts : Alike g a b
     pub refused : (e : ℕ) → e < graph_edges g → (out_in g a e).link.refused ≡ (out_in g b e).link.refused
@@ -320,7 +320,8 @@ module _ (g : Setting) where
     abbrev HasRoom : Log → ℕ → Type 0
     HasRoom log e = claims_of (out_in g log e).link ≢ length (into_in g log e).got + g.ring
 
-    -- a step of which nothing is told leaves the notes of a refusal, and the note that a cell with room is clear
+    -- a step that neither counts nor is refused leaves the notes of a refusal, and the note that a cell with room is
+    -- clear
     abbrev Notes : Log → ℕ → Tail → Type 0
     Notes log e t = (t.refused ≡ (out_in g log e).link.refused)
         × (HasRoom log e → (out_in g log e).link.clear ≡ true → t.clear ≡ true)
@@ -383,7 +384,7 @@ module _ (g : Setting) where
         (room_still (step g log y).0 log (step_still log legal y here) e room)
         ((notes_after log legal y here e l).1 room clear)
 
-    -- a run of which nothing is told
+    -- a run in which nothing counts or is refused
     module _ (log : Log) (legal : IsLegalLog g log) (xs : List Event) (idle : tells_in (log_after g log xs) ≡ tells_in log) where
       -- a moment of it
       module _ (front back : List Event) (is : xs ≡ front ++ back) where
@@ -401,7 +402,7 @@ module _ (g : Setting) where
         still_here = then_still here log (log_after g log xs) (run_still front log legal tells_here.0)
             (back_still (log_after g log xs) log (run_still xs log legal idle))
 
-      -- of what was asked for, or may not be made now, nothing would be told at some moment
+      -- whatever was tried, or is not enabled now, neither counted nor was refused at some moment
       asked_at : (x : Event) → AsksFor g log xs x
           → ((front back : List Event) → xs ≡ front ++ back → Tells g (log_after g log front) x) → ⊥
       asked_at x has tells = ⊎_elim
@@ -436,7 +437,7 @@ module _ (g : Setting) where
           ∙ on))))
           (λ off. is_none_of (out_in g after e).link.held off)
 
-      -- no vertex with something to send is left if a look and then a claim were asked for
+      -- no vertex with something to send is left if a look and then a claim were tried
       module _ (e : ℕ) (l : e < graph_edges g) (runs : (part_in g after (tail_of g e)).halt ≡ None)
           (room : HasRoom after e) (pends : 0 < (out_in g after e).pending)
           (off : (out_in g after e).link.refused ≡ false) where
@@ -456,7 +457,7 @@ module _ (g : Setting) where
             ∙ cond_yes e e (after_clear (sees g m (Clear e)) o.link) o.link refl) (eq-eqb _ 0
             (look_finds g game some_ring m ok e (room_still m after still e room))))
 
-        -- the look that was asked for was made, and noted
+        -- the look that was tried was made, and noted
         noted : (front back : List Event) → xs ≡ front ++ back → AsksFor g log front (Clear e)
             → (out_in g (log_after g log front) e).link.clear ≡ true
         noted front back is = ⊎_elim
@@ -490,7 +491,7 @@ module _ (g : Setting) where
             (has_run (log_after g m front) still)
             (clear_stays e l front m m_legal first (room_still m after m_still e room) (noted sends.0 sends.1 sends.2 sends.3)))
 
-      -- nobody has anything to do
+      -- no part has anything to do
       quiet : Quiet g after
       quiet = record {
         taken = λ e l. dite (dec_lt (length (into_in g after e).got) (length (out_in g after e).link.put))

@@ -50,7 +50,7 @@ module _ (g : Setting) where
         let empty : t.held ≡ None = (edge_sound g game some_ring log legal e).quiet may.5 in
         let saw = feed_sees log legal e k may.0 in let put = append-nil t.put in grind (arith, nat_tests)
 
-    -- ---- what was given grows by what is fed
+    -- ---- a feed increases what was given
 
     brought_one : (u v k : ℕ) → brought_to ((u, k) ∷ []) v ≡ cond (eqb u v) k 0
     brought_one u v k = let a = sum_by-cons (λ (p : ℕ × ℕ). cond (eqb p.0 v) p.1 0) (u, k) [] in omega arith
@@ -94,7 +94,7 @@ module _ (g : Setting) where
         brought_one (e - graph_edges g) v k ∙ cond_no (e - graph_edges g) v k 0 (λ z. absurd (omega arith))
     none_outside _ s may v past = refl
 
-    -- nothing was given to what isn't a vertex
+    -- nothing was given to numbers that are no vertices
     pub started_outside : (log : Log) → IsLegalLog g log → (v : ℕ) → g.game.graph.vertices ≤ v → chips_given g log v ≡ 0
     started_outside [] legal v past = let each = game.start_fits in first_sent g v ∙ get_or_past g.game.start v 0 (omega arith)
     started_outside (x ∷ log) legal v past =
@@ -112,7 +112,7 @@ module _ (g : Setting) where
     fed_push (y ∷ ys) x =
         let a = fed_push ys x in let b = append_assoc (fed_of g y.event) (fed_in g ys) (fed_of g x.event) in cc
 
-    -- nobody feeds but the root
+    -- only the root feeds
     fed_elsewhere : (x : Event) (s : Part) → Met g x s → part_of g x ≢ root g → fed_of g x ≡ []
     fed_elsewhere (Feed e k) s may other = absurd (other (tail_root g e may.0))
     fed_elsewhere x s may other = refl
@@ -127,7 +127,7 @@ module _ (g : Setting) where
         let none = fed_elsewhere x.event (part_in g log (part_of g x.event)) (met_here g x log legal) in
         grind (arith, nat_tests)
 
-    -- what a vertex was given is its start and what the record fed it
+    -- what a vertex was given is its start and its recorded feeds
     pub started_recorded : (log : Log) → IsLegalLog g log → (v : ℕ)
         → chips_given g log v ≡ start_of g v + brought_to (recorded log) v
     started_recorded [] legal v = let a = first_sent g v in omega arith
@@ -202,7 +202,7 @@ module _ (g : Setting) where
     given_within log legal = let a = root_gave log in
         let b = (part_kept g game log legal (root g)).fed_within refl in omega arith
 
-    -- so the game that is played is one within the limits
+    -- so the game played is within the limits
     pub played_is_game : (log : Log) → IsLegalLog g log → IsGame (played_game g log)
     played_is_game log legal = record {
       graph_fits = game.graph_fits;
@@ -222,7 +222,7 @@ module _ (g : Setting) where
       total = (let d = given_sum log in let f = total_recorded log legal in cc);
     }
 
-    -- ---- if no chips are fed
+    -- ---- without feeding
 
     module _ (off : g.fed ≡ false) where
       pub unfed_started : (log : Log) → IsLegalLog g log → (v : ℕ) → chips_given g log v ≡ start_of g v
@@ -256,7 +256,7 @@ module _ (g : Setting) where
 pub given_by_the_record : GivenByTheRecord
 given_by_the_record = played_has_more
 
--- what was given to each vertex is the start of the game that is played
+-- what was given to each vertex is the start of the game played
 pub given_start : (g : Setting) (log : Log) (given : List ℕ) → AreGiven g (part_in g log (root g)) given
     → given ≡ (played_game g log).start
 given_start g log given are = fill_by_all (chips_given g log) given g.game.graph.vertices 0 are.0

@@ -1,5 +1,5 @@
 -- Serves Work.antt, Core.antt.
--- A step that doesn't count leaves all parts but for their notes, the seals and the end.
+-- A step that doesn't count changes only the notes of parts, the seals and the end.
 use Rattle.chip_core.proofs.Names.{nat_tests, ◌≡◌, ◌≢◌, ℕ, ◌+◌, ◌-◌, ◌≤◌, Bool, true, false, cond, eqb, ltb, [], ◌∷◌}
 use Rattle.chip_core.proofs.Names.{◌++◌, None, refl, ap, ◌∙◌, arith, true≢false, dite, ℕ_discrete, cond_yes}
 use Rattle.chip_core.proofs.Names.{cond_no, Tail, claims_of, after_clear, after_claim, Setting, is_sent, Got}
@@ -20,7 +20,7 @@ bare s = record s {
 }
 
 module _ (g : Setting) where
-  -- only the tail of one edge is another, and only its notes
+  -- only the tail of one edge is changed, and only its notes
   notes_leave : (e : ℕ) (s : Part) (link : ℕ → Tail) → bare_link (link e) ≡ bare_link (s.out e).link
       → ◌≡◌ {A = ℕ → Tail} (λ i. bare_link (cond (eqb e i) (link i) (s.out i).link)) (λ i. bare_link (s.out i).link)
   notes_leave e s link same = λ j i. at_edge (λ i (t : Tail). bare_link t ≡ bare_link (s.out i).link) e link
@@ -41,7 +41,7 @@ module _ (g : Setting) where
       (λ i. (s.out i).settled + (seen - (s.out i).settled)) (λ i. (s.out i).settled) (omega arith) (λ i. refl) in
       λ j. record (bare s) { out = λ i. record (s.out i) { link = bare_link (s.out i).link; settled = same i j } }
 
-  -- a claim or a feed of these counts is taken, or refused, which leaves the link but for its notes
+  -- a claim or a feed of these counts is accepted, or refused, which changes only notes of the link
   claim_bare : (e seen : ℕ) (count : ℕ → ℕ) (s : Part) (m : Message)
       → is_sent (cond (eqb seen (claims_of (s.out e).link)) (Sent m) Sealed) ≡ false
       → (seen ≢ claims_of (s.out e).link)
@@ -55,7 +55,7 @@ module _ (g : Setting) where
             (ap bare_link (cond_no seen (claims_of (s.out e).link) _ (record (s.out e).link { clear = false; refused = true }) miss)),
       ))
 
-  -- a step that doesn't count leaves its part but for these
+  -- a step that doesn't count leaves its part except for these
   pub idle_does : (x : Event) (seen : ℕ) (s : Part) → counts_as_work g s (saw x seen) ≡ false
       → bare (does g (saw x seen) s) ≡ bare s
   idle_does (Take e) seen s idle = dite (ℕ_discrete seen 0)
@@ -81,7 +81,7 @@ module _ (g : Setting) where
   idle_does End seen s idle = settle_bare (root_edge g 0) seen s true idle
   idle_does _ seen s idle = absurd (true≢false idle)
 
-  -- two logs leave the same parts but for these
+  -- two logs leave the same parts except for these
   abbrev pub Alike : Log → Log → Type 0
   Alike a b = (p : ℕ) → bare (part_in g a p) ≡ bare (part_in g b p)
 

@@ -79,12 +79,13 @@ module _ (g : Setting) where
   abbrev pub world : (ℕ → Part) → World
   world parts p = show p (parts p)
 
-  -- the root sends the chips of the start on its edges below n. Where there are none it does something of its own
+  -- the root sends the chips of the start on its edges below n. Where there are none it makes an event of its own
   abbrev started_below : ℕ → diffusing.Log
   started_below zero = []
   started_below (suc e) = cond (eqb (length (first_put g e)) 0) (Work (root g)) (Send e) ∷ started_below e
 
-  -- what an event of the part s is, if it saw this word. By the end of feeding the root settles, and is passive then
+  -- the event for an event of the part s that saw this word. By the end of feeding the root settles, and is passive
+  -- then
   abbrev pub event_by : Event → ℕ → Part → diffusing.Event
   event_by (Take e) seen s = cond (eqb seen 0) (Work (head_of g e)) (Get e)
   event_by (Ack e) seen s = diffusing.Ack e (part.may_ack_on g (head_of g e) s e)
@@ -94,7 +95,7 @@ module _ (g : Setting) where
   event_by End seen s = diffusing.Settle (root_edge g 0) seen
   event_by x seen s = Work (part_of g x)
 
-  -- what the events of a log are, after the start of the root
+  -- the events for a log, after the start of the root
   abbrev pub events_of : Log → diffusing.Log
   events_of [] = Work (root g) ∷ started_below (all_edges g)
   events_of (x ∷ log) = event_by x.event x.seen (part_in g log (part_of g x.event)) ∷ events_of log
@@ -105,7 +106,7 @@ module _ (g : Setting) where
   in_outs : (e p : ℕ) → e < all_edges g → tail_of g e ≡ p → Contains (outs p) e
   in_outs e p l at = picked_has (λ i. eqb (tail_of g i) p) (all_edges g) e l (eq-eqb _ _ at)
 
-  -- one part acts, from this state to that, as its own books tell
+  -- one part acts, from this state to that, by its own books
   acts : (old new : ℕ → Part) (x : diffusing.Event) (q : ℕ) (s t : Part) → diffusing.process_of net x ≡ q → old q ≡ s
       → new q ≡ t → ((p : ℕ) → p ≢ q → new p ≡ old p) → May net (world old) x → NotesEvent (books_of q s) x (books_of q t)
       → Wakes (passive_of g q s) x (passive_of g q t) → Happens net (world old) x (world new)
@@ -122,7 +123,7 @@ module _ (g : Setting) where
           (subst (λ (u : Part). P (show q u) (world new q)) (sym was)
           (subst (λ (u : Part). P (show q s) (show q u)) (sym now) holds))
 
-  -- what is owed in all and waited for in all
+  -- the totals owed and waited for
   pub owed_same : (p : ℕ) (s : Part) → all_owed (books_of p s) ≡ part.owed_by g p s
   owed_same p s = side_all_open (ins p) (λ e. length (s.into e).got) (λ e. (s.into e).acked)
       ∙ picked_sum (λ e. part.owed_on (s.into e)) (λ e. eqb (head_of g e) p) (all_edges g)
@@ -176,7 +177,7 @@ module _ (g : Setting) where
   abbrev pub was : Log → World
   was log = world (part_in g log)
 
-  -- it shows the parts
+  -- it has the parts
   module _ (log : Log) where
     counts_out : (e : ℕ) → e < all_edges g → (diffusing.sent_on net (was log) e ≡ claims_of (out_in g log e).link)
         × (diffusing.settled_on net (was log) e ≡ (out_in g log e).settled)
@@ -199,7 +200,7 @@ module _ (g : Setting) where
     }
 
   module _ (game : IsGame g.game) (some_ring : 0 < g.ring) where
-    -- one event of a part, by what it does to the part
+    -- one event of a part, by its effect on the part
     by_event : (x : Step) (log : Log) (y : diffusing.Event) → part_of g x.event ≡ diffusing.process_of net y
         → May net (was log) y
         → NotesEvent (books_of (diffusing.process_of net y) (part_in g log (diffusing.process_of net y))) y
@@ -226,7 +227,7 @@ module _ (g : Setting) where
       kept : (p : ℕ) → KeepsPart g p (part_in g log p)
       kept p = part_kept g game log legal p
 
-      -- a passive vertex is neutral but for what it owes and waits for
+      -- a passive vertex is neutral except for what it owes and waits for
       up : (v : ℕ) → v < root g → passive_of g v (part_in g log v) ≡ true → IsNeutral g v (settled_up (part_in g log v))
       up v l on = record {
         no_parent = refl;
@@ -265,7 +266,7 @@ module _ (g : Setting) where
         open_root log legal.0 e may.0 may.2 on
     idle log _ seen legal on = tt
 
-    -- a claim that is taken, or a feed, sends
+    -- an accepted claim, or a feed, sends
     sends : (log : Log) (x : Step) (e : ℕ) → IsLegalLog g (x ∷ log) → part_of g x.event ≡ tail_of g e → e < all_edges g
         → (passive_of g (tail_of g e) (part_in g log (tail_of g e)) ≡ true → ⊥)
         → (books_of (tail_of g e) (does g x (part_in g log (tail_of g e)))).ins
@@ -311,7 +312,7 @@ module _ (g : Setting) where
         → passive_of g q (part_in g log q) ≡ true → passive_of g q (does g x (part_in g log q)) ≡ true
     root_wakes x log q at same on = at_root q (does g x (part_in g log q)) at ∙ same ∙ sym (at_root q (part_in g log q) at) ∙ on
 
-    -- what the tail settles
+    -- the number that the tail settles
     settles : (e seen : ℕ) (q : ℕ) (s : Part) → e < all_edges g → tail_of g e ≡ q → AddsAnswers (books_of q s).outs
         (side (outs q) (λ i. claims_of (s.out i).link)
         (λ i. cond (eqb e i) ((s.out i).settled + (seen - (s.out i).settled)) (s.out i).settled)).ins e
@@ -533,16 +534,16 @@ module _ (g : Setting) where
     start_leads zero le = refl
     start_leads (suc k) le = (world (starting k), start_leads k (omega arith), start_step k (omega arith))
 
-    -- the root sends no more, unless it is fed
+    -- the root sends no more, unless there is feeding
     opened : Happens net (world (starting (all_edges g))) (Work (root g)) (was [])
     opened = acts (starting (all_edges g)) (λ p. opening_part g) (Work r) r (rooted (all_edges g)) (opening_part g) refl
         (at_start (all_edges g)) refl (λ p n. sym (elsewhere (all_edges g) p n)) (omega arith)
         (books_same r (rooted (all_edges g)) (opening_part g) (λ e. refl) (λ e. refl) (λ e m. grind (arith, nat_tests))
         (λ e. refl) refl) (λ on. absurd (not_passive (all_edges g) on))
 
-    -- ---- how many edges a part has
+    -- ---- the number of edges of a part
 
-    -- no more than f of them pass the test, if f grows at each that does
+    -- at most f of them pass the test, if f grows at each that does
     few : (test : ℕ → Bool) (f : ℕ → ℕ) → ((a : ℕ) → f a ≤ f (suc a)) → ((a : ℕ) → test a ≡ true → f a < f (suc a))
         → (n : ℕ) → length (filter_below test n) ≤ f n
     few test f up on zero = omega arith

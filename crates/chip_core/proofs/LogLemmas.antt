@@ -1,5 +1,5 @@
 -- Serves Core.antt.
--- The parts and the edges in a legal log: what every one of them keeps, whatever was done.
+-- The parts and the edges in a legal log: their invariants, whatever was done.
 use Rattle.chip_core.proofs.Names.{nat_tests, ◌≡◌, ◌≢◌, ◌⊎◌, ℕ, ◌+◌, ◌-◌, ◌<◌, ◌≤◌, Bool, true, false, cond, eqb, List}
 use Rattle.chip_core.proofs.Names.{[], ◌∷◌, ◌++◌, length, append_assoc, Option, None, refl, arith}
 use Rattle.chip_core.proofs.Names.{inl, inr, ⊎_elim, pos_of_ne-zero, ltb, dite, ℕ_discrete, dec_lt, IsGame, Setting}
@@ -62,7 +62,7 @@ module _ (g : Setting) where
   stop_idle (Seal j) seen e stop ne = absurd (ne refl)
   stop_idle _ seen e stop ne = refl
 
-  -- whichever part made it: a field of the part p is what the event makes of it
+  -- whichever part made it: the event determines a field of the part p
   field_step : {A : Type 0} (field : Part → A) (after : Part → A) (x : Step) (log : Log) (p : ℕ)
       → ((s : Part) → field (does g x s) ≡ after s)
       → (part_of g x.event ≢ p → after (part_in g log p) ≡ field (part_in g log p))
@@ -106,7 +106,7 @@ module _ (g : Setting) where
       (λ p. does g x (part_in g log p)) (part_in g log)
       (part_lemmas.stays_ended g x.event (part_in g log (part_of g x.event)).ended) (λ p on. on) (root g)
 
-  -- what is acknowledged and settled is never taken back
+  -- acknowledgements and settles are never undone
   pub acked_grows : (x : Event) (s : Part) (e : ℕ) (i : Into) → i.acked ≤ acked_after g x s e i
   acked_grows (Ack j) s e i = grind (arith, nat_tests)
   acked_grows _ s e i = omega arith
@@ -116,7 +116,7 @@ module _ (g : Setting) where
   settled_grows End seen e o = grind (arith, nat_tests)
   settled_grows _ seen e o = omega arith
 
-  -- ---- whose an edge is
+  -- ---- the ends of an edge
 
   module _ (game : IsGame g.game) where
     pub head_inside : (e : ℕ) → e < all_edges g → head_of g e < g.game.graph.vertices
@@ -134,7 +134,7 @@ module _ (g : Setting) where
   module _ (game : IsGame g.game) where
     -- ---- every part
 
-    -- what the part that acts keeps, it keeps in every legal log
+    -- the part that acts keeps its invariants in every legal log
     pub part_kept : (log : Log) → IsLegalLog g log → (p : ℕ) → KeepsPart g p (part_in g log p)
     part_kept [] legal p = opening_keeps g game p
     part_kept (x ∷ log) legal p = at_edge (λ q (s : Part). KeepsPart g q s) (part_of g x.event)
@@ -229,7 +229,7 @@ module _ (g : Setting) where
         let a = settled_step x log e in let b = acked_step x log e in
         let c = settle_step log x.event x.seen legal.1.1 (settled_behind log legal.0) e in omega arith
 
-    -- settled, acknowledged, delivered, put and claimed, each at most the next
+    -- settled, acknowledged, delivered, put and claimed: each number is at most the next
     pub edge_counts : 0 < g.ring → (log : Log) → IsLegalLog g log → (e : ℕ)
         → ((out_in g log e).settled ≤ (into_in g log e).acked)
         × ((into_in g log e).acked ≤ length (into_in g log e).got)

@@ -1,5 +1,5 @@
 -- Serves Core.antt, Messages.antt.
--- The messages that are read off the replies are those of the parts; nothing is sent on a sealed edge.
+-- The messages in the replies are those of the parts; nothing is sent on a sealed edge.
 use Rattle.chip_core.proofs.Names.{nat_tests, ◌≡◌, ℕ, ◌+◌, ◌*◌, ◌<◌, ◌≤◌, Bool, true, false, cond, eqb, List, []}
 use Rattle.chip_core.proofs.Names.{◌∷◌, ◌++◌, length, sum, take, drop, option_to_list, Option, Some, None, refl, sym}
 use Rattle.chip_core.proofs.Names.{ap, ◌∙◌, arith, true≢false, append_assoc, append-nil, length-append, or_right}
@@ -46,12 +46,12 @@ chips_messages e n (x ∷ xs) =
     let c = chips_messages e (n + 1) xs in
     omega arith
 
--- one more count, in the list as it is to stand
+-- one more count, in the resulting list
 push : (e : ℕ) (xs : List ℕ) (n c : ℕ) → n ≡ length xs
     → messages_from e 0 (xs ++ c ∷ []) ≡ messages_from e 0 xs ++ message_of e n c ∷ []
 push e xs n c is = let a = messages-append e 0 xs (c ∷ []) in let b : 0 + length xs ≡ n = omega arith in cc
 
--- ---- replies that tell of no message
+-- ---- replies that report no message
 
 not_sent : (e : ℕ) (x : Event) (r : Rule) → sent_by e x (NotNow r) ≡ []
 not_sent e (Claim i) r = refl
@@ -80,7 +80,7 @@ module _ (g : Setting) where
   stays_sealed log e was x (Some r) = was
   stays_sealed log e was x None = or_right (is_seal e x) (was_sealed log e) was
 
-  -- on an edge that is sealed nothing is sent any more
+  -- nothing is sent on a sealed edge
   pub sealed_before : (log : Log) (xs : List Event) (e : ℕ) → was_sealed log e ≡ true
       → sent_in e xs (replies_to g log xs) ≡ []
   sealed_before log [] e was = refl
@@ -123,7 +123,7 @@ module _ (g : Setting) where
   got_answer log x None e = let a = got_step g (saw x (sees g log x)) log e in let b = got_event x log e in cc
   got_answer log x (Some r) e = let a = not_delivered e x r in let b = append-nil (got_at log e) in cc
 
-  -- after a run: what was delivered before it, and what its replies say
+  -- after a run: what was delivered before it, and in its replies
   delivered_is : (log : Log) (xs : List Event) (e : ℕ)
       → got_at (log_after g log xs) e ≡ got_at log e ++ delivered_on g log xs e
   delivered_is log [] e = sym (append-nil (got_at log e))
@@ -172,7 +172,7 @@ module _ (g : Setting) where
         let a = link_step g (saw x (sees g log x)) log e in let b = sent_event x log e legal met in cc
     sent_answer log x (Some r) e met legal = let a = not_sent e x r in let b = append-nil (sent_at log e) in cc
 
-    -- after a run: what was sent before it, and what its replies say
+    -- after a run: what was sent before it, and in its replies
     sent_is : (log : Log) (xs : List Event) (e : ℕ) → IsLegalLog g log
         → sent_at (log_after g log xs) e ≡ sent_at log e ++ sent_in e xs (replies_to g log xs)
     sent_is log [] e legal = sym (append-nil (sent_at log e))
@@ -218,7 +218,7 @@ module _ (g : Setting) where
         → IsPrefix (delivered_on g log xs e) (to_deliver g log xs e)
     delivers_prefix log xs e legal = (in_flight g (log_after g log xs) e, left_is log xs e legal)
 
-    -- what a run has to deliver is what the tail's part has after it, but for what was delivered before
+    -- what a run has to deliver is what the tail's part has after it, except for what was delivered before
     pub sent_stands : (log : Log) (xs : List Event) (e : ℕ) → IsLegalLog g log
         → to_deliver g log xs e ≡ messages_from e (length (into_in g log e).got)
         (drop (length (into_in g log e).got) (sent_counts (out_in g (log_after g log xs) e).link))

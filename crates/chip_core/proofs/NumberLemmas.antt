@@ -1,5 +1,5 @@
 -- Serves Core.antt, Laws.antt.
--- The numbers of a legal log, the cells and words that its events see, and that these keep within the limits.
+-- The numbers of a legal log, and the cells and words that its events see: all are within the limits.
 use Rattle.chip_core.proofs.Names.{nat_tests, ◌≡◌, ◌≢◌, ◌↔◌, ℕ, suc, ◌+◌, ◌-◌, ◌^◌, ◌<◌, ◌≤◌, ◌||◌, true, false}
 use Rattle.chip_core.proofs.Names.{eqb, List, [], ◌∷◌, length, sum, drop, get_or, Option, Some, None, option_to_list}
 use Rattle.chip_core.proofs.Names.{is_some, refl, sym, ap, ◌∙◌, subst, arith, eq-eqb, leb-true, true≢false, get_or_past}
@@ -19,7 +19,7 @@ use Rattle.chip_core.proofs.GivenLemmas.{given_sum, given_within, started_outsid
 use Rattle.chip_core.proofs.GivenLemmas.{unfed_played, unfed_started, unfed_closes}
 use Rattle.chip_core.proofs.PositionLemmas.{is_sequence, leads_to}
 
--- as many as their sum at most, if each is above 0
+-- at most their sum, if each is above 0
 length_sum : (xs : List ℕ) → ((p : ℕ) → p < length xs → 0 < get_or xs p 0) → length xs ≤ sum xs
 length_sum [] some = omega arith
 length_sum (x ∷ xs) some = let a = length_sum xs (λ p l. some (suc p) (omega arith)) in let b = some 0 (omega arith) in
@@ -49,7 +49,7 @@ module _ (g : Setting) where
   module _ (game : IsGame g.game) (some_ring : 0 < g.ring) (log : Log) (legal : IsLegalLog g log) where
     -- ---- chips
 
-    -- no vertex ever has more chips than were given, those on the way to it among them
+    -- no vertex ever has more chips than were given, chips in transit to it included
     pub full_position_most : (v : ℕ) → v < g.game.graph.vertices → full_position g log v ≤ sum (played_game g log).start
     full_position_most v l =
         let a = (leads_to g game some_ring log legal).position v l in
@@ -64,7 +64,7 @@ module _ (g : Setting) where
     pub few_given : sum (played_game g log).start ≤ max_total
     few_given = given_within g game some_ring log legal
 
-    -- the chips of a vertex and those on the way to it on one edge
+    -- the chips of a vertex and those in transit to it on one edge
     pub chips_with_flight : (e : ℕ) → e < all_edges g
         → (part_in g log (head_of g e)).chips + sum (counts_in_flight g log e)
         ≤ sum (played_game g log).start
@@ -81,7 +81,7 @@ module _ (g : Setting) where
     few_claims e l = let a = (out_kept g game log legal e).fewer l in
         let b = (part_kept g game log legal (tail_of g e)).within in omega arith
 
-    -- of a root edge: one for each chip that was given at most
+    -- of a root edge: at most one for each chip given
     pub few_root_claims : (e : ℕ) → graph_edges g ≤ e
         → claims_of (out_in g log e).link ≤ chips_given g log (e - graph_edges g)
     few_root_claims e l =

@@ -1,5 +1,5 @@
--- Serves Detection.antt, Core.antt. A detection order exists in every legal log, and nobody is engaged if the root is
--- closed: both by the theorem on diffusing computations.
+-- Serves Detection.antt, Core.antt. A detection order exists in every legal log, and no vertex is engaged if the root
+-- is closed: both by the theorem on diffusing computations.
 use Rattle.chip_core.proofs.Names.{eqb-true, ◌≡◌, ℕ, ◌<◌, eqb, List, [], ◌∷◌, length, refl, sym, ap, ◌∙◌, subst, arith}
 use Rattle.chip_core.proofs.Names.{⊎_elim, option_to_list, IsGame, Setting, tested_none, owed_on, IsNeutral, Part}
 use Rattle.chip_core.proofs.Names.{out_zero, Log, part_in, out_in, into_in, IsLegalLog, IsClosed, outstanding_on}

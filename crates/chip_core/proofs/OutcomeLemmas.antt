@@ -1,5 +1,5 @@
--- Serves Core.antt, Outcomes.antt, Positions.antt. What the outcome of a closed log tells: a report takes it, a firing
--- sequence leads to it, and if no seal halted a vertex every player comes to it.
+-- Serves Core.antt, Outcomes.antt, Positions.antt. The outcome of a closed log: a report accepts it, a firing sequence
+-- leads to it, and if no seal halted a vertex every player reaches it.
 use Rattle.chip_core.proofs.Names.{nat_tests, ◌≡◌, ℕ, ◌^◌, ◌<◌, ◌≤◌, true, false, not, ◌&&◌, eqb, leb, List, All}
 use Rattle.chip_core.proofs.Names.{Contains, length, slice_index, Option, Some, sym, ◌∙◌, subst, arith, true≢false}
 use Rattle.chip_core.proofs.Names.{IsStrictlyIncreasing, get_or_past, All-from_get_or, get_or-le-sum_by, dite, dec_lt}
@@ -45,7 +45,7 @@ module _ (g : Setting) (game : IsGame g.game) (some_ring : 0 < g.ring) (log : Lo
   never_negative fired are v low = none_below g game some_ring log legal v
       (rw (← (same_fired fired are)) low)
 
-  -- nothing lies at a number that no vertex has
+  -- numbers that are no vertices have no chips
   chips_outside : (v : ℕ) → g.game.graph.vertices ≤ v → position_by_counts g.game.graph (chips_given g log) (fired_by g log) v
       ≡ 0
   chips_outside v past =
@@ -63,7 +63,7 @@ module _ (g : Setting) (game : IsGame g.game) (some_ring : 0 < g.ring) (log : Lo
         (λ nl. (let each = is.chips.chips_each in let none = get_or_past o.chips.items v 0 (omega arith) in
         let outside = chips_outside v (omega arith) in cc))
 
-    -- the firings that were made come to it
+    -- the firings made reach it
     pub comes : ComesTo g (chips_given g log) (firings log) o
     comes = record {
       sequence = is_sequence g game some_ring log legal;
@@ -72,7 +72,7 @@ module _ (g : Setting) (game : IsGame g.game) (some_ring : 0 < g.ring) (log : Lo
       position = chips_are;
     }
 
-    -- ---- a report takes it
+    -- ---- a report accepts it
 
     low_counts : (v : ℕ) → slice_index o.fired.items v ≤ g.game.limit
     low_counts v = let a = comes.counted v in let b = comes.within v in omega arith
@@ -114,7 +114,7 @@ module _ (g : Setting) (game : IsGame g.game) (some_ring : 0 < g.ring) (log : Lo
       whole : IsWholePlay g.game.graph (chips_given g log) g.game.limit (firings log)
       whole = played g game some_ring log legal closed no_seal
 
-      -- the chips that lie there are those of the outcome
+      -- the final chips are those of the outcome
       chips_lie : (v : ℕ) → v < g.game.graph.vertices → chips_at g log v ≡ slice_index o.chips.items v
       chips_lie v l =
           let a = (agrees_within g game some_ring log legal closed no_seal (firings log) whole).chips v l in
@@ -125,7 +125,7 @@ module _ (g : Setting) (game : IsGame g.game) (some_ring : 0 < g.ring) (log : Lo
           (λ v. not (eqb v g.game.graph.sink) && leb (degree g.game.graph v) (slice_index o.chips.items v)) g.game.graph.vertices
           (λ v l. (let a = chips_lie v l in cc))
 
-      -- it is every player's, in the game that was played
+      -- it is every player's, in the game played
       pub is_played : IsPlayed (played_game g log) o
       is_played =
           let from : chips_given g log ≡ slice_index (played_game g log).start =

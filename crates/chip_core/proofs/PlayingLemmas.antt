@@ -13,7 +13,7 @@ use Rattle.chip_core.proofs.ReachingLemmas.{run_legal}
 use Rattle.chip_core.proofs.OutcomeLemmas.{outcomes_tell}
 use Rattle.chip_core.proofs.ScheduleLemmas.{fair_schedules_close, fair_rounds_close}
 
--- what is sealed was not open before
+-- a sealed edge was not open before
 was_open : (x : Event) (seen e : ℕ) (stop : Option ℕ) → stop_after x seen e stop ≡ None → stop ≡ None
 was_open (Seal i) seen e None is = refl
 was_open (Seal i) seen e (Some n) is = grind (arith, nat_tests)

@@ -1,5 +1,5 @@
 -- Serves Core.antt.
--- The full position is the position after the firings that were made.
+-- The full configuration is the configuration after the firings made.
 use Rattle.chip_core.proofs.Names.{nat_tests, ◌≡◌, ℕ, ◌+◌, ◌-◌, ◌*◌, ◌<◌, ◌≤◌, Bool, eqb, [], ◌∷◌, ◌++◌, length, sum}
 use Rattle.chip_core.proofs.Names.{take, replicate, option_to_list, refl, sym, ap, ◌∙◌, arith, eqb-true}
 use Rattle.chip_core.proofs.Names.{append-nil, ◌≢◌, take-append-le, sum_by-append, sum_by-take-drop, dite, dec_lt}
@@ -25,7 +25,7 @@ module _ (g : Setting) where
   none_elsewhere (Fire v k) u other = counts-replicate k v u ∙ cond_no v u k 0 other
   none_elsewhere _ u other = refl
 
-  -- the counts of the firings that were made
+  -- the counts of the firings made
   pub counts_are : (log : Log) (u : ℕ) → counts (firings log) u ≡ fired_by g log u
   counts_are [] u = refl
   counts_are (x ∷ log) u =
@@ -41,7 +41,7 @@ module _ (g : Setting) where
   pub gone_root : (log : Log) (e : ℕ) → graph_edges g ≤ e → gone_into g log e ≡ chips_given g log (e - graph_edges g)
   gone_root log e l = grind (arith, nat_tests)
 
-  -- what ever went into the edges into v: what it was given, and what its neighbours' firings brought
+  -- what ever entered the edges into v: what it was given, and what its neighbours' firings brought
   pub gone_inflow : (log : Log) (v : ℕ) → v < g.game.graph.vertices
       → over_ins g v (gone_into g log) ≡ chips_given g log v + inflow g.game.graph (fired_by g log) v
   gone_inflow log v inside =
@@ -77,7 +77,7 @@ module _ (g : Setting) where
         let b = (out_kept g game log legal e).all_made l in
         omega arith
 
-    -- what was sent and what is held is what ever went into an edge
+    -- what was sent and what is held is what ever entered an edge
     pub gone_sum : (log : Log) → IsLegalLog g log → (e : ℕ)
         → sum (sent_counts (out_in g log e).link) + held g log e ≡ gone_into g log e
     gone_sum log legal e = dite (dec_lt e (graph_edges g)) (λ l. (let c = held_is log legal e l in
@@ -90,7 +90,7 @@ module _ (g : Setting) where
         let b = gone_root log e past in
         omega arith)
 
-    -- on each edge: delivered, in flight and held make what ever went into it
+    -- on each edge: delivered, in flight and held make up what ever entered it
     pub edge_sum : (log : Log) → IsLegalLog g log → (e : ℕ)
         → sum (into_in g log e).got + (sum (counts_in_flight g log e) + held g log e) ≡ gone_into g log e
     edge_sum log legal e = let a = sent_sum log legal e in let b = gone_sum log legal e in omega arith
@@ -149,7 +149,7 @@ module _ (g : Setting) where
     pub is_within : (log : Log) → IsLegalLog g log → IsWithin g.game.limit (firings log)
     is_within log legal u = let a = counts_are log u in let b = (part_kept g game log legal u).within in omega arith
 
-    -- the position law
+    -- the configuration law
     pub leads_to : (log : Log) → IsLegalLog g log → FiresToEnd g log (firings log)
     leads_to log legal = record {
       sequence = is_sequence log legal;

@@ -1,5 +1,5 @@
 -- Serves Core.antt, Reached.antt.
--- The reached worlds are those that the legal logs leave.
+-- The reached worlds are those of the legal logs.
 use Rattle.chip_core.proofs.Names.{◌≡◌, ℕ, List, [], ◌∷◌, ◌++◌, refl, sym, ap, ◌∙◌, cond_yes, cond_no}
 use Rattle.chip_core.proofs.Names.{Setting, Log, Step, opening_part, part_of, part_in, IsLegalLog}
 use Rattle.chip_core.proofs.Names.{done_by, part_by, parts_by, IsOneMore, IsReached, at_opening, one_more}
@@ -25,7 +25,7 @@ module _ (g : Setting) where
             (λ z. other (sym z));
       }
 
-  -- some legal log leaves these records
+  -- some legal log leads to these records
   IsLeft : (ℕ → List Step) → Type 0
   IsLeft records = (log : Log) × IsLegalLog g log × ((p : ℕ) → records p ≡ done_by g p log)
 

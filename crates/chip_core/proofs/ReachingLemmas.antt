@@ -1,5 +1,5 @@
 -- Serves Core.antt.
--- Every run leaves a legal log, every legal log is that of a run, and a part is what its own events make of it.
+-- Every run leaves a legal log, every legal log is that of a run, and a part follows from its own events.
 use Rattle.chip_core.proofs.Names.{◌≡◌, ℕ, List, [], ◌∷◌, ◌++◌, Option, Some, None, refl, sym, ap, ◌∙◌, append-nil}
 use Rattle.chip_core.proofs.Names.{Bool, true, false, cond, eqb, Setting, saw, Log, Step, Event, Rule, Part}
 use Rattle.chip_core.proofs.Names.{opening_part, unmet_rule, part_of, does, part_in, IsLegalLog, answer, step}
@@ -10,7 +10,7 @@ module _ (g : Setting) where
   part-append [] ys s = refl
   part-append (x ∷ xs) ys s = part-append xs ys (does g x s)
 
-  -- what a part did after a log, and one step more
+  -- the steps of a part after a log, and one step more
   own_step : (b : Bool) (s : Part) (x : Step) (t : Part) (ds : List Step) → t ≡ part_by g s ds
       → cond b (does g x t) t ≡ part_by g s (cond b (ds ++ x ∷ []) ds)
   own_step true s x t ds is = let a = part-append ds (x ∷ []) s in cc
@@ -43,7 +43,7 @@ module _ (g : Setting) where
   run_push log [] x = refl
   run_push log (y ∷ ys) x = run_push (step g log y).0 ys x
 
-  -- a legal log is what the run of its latest events leaves
+  -- a legal log is that of the run of its latest events
   pub run_from : (xs log : Log) → IsLegalLog g (xs ++ log) → log_after g log (events_in xs) ≡ xs ++ log
   run_from [] log legal = refl
   run_from (x ∷ xs) log legal = run_push log (events_in xs) x.event

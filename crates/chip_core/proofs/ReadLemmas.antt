@@ -1,12 +1,12 @@
 -- Serves Core.antt.
--- Every read that was made saw the fired word that stands at the end, and the root is closed there.
+-- Every read that was made saw the fired word at the end, and the root is closed there.
 use Rattle.chip_core.proofs.Names.{◌≡◌, ◌↔◌, ℕ, ◌<◌, [], ◌∷◌, true, None, Contains, arith, ⊎_elim, eqb}
 use Rattle.chip_core.proofs.Names.{eqb-true, IsGame, Setting, tested_none, deficit_of, rules_met, out_zero, Log, Step}
 use Rattle.chip_core.proofs.Names.{Read, unmet_rule, part_in, word_of_part, IsLegalLog, IsSettled}
 use Rattle.chip_core.proofs.Names.{IsClosed, outstanding_on, tail_of, root, all_edges, contains_cases}
 use Rattle.chip_core.proofs.ClosingLemmas.{still, still_closed}
 
--- the two ways to say that all that the root sent is settled
+-- the two ways to state that all that the root sent is settled
 pub settled_is : (g : Setting) (log : Log) → (deficit_of g (root g) (part_in g log (root g)) ≡ 0) ↔ IsSettled g log
 settled_is g log = (
   (λ none e l at. (let a = out_zero g (root g) (λ i. outstanding_on ((part_in g log (root g)).out i)) none e l at in

@@ -1,5 +1,5 @@
 -- Serves Core.antt.
--- What a reply leaves by which nothing was done, and runs one after the other.
+-- What a reply leaves by which nothing was done, and concatenated runs.
 use Rattle.chip_core.proofs.Names.{nat_tests, arith, ◌≡◌, ℕ, suc, true, false, List, [], ◌∷◌, ◌++◌, length, Option}
 use Rattle.chip_core.proofs.Names.{Some, None, refl, sym, ap, true≢false, Setting, saw, at_edge, Log, Event, Seal, End}
 use Rattle.chip_core.proofs.Names.{Rule, Part, unmet_rule, part_of, does, reply_of, part_in, sees, answer, step}
@@ -7,8 +7,8 @@ use Rattle.chip_core.proofs.Names.{replies_to, log_after, counts_as_work, is_idl
 use Rattle.chip_core.proofs.Names.{RunsGoOn}
 use Rattle.chip_core.proofs.IdleLemmas.{bare, idle_does}
 
--- parts that are the same but for their notes, their seals and the end differ in their notes alone, if the seals and
--- the end are the same
+-- parts that are equal except for their notes, their seals and the end differ only in their notes, if the seals and the
+-- end are equal
 leaves : (s t : Part) → bare s ≡ bare t → ((e : ℕ) → s.stop e ≡ t.stop e) → s.ended ≡ t.ended → DifferInNotes s t
 leaves s t same stop ended = record {
   chips = ap (λ (p : Part). p.chips) same;

@@ -1,5 +1,5 @@
--- Serves Histories.antt, Closing.antt. What a whole turn of which no step counts tells of the vertex. If every vertex
--- made one, and the root settled all its edges, the root is closed.
+-- Serves Histories.antt, Closing.antt. The vertex after a whole turn of which no step counts. If every vertex made one,
+-- and the root settled all its edges, the root is closed.
 use Rattle.chip_core.proofs.Names.{nat_tests, eqb-false, rules, ◌≡◌, ◌≢◌, ◌⊎◌, ℕ, ◌+◌, ◌<◌, ◌≤◌, Bool, true, false, not}
 use Rattle.chip_core.proofs.Names.{◌&&◌, cond, eqb, List, [], ◌∷◌, ◌++◌, length, Option, Some, None, is_some, Contains}
 use Rattle.chip_core.proofs.Names.{refl, sym, ap, ◌∙◌, subst, arith, inl, inr, ⊎_elim, eqb-true, true≢false}
@@ -20,7 +20,7 @@ use Rattle.chip_core.proofs.LogLemmas.{edge_counts, head_inside, tail_inside, in
 use Rattle.chip_core.proofs.DueLemmas.{Quiet, quiet_closes, Works, take_works, settle_works, none_unput, look_finds}
 use Rattle.chip_core.proofs.ReachingLemmas.{part-append, part_own}
 
--- how many of these count whatever they saw
+-- the number of these that count whatever they saw
 abbrev sure : Event → ℕ
 sure (Fire v k) = 1
 sure (Put e) = 1
@@ -59,7 +59,7 @@ module _ (g : Setting) where
       let idle = one_more g (counts_as_work g s x) (work_of g (does g x s) xs) 0 none (omega arith) in
       idle_part xs (does g x s) (omega arith) ∙ idle_does g x.event x.seen s idle
 
-  -- ---- a phase leaves the part that its operations make
+  -- ---- a phase leads to the part after its operations
 
   abbrev Makes : Phase → Type 0
   Makes p = (s : Part) (ds : List Step) (t : Part) → p s ds t → t ≡ part_by g s ds
@@ -80,11 +80,11 @@ module _ (g : Setting) where
       last = λ s. makes_parent s.parent s;
     }
 
-    -- a turn leaves the part that its operations make
+    -- a turn leads to the part after its operations
     pub makes_turn : Makes (turn g v)
     makes_turn = of_turn g v Makes makes
 
-    -- ---- what its phases tell
+    -- ---- what follows from its phases
 
     first_or_later : (P : ℕ → Type 0) (e : ℕ) (es : List ℕ) → P e → ((i : ℕ) → Contains es i → P i) → (i : ℕ)
         → Contains (e ∷ es) i → P i
@@ -134,7 +134,7 @@ module _ (g : Setting) where
               (λ i at. rw (← one.1) (more.1 i at)),
         )
 
-    -- an edge with something to send was looked at, and its cell was not empty
+    -- the cell of an edge with something to send was read, and was not empty
     abbrev Looked : Part → List Step → ℕ → Type 0
     Looked s ds e = ((s.out e).pending ≡ 0) ⊎ ((seen : ℕ) × (seen ≢ 0) × Contains ds (saw (Clear e) seen))
 
@@ -187,7 +187,7 @@ module _ (g : Setting) where
         let idle : work_of g s front ≡ 0 = grind (arith, nat_tests) in let same = idle_part front s idle in
         (grind (arith, nat_tests), cc)
 
-    -- what a turn of which no step counts tells: what it asked for, and that the vertex has nothing to do
+    -- what follows from a turn of which no step counts: what it tried, and that the vertex has nothing to do
     pub record Rested (ds : List Step) (after : Part) : Type 0 where
       pub takes : (e : ℕ) → Contains (ins_of g v) e → (seen : ℕ) × Contains ds (saw (Take e) seen)
       pub settles : (e : ℕ) → Contains (outs_of g v) e → (seen : ℕ) × Contains ds (saw (Settle e) seen)
@@ -336,7 +336,7 @@ module _ (g : Setting) where
           let d' : work_in g after ≡ work_in g before = none in
           (omega arith, omega arith)
 
-      -- the part that the turn left has not changed since
+      -- the part after the turn has not changed since
       same : bare its.are_turn.0 ≡ bare (part_in g after v)
       same = rw (makes_turn g v s ds its.are_turn.0 its.are_turn.1 ∙ sym (part_own g v its.middle base)) (rw all_is
           (sym (idle_stretch g its.late (its.middle ++ base) idle.1 v)))

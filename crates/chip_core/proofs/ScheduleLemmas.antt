@@ -1,6 +1,6 @@
 -- Serves Closing.antt.
--- Schedules that ask for everything often enough close the root. Afterwards nothing counts, and but for seals the words
--- stay as they are.
+-- Schedules that try everything often enough close the root. After that nothing counts, and the words are unchanged
+-- except for seals.
 use Rattle.chip_core.proofs.Names.{nat_tests, rules, ◌≡◌, ◌≢◌, ℕ, ◌+◌, ◌<◌, ◌≤◌, cond, List, [], ◌∷◌, ◌++◌, length}
 use Rattle.chip_core.proofs.Names.{sym, ap, ◌∙◌, subst, arith, ⊎_elim, refl, ◌⊎◌, zero, suc, None, inl, inr}
 use Rattle.chip_core.proofs.Names.{true≢false, append-nil, Contains, append_assoc, Contains-append_left}
@@ -26,7 +26,7 @@ use Rattle.chip_core.proofs.DueLemmas.{tells_in, run_grows, by_rule, made, asked
 use Rattle.chip_core.proofs.RoundLemmas.{round_closes, take_made, settle_made}
 
 module _ (g : Setting) (game : IsGame g.game) (some_ring : 0 < g.ring) where
-  -- two logs leave the same parts but for the stopper's
+  -- two logs leave the same parts except for the stopper's
   abbrev Stays : Log → Log → Type 0
   Stays a b = (p : ℕ) → p ≢ stopper g → part_in g a p ≡ part_in g b p
 
@@ -167,7 +167,7 @@ module _ (g : Setting) (game : IsGame g.game) (some_ring : 0 < g.ring) where
       let few = few_steps g game some_ring after legal fired (bounds_stay log after ends fired bounds) in
       grind (arith, nat_tests)
 
-  -- ---- stretches that ask for everything
+  -- ---- stretches that try everything
 
   stretches_tell : (n : ℕ) (xs : List Event) (log : Log) → IsLegalLog g log → HasEnd g log → HasStretches g n log xs
       → IsClosed g (log_after g log xs) ⊎ (n + tells_in g log ≤ tells_in g (log_after g log xs))
@@ -249,7 +249,7 @@ module _ (g : Setting) (game : IsGame g.game) (some_ring : 0 < g.ring) where
   refusals_grow [] log = omega arith
   refusals_grow (x ∷ xs) log = let a = refusals_grow xs log in omega arith
 
-  -- a round in which nothing counts closes the root, and then none of these may be made but takes and settles
+  -- a round in which nothing counts closes the root, and then of these only takes and settles are enabled
   module _ (before xs : Log) (round : HasRound g before xs) (legal : IsLegalLog g (xs ++ before)) (end : HasEnd g (xs ++ before))
       (put : RootHasPut g (xs ++ before)) (told : NothingIsTold g before (log_after g before (events_in xs))) where
     abbrev now : Log

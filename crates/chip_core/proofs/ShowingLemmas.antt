@@ -1,6 +1,6 @@
 -- Serves Core.antt, Words.antt.
--- What the operation of an event finds in its word is what the core says, and the words that it leaves show the log
--- with that event.
+-- The operation of an event finds in its word what the core's event sees, and the words after it show the log with that
+-- event.
 use Rattle.chip_core.proofs.Names.{nat_tests, ◌≡◌, ◌≢◌, ℕ, ◌+◌, ◌-◌, ◌%◌, ◌^◌, ◌<◌, true, false, cond, eqb, List, ◌∷◌}
 use Rattle.chip_core.proofs.Names.{length, sum, Option, Some, None, option_to_list, refl, ◌∙◌}
 use Rattle.chip_core.proofs.Names.{arith, ⊎_elim, zero-add, bit_or, mod_below, dite, ℕ_discrete, cond_yes, cond_no}
@@ -19,7 +19,7 @@ use Rattle.chip_core.proofs.LogLemmas.{part_here, part_else, link_step, got_step
 use Rattle.chip_core.proofs.LogLemmas.{edge_sound, empty_hand}
 use Rattle.chip_core.proofs.NumberLemmas.{claims_most}
 
--- the same edge, read off other words
+-- the same edge, from other words
 reread : (ring word word' : ℕ) (cell cell' : ℕ → ℕ) (t : Tail) (got : List ℕ) (stop : Option ℕ) → 0 < ring
     → word' ≡ word → ((i : ℕ) → i < ring → cell' i ≡ cell i)
     → WordsShow ring word cell t got stop → WordsShow ring word' cell' t got stop
@@ -34,7 +34,7 @@ word_halts : (c : Cause) (n fired : ℕ) → fired < 2 ^ 62 → n ≡ fired_word
 word_halts SealedEdge n fired few is = let a = halts_word fired false false few in cc
 word_halts FiringLimit n fired few is = let a = halts_by_limit fired false false few in cc
 
--- the word of an event whose rules are met is there
+-- the word of an enabled event exists
 pub word_for : (g : Setting) → 0 < g.game.graph.vertices → 0 < g.ring → (x : Event) (s : Part) → unmet_rule g x s ≡ None
     → IsWord g (word_of_event g x s)
 word_for g some_vertex some_ring (Take e) s none = (rules_met g (Take e) s none, mod_below _ g.ring some_ring)
@@ -66,7 +66,7 @@ module _ (g : Setting) (game : IsGame g.game) (some_ring : 0 < g.ring) (log : Lo
   idle : (e : ℕ) → unmet_rule g (Clear e) (part_in g log (tail_of g e)) ≡ None → (out_in g log e).link.held ≡ None
   idle e none = empty_hand g game some_ring log legal e (met_for (Clear e) none)
 
-  -- the word is there
+  -- the word exists
   pub word_there : (x : Event) → unmet_rule g x (acting_part g log x) ≡ None
       → IsWord g (word_of_event g x (acting_part g log x))
   word_there x none = word_for g game.graph_fits.some_vertex some_ring x (acting_part g log x) none
@@ -88,7 +88,7 @@ module _ (g : Setting) (game : IsGame g.game) (some_ring : 0 < g.ring) (log : Lo
   finds (Feed e k) none = (shown.edges e (word_there (Feed e k) none)).word_is
   finds End none = shown.acks (root_edge g 0) (word_there End none)
 
-  -- other words, that the operation of an event has left
+  -- other words, after the operation of an event
   module _ (value' : Word → ℕ) where
     abbrev seen_by : Event → ℕ
     seen_by x = sees g log x

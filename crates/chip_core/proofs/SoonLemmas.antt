@@ -1,5 +1,5 @@
--- Serves Soon.antt, Detection.antt. Rounds of the core are rounds of the computation that it is, so soon after the end
--- they close the root by the theorem on these.
+-- Serves Soon.antt, Detection.antt. Rounds of the core are rounds of its computation, so soon after the end they close
+-- the root by the theorem on those.
 use Rattle.chip_core.proofs.Names.{◌≡◌, ℕ, zero, suc, ◌+◌, ◌-◌, ◌<◌, ◌≤◌, List, [], ◌∷◌, ◌++◌, length, Some, None}
 use Rattle.chip_core.proofs.Names.{Contains, refl, sym, ap, ◌∙◌, subst, arith, ⊎_elim, append_assoc, length-drop}
 use Rattle.chip_core.proofs.Names.{Contains-append_left, Contains-append_right, dite, dec_lt, IsGame, cond_yes}
@@ -27,7 +27,7 @@ no_messages e place [] is = refl
 no_messages e place (c ∷ cs) is = absurd (grind (arith, nat_tests))
 
 module _ (g : Setting) where
-  -- ---- what is acknowledged and settled is never taken back
+  -- ---- acknowledgements and settles are never undone
 
   acked_on : (xs log : Log) (e : ℕ) → (into_in g log e).acked ≤ (into_in g (xs ++ log) e).acked
   acked_on [] log e = omega arith
@@ -188,7 +188,7 @@ module _ (g : Setting) where
         let x = settles e past out.0 in let a = settle_seen xs mid new x.0 x.1 e x.2 in
         let b = (shows g mid).acked e out.0 in let c = (shows g (xs ++ mid)).settled e out.0 in omega arith))
 
-    -- ---- the core's trees are trees there
+    -- ---- the core's trees are trees of the computation
 
     module _ (log : Log) (legal : IsLegalLog g log) where
       tree_there : (vs : List ℕ) → IsTree g log vs → rounds.IsEngagementTree (net g) (was g log) vs

@@ -1,4 +1,5 @@
--- Serves Wasting.antt. New looks are few, so steps that advance are; and if none is due the root is closed.
+-- Serves Wasting.antt. The number of new looks is bounded, so that of advancing steps is; and if none is due the root
+-- is closed.
 use Rattle.chip_core.proofs.Names.{◌≡◌, ℕ, zero, suc, ◌+◌, ◌*◌, ◌<◌, ◌≤◌, ◌||◌, Bool, true, cond, eqb, [], ◌∷◌}
 use Rattle.chip_core.proofs.Names.{◌++◌, length, refl, ap, ◌∙◌, arith, true≢false, ⊎_elim, nat_tests, dite}
 use Rattle.chip_core.proofs.Names.{ℕ_discrete, IsGame, sum_below, edge_at, sum_below_le, sum_below_add, one_at_most}
@@ -13,7 +14,7 @@ use Rattle.chip_core.proofs.DueLemmas.{never_stuck, look_finds, tells_in}
 use Rattle.chip_core.proofs.WorkLemmas.{refused_on, few_refusals, one_term}
 use Rattle.chip_core.proofs.ScheduleLemmas.{ends_longer, bounds_stay, few_after}
 
--- what new looks at an edge leave behind: each is followed by a claim, or a refusal, or is noted still
+-- the effect of new looks at an edge: each is followed by a claim, or a refusal, or is still noted
 abbrev looked : Tail → ℕ
 looked t = claims_of t + refused_on t + cond t.clear 1 0
 
@@ -74,7 +75,7 @@ module _ (g : Setting) (game : IsGame g.game) (some_ring : 0 < g.ring) where
       let all = look_among log end x.event x.seen may in
       omega arith
 
-  -- a step that advances is told, or a new look
+  -- a step that advances counts, is refused, or is a new look
   advances_more : (x : Step) (log : Log) → IsLegalLog g (x ∷ log) → HasEnd g log → Advances g log x.event
       → 1 + tells_in g log + all_looked log ≤ tells_in g (x ∷ log) + all_looked (x ∷ log)
   advances_more x log legal end advance =

@@ -1,5 +1,5 @@
 -- Serves Work.antt.
--- How many steps of a legal log count as work, and how many of its claims are refused.
+-- The numbers of steps of a legal log that count as work, and of its refused claims.
 use Rattle.chip_core.proofs.Names.{◌≡◌, ℕ, zero, suc, ◌+◌, ◌-◌, ◌*◌, ◌<◌, ◌≤◌, true, cond, eqb, List, [], ◌∷◌, length}
 use Rattle.chip_core.proofs.Names.{None, is_some, refl, sym, ap, ◌∙◌, arith, length-append, min, sum, IsGame, sum_below}
 use Rattle.chip_core.proofs.Names.{edge_at, IsDistance, fires_at_distance, IsGreatestDistance, least_action}
@@ -30,7 +30,7 @@ abbrev pub refused_on : Tail → ℕ
 refused_on t = cond t.refused 1 0
 
 module _ (g : Setting) where
-  -- what was done on an edge, and by a vertex
+  -- the work on an edge, and by a vertex
   abbrev pub edge_work : Log → ℕ → ℕ
   edge_work log e = (out_in g log e).settled + (into_in g log e).acked + length (into_in g log e).got
       + length (out_in g log e).link.put + claims_of (out_in g log e).link
@@ -51,7 +51,7 @@ module _ (g : Setting) where
       let d = link_step g x log e in let f = ap claims_of (link_step g x log e) in
       grind (arith, nat_tests)
 
-  -- a step that counts does more on this edge, or, as a firing or a halt, by its vertex
+  -- a step that counts increases the work on this edge or, as a firing or a halt, of its vertex
   abbrev edge_of : Event → ℕ
   edge_of (Take e) = e
   edge_of (Ack e) = e
@@ -80,7 +80,7 @@ module _ (g : Setting) where
     hand : (log : Log) → IsLegalLog g log → (e : ℕ) → (out_in g log e).link.clear ≡ true → (out_in g log e).link.held ≡ None
     hand log legal e clear = (edge_sound g game some_ring log legal e).quiet clear
 
-    -- no event takes anything back, and one that counts does more
+    -- no event decreases the work, and one that counts increases it
     edge_more : (log : Log) → IsLegalLog g log → (x : Event) (seen : ℕ) → Met g x (part_in g log (part_of g x)) → (e : ℕ)
         → edge_work log e + cond (eqb (edge_of x) e) (on_edge x (counted log x seen)) 0 ≤ work_after log x seen e
     edge_more log legal (Take i) seen may e =
@@ -118,7 +118,7 @@ module _ (g : Setting) where
     abbrev pub all_work : Log → ℕ
     all_work log = sum_below (all_edges g) (edge_work log) + sum_below g.game.graph.vertices (vertex_work log)
 
-    -- what a step that counts does is among it
+    -- the work of a step that counts is part of it
     is_among : (log : Log) (x : Event) (seen : ℕ) → Met g x (part_in g log (part_of g x)) → counted log x seen
         ≤ sum_below (all_edges g) (λ e. cond (eqb (edge_of x) e) (on_edge x (counted log x seen)) 0)
         + sum_below g.game.graph.vertices (λ v. cond (eqb (part_of g x) v) (by_vertex x (counted log x seen)) 0)

@@ -1,5 +1,5 @@
 -- Serves Worked.antt, WorkedClosing.antt, WorkedSoon.antt.
--- The worked runs: a detection order member by member, a game within the limits, the sink asked backwards, and the
+-- The worked runs: a detection order member by member, a game within the limits, the sink tried backwards, and the
 -- triangle at rest.
 use Rattle.chip_core.proofs.Names.{◌≡◌, ℕ, zero, suc, ◌<◌, [], ◌∷◌, get_or, Contains, refl, arith, inl, inr, ◌++◌, ◌≤◌}
 use Rattle.chip_core.proofs.Names.{true, Some, true≢false, sym, ◌≢◌, List, ◌^◌, length, sum, ⊎_elim, TwoEngaged}
@@ -258,7 +258,7 @@ all_delivered (suc (suc (suc (suc (suc zero))))) l = refl
 all_delivered (suc (suc (suc (suc (suc (suc zero)))))) l = refl
 all_delivered (suc (suc (suc (suc (suc (suc (suc e))))))) l = absurd (omega arith)
 
--- the root, which is no vertex and stands last, has the level 0
+-- the root, which is no vertex and is last, has the level 0
 abbrev level : ℕ → ℕ
 level v = get_or (1 ∷ 2 ∷ 0 ∷ []) v 0
 

@@ -1,5 +1,5 @@
--- It closes: once the end of feeding is noted there is something to do until the root is closed, and a schedule that asks
--- for everything, often enough, closes it.
+-- The root closes: from the end of feeding until then some event advances, and a schedule that tries everything, often
+-- enough, closes it.
 use Rattle.std.specs.Prelude.{◌≡◌, ◌≤◌, ℕ, zero, suc, ◌+◌, ◌<◌, ◌==◌, ◌&&◌, ◌||◌, Bool, true, false, not, List}
 use Rattle.std.specs.Prelude.{◌++◌, length, Contains, None, ◌⊎◌, ◌≢◌}
 use Rattle.chip_link.specs.Link.{claims_of}
@@ -16,37 +16,36 @@ use Rattle.chip_core.specs.Words.{Word, IsShown, acting_part}
 use Rattle.chip_core.specs.Work.{counts_as_work, is_refusal, work_in, refusals_in, steps_at_most, fed_so_far}
 use Rattle.chip_core.specs.Work.{AreFiringBounds}
 
--- the root noted that nothing more is fed
+-- the root noted the end of feeding
 abbrev pub HasEnd : Setting → Log → Type 0
 HasEnd g log = (part_in g log (root g)).ended ≡ true
 
--- ---- there is something to do until the root is closed
+-- ---- an event advances until the root is closed
 
 -- a look that finds the next cell empty, if that wasn't noted yet
 abbrev pub is_new_look : Part → Event → ℕ → Bool
 is_new_look s (Clear e) seen = seen == 0 && not (s.out e).link.clear
 is_new_look s _ seen = false
 
--- the rules of this event are met, and it counts as work, or is a claim that a seal refuses, or a look that finds
--- something new
+-- the event is enabled, and it counts as work, or is a claim that a seal refuses, or a look that finds something new
 pub record Advances (g : Setting) (log : Log) (x : Event) : Type 0 where
   pub may : unmet_rule g x (acting_part g log x) ≡ None
   pub tells : (counts_as_work g (acting_part g log x) (saw x (sees g log x))
       || is_refusal g (acting_part g log x) (saw x (sees g log x)) || is_new_look (acting_part g log x) x (sees g log x))
       ≡ true
 
--- if the end is noted and the root isn't closed, some vertex or the root may make such an event
+-- if the end is noted and the root isn't closed, some vertex or the root has such an event
 abbrev pub CoreNeverStuck : Type 0
 CoreNeverStuck = ForEveryLog (λ g log. HasEnd g log → (IsClosed g log → ⊥) → (x : Event) × Advances g log x)
 
--- ---- schedules that ask for everything
+-- ---- schedules that try everything
 
--- this event is asked for among these, or may not be made after them
+-- this event is tried among these, or is not enabled after them
 abbrev pub AsksFor : Setting → Log → List Event → Event → Type 0
 AsksFor g log xs x = Contains xs x ⊎ (unmet_rule g x (acting_part g (log_after g log xs) x) ≢ None)
 
--- these events, asked for after the log in any order, ask for everything that may be made: of each edge a take, an
--- acknowledgement, a settle and a put; of each vertex a firing and a halt; of each graph edge a look and, later, a claim
+-- these events, tried after the log in any order, are all that may be enabled: of each edge a take, an acknowledgement,
+-- a settle and a put; of each vertex a firing and a halt; of each graph edge a look and, later, a claim
 pub record AsksForEverything (g : Setting) (log : Log) (xs : List Event) : Type 0 where
   pub takes : (e : ℕ) → e < all_edges g → AsksFor g log xs (Take e)
   pub acks : (e : ℕ) → e < all_edges g → AsksFor g log xs (Ack e)
@@ -61,7 +60,7 @@ pub record AsksForEverything (g : Setting) (log : Log) (xs : List Event) : Type 
 abbrev pub NothingIsTold : Setting → Log → Log → Type 0
 NothingIsTold g log after = work_in g after + refusals_in g after ≡ work_in g log + refusals_in g log
 
--- if such a list is asked for, something counts or a claim is refused, or the root is closed after it
+-- if such a list is tried, something counts or a claim is refused, or the root is closed after it
 abbrev pub AskedInVain : Type 0
 AskedInVain = ForEveryLog (λ g log. (xs : List Event) → AsksForEverything g log xs → HasEnd g (log_after g log xs)
     → NothingIsTold g log (log_after g log xs) → IsClosed g (log_after g log xs))
@@ -72,8 +71,8 @@ AskedInVain = ForEveryLog (λ g log. (xs : List Event) → AsksForEverything g l
 abbrev pub RootHasPut : Setting → Log → Type 0
 RootHasPut g log = (e : ℕ) → graph_edges g ≤ e → e < all_edges g → (out_in g log e).link.held ≡ None
 
--- a whole turn of v is among these steps, which were made after the log `before`, the latest in front: its own steps in
--- the middle of them are a turn. Steps of others may stand between
+-- a whole turn of v is among these steps, which were made after the log `before`, the latest first: its own steps in
+-- the middle of them are a turn. Steps of others may be between
 pub record HasTurn (g : Setting) (v : ℕ) (before xs : Log) : Type 0 where
   pub early : Log
   pub middle : Log
@@ -86,19 +85,19 @@ pub record HasRound (g : Setting) (before xs : Log) : Type 0 where
   pub turns : (v : ℕ) → v < g.game.graph.vertices → HasTurn g v before xs
   pub settles : (e : ℕ) → graph_edges g ≤ e → e < all_edges g → (x : Step) × Contains xs x × (x.event ≡ Settle e)
 
--- if such steps are made and none of them counts, the root is closed after them
+-- if such steps are made and none counts, the root is closed after them
 abbrev pub IdleRoundsClose : Type 0
 IdleRoundsClose = ForEveryLog (λ g before. (xs : Log) → HasRound g before xs → IsLegalLog g (xs ++ before)
     → HasEnd g (xs ++ before) → RootHasPut g (xs ++ before) → work_in g (xs ++ before) ≡ work_in g before
     → IsClosed g (xs ++ before))
 
--- ---- schedules that go on often enough
+-- ---- schedules that go on long enough
 
--- in these events a step counts, a claim is refused, or everything that may be made is asked for
+-- in these events a step counts, a claim is refused, or everything is tried
 abbrev pub IsStretch : Setting → Log → List Event → Type 0
 IsStretch g log xs = NothingIsTold g log (log_after g log xs) → AsksForEverything g log xs
 
--- n stretches, one after another, with any events before, between and after them
+-- n stretches, in order, with any events before, between and after them
 abbrev pub HasStretches : Setting → ℕ → Log → List Event → Type 0
 HasStretches g zero log xs = Unit {0}
 HasStretches g (suc n) log xs = (front : List Event) × (stretch : List Event) × (rest : List Event)
@@ -111,19 +110,19 @@ FairSchedulesClose = ForEveryLog (λ g log. HasEnd g log → (fired : ℕ → �
     → steps_at_most g.game (length (fed_so_far g log)) fired + graph_edges g < n → (xs : List Event) → HasStretches g n log xs
     → IsClosed g (log_after g log xs))
 
--- n rounds of whole turns among these steps, one after another
+-- n rounds of whole turns among these steps, in order
 abbrev pub HasRounds : Setting → ℕ → Log → Log → Type 0
 HasRounds g zero before xs = Unit {0}
 HasRounds g (suc n) before xs = (front : Log) × (round : Log) × (rest : Log) × (xs ≡ rest ++ (round ++ front))
     × HasRound g (front ++ before) round × HasRounds g n (round ++ (front ++ before)) rest
 
--- the events of a legal log leave it, and its rounds of whole turns are stretches
+-- the events of a legal log lead to it, and its rounds of whole turns are stretches
 abbrev pub RoundsAreStretches : Type 0
 RoundsAreStretches = ForEveryLog (λ g before. HasEnd g before → RootHasPut g before → (n : ℕ) (xs : Log)
     → IsLegalLog g (xs ++ before) → HasRounds g n before xs
     → (log_after g before (events_in xs) ≡ xs ++ before) × HasStretches g n before (events_in xs))
 
--- and more rounds than steps can count close the root
+-- and more rounds than the number of steps that can count close the root
 abbrev pub FairRoundsClose : Type 0
 FairRoundsClose = ForEveryLog (λ g before. HasEnd g before → RootHasPut g before → (fired : ℕ → ℕ)
     → AreFiringBounds g before fired → (n : ℕ) → steps_at_most g.game (length (fed_so_far g before)) fired < n → (xs : Log)
@@ -131,8 +130,8 @@ FairRoundsClose = ForEveryLog (λ g before. HasEnd g before → RootHasPut g bef
 
 -- ---- after closing
 
--- what is done after the root is closed counts nothing, is refused nothing and, but for seals, leaves the words as they
--- were; of each message one acknowledgement was given
+-- after the root is closed no step counts, no claim is refused and, except for seals, the words are unchanged; one
+-- acknowledgement was given for each message
 pub record StirsNothing (g : Setting) (log xs : Log) : Type 0 where
   pub no_work : work_in g (xs ++ log) ≡ work_in g log
   pub no_refusals : refusals_in g (xs ++ log) ≡ refusals_in g log

@@ -1,5 +1,5 @@
 -- The whole core of a running game: the part of each vertex, of the root and of the stopper. All of them follow from
--- one list, that of the events that were made.
+-- one list, the list of the events made.
 use Rattle.std.specs.Prelude.{◌≡◌, ℕ, true, ◌<◌, ◌==◌, if◌then◌else◌, List, [], ◌∷◌, Option, Some, None, is_some}
 use Rattle.chip_part.specs.Setting.{Setting}
 use Rattle.chip_link.specs.Words.{fired_word}
@@ -15,12 +15,12 @@ pub use Rattle.chip_part.specs.Steps.{part_of, does, reply_of}
 use Rattle.chip_part.specs.declared.reply.Reply.TheVariants.{NotNow}
 use Rattle.chip_part.specs.Steps.{saw}
 
--- the events that were made since the opening, each with the word that it saw. The latest stands first, since all
--- proofs go back from the last event; `events_in` has them in the order in which they were made
+-- the events made since the opening, each with the word that it saw. The latest is first, since all proofs go back from
+-- the last event; `events_in` has them in order
 abbrev pub Log : Type 0
 Log = List Step
 
--- the part p after these events: it changes by its own events alone
+-- the part p after these events: only its own events change it
 abbrev pub part_in : Setting → Log → ℕ → Part
 part_in g [] p = opening_part g
 part_in g (x ∷ log) p = if part_of g x.event == p then does g x (part_in g log p) else part_in g log p
@@ -45,7 +45,7 @@ fired_by g log v = (part_in g log v).fired
 abbrev pub word_of_part : Part → ℕ
 word_of_part s = fired_word s.fired (is_some s.halt) (is_by_limit s.halt)
 
--- an edge by these parts: as its tail has it, as its head has it, and what its first seal saw
+-- an edge by these parts: at its tail, at its head, and what its first seal saw
 abbrev pub out_by : Setting → (ℕ → Part) → ℕ → Out
 out_by g parts e = (parts (tail_of g e)).out e
 
@@ -55,7 +55,7 @@ into_by g parts e = (parts (head_of g e)).into e
 abbrev pub stop_by : Setting → (ℕ → Part) → ℕ → Option ℕ
 stop_by g parts e = (parts (stopper g)).stop e
 
--- the word that the operation of an event finds, by what these parts have made of it; 0 of a store, which finds none
+-- the word that the operation of an event finds, as these parts left it; 0 for a store, which finds none
 abbrev pub seen_of : Setting → (ℕ → Part) → Event → ℕ
 seen_of g parts (Take e) = cell_at_head (out_by g parts e).link (into_by g parts e).got
 seen_of g parts (Clear e) = cell_at_tail g.ring (out_by g parts e).link (into_by g parts e).got
@@ -74,8 +74,7 @@ seen_of g parts End = (into_by g parts (root_edge g 0)).acked
 abbrev pub sees : Setting → Log → Event → ℕ
 sees g log x = seen_of g (part_in g log) x
 
--- the core makes this event after these, and it sees this: each of its rules is met, and the word is what the others
--- have made of it
+-- the core makes this event after these, and it sees this: the event is enabled, and the word is as the others left it
 abbrev pub FitsLog : Setting → Log → Step → Type 0
 FitsLog g log x = (unmet_rule g x.event (part_in g log (part_of g x.event)) ≡ None) × (x.seen ≡ sees g log x.event)
 
@@ -84,7 +83,7 @@ abbrev pub IsLegalLog : Setting → Log → Type 0
 IsLegalLog g [] = Unit {0}
 IsLegalLog g (x ∷ log) = IsLegalLog g log × FitsLog g log x
 
--- the log and the reply after an event was asked for: if a rule isn't met nothing is done
+-- the log and the reply after a request for an event: if a rule isn't met nothing is done
 abbrev pub answer : Setting → Log → Event → Option Rule → Log × Reply
 answer g log x (Some rule) = (log, NotNow rule)
 answer g log x None = (
@@ -97,7 +96,7 @@ answer g log x None = (
 abbrev pub step : Setting → Log → Event → Log × Reply
 step g log x = answer g log x (unmet_rule g x (part_in g log (part_of g x)))
 
--- the log after a list of events, the first one first
+-- the log after a list of events, given in order
 abbrev pub log_after : Setting → Log → List Event → Log
 log_after g log [] = log
 log_after g log (x ∷ xs) = log_after g (step g log x).0 xs
@@ -107,11 +106,10 @@ abbrev pub replies_to : Setting → Log → List Event → List Reply
 replies_to g log [] = []
 replies_to g log (x ∷ xs) = (step g log x).1 ∷ replies_to g (step g log x).0 xs
 
--- on each root edge as many messages are settled as were sent
+-- on each root edge every message sent is settled
 abbrev pub IsSettled : Setting → Log → Type 0
 IsSettled g log = (e : ℕ) → e < all_edges g → tail_of g e ≡ root g → outstanding_on (out_in g log e) ≡ 0
 
--- the root is closed: it noted that nothing more is fed, and on each root edge as many messages are settled as were
--- sent
+-- the root is closed: it noted the end of feeding, and on each root edge every message sent is settled
 abbrev pub IsClosed : Setting → Log → Type 0
 IsClosed g log = ((part_in g log (root g)).ended ≡ true) × IsSettled g log

@@ -1,5 +1,5 @@
 -- The tree of Dijkstra and Scholten (Termination detection for diffusing computations, 1980), as a list of its members.
--- This is in the words of the core what `IsDetectionOrder` of `chip_diffusing` is in any computation.
+-- In terms of the core, this is `IsDetectionOrder` of `chip_diffusing`.
 use Rattle.std.specs.Prelude.{◌≡◌, ◌⊎◌, ℕ, ◌<◌, List, [], ◌∷◌, Contains, Some}
 use Rattle.chip_part.specs.Setting.{Setting}
 use Rattle.chip_part.specs.Part.{owed_on}
@@ -15,13 +15,12 @@ pub record IsParentFrom (g : Setting) (log : Log) (us : List ℕ) (v e : ℕ) : 
   pub from_earlier : (tail_of g e ≡ root g) ⊎ Contains us (tail_of g e)
   pub owes : 0 < owed_on (into_in g log e)
 
--- the engaged vertices, each once, the latest first; the root stands before all of them and isn't written
+-- the engaged vertices, each once, the latest first; the root is before all of them and not in the list
 abbrev pub IsTree : Setting → Log → List ℕ → Type 0
 IsTree g log [] = Unit {0}
 IsTree g log (v ∷ vs) = IsTree g log vs × (Contains vs v → ⊥) × ((e : ℕ) × IsParentFrom g log vs v e)
 
--- a detection order: a tree of engaged vertices, and every vertex outside it is passive, owes nothing and waits for
--- nothing
+-- a detection order: a tree of engaged vertices; every vertex outside it is passive, owes nothing and waits for nothing
 pub record IsDetectionOrder (g : Setting) (log : Log) (vs : List ℕ) : Type 0 where
   pub tree : IsTree g log vs
   pub others : (v : ℕ) → v < g.game.graph.vertices → (Contains vs v → ⊥) → IsNeutral g v (part_in g log v)

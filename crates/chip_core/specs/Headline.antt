@@ -25,25 +25,25 @@ abbrev pub NoneHaltedBySeal : Setting → Log → Type 0
 NoneHaltedBySeal g log = (v : ℕ) → v < g.game.graph.vertices → (part_in g log v).halt ≢ Some SealedEdge
 
 -- For every list of actor steps, each edge has delivered a prefix of what was sent on it, each message once and in
--- order, and nothing is sent after its seal; if the root closes, every edge has delivered everything and, unless a
--- vertex halted, chips and firing counts are those of every one-thread legal firing that ends with no vertex legal.
+-- order, and nothing is sent after its seal. If the root closes, every edge has delivered everything and, unless a
+-- vertex halted, chips and firing counts are those of every legal firing on one thread that ends with no legal vertex.
 --
--- The steps `xs` are asked for after the log `before`, answered by `replies`, and leave the log `after`. A run has to
--- deliver on an edge what was in flight before it, and then what it sent. A legal firing starts with the chips that
--- were given to each vertex until now, at the opening and by feeding
+-- The steps `xs` are requested after the log `before`, get the replies `replies`, and lead to the log `after`. A run
+-- has to deliver on an edge what was in flight before it, and then what it sent. A legal firing starts with the chips
+-- given to each vertex so far, at the opening and by feeding
 pub record HeadlineOf (g : Setting) (before : Log) (xs : List Event) (replies : List Reply) (after : Log) : Type 0 where
   -- each edge has delivered a prefix of what was sent on it, and what is left of that is in flight
   pub prefix : (e : ℕ) → IsPrefix (delivered_in e xs replies) (in_flight g before e ++ sent_in e xs replies)
   pub left : (e : ℕ) → delivered_in e xs replies ++ in_flight g after e ≡ in_flight g before e ++ sent_in e xs replies
-  -- each message once and in order: the places go on one by one from the number of messages that were delivered before
+  -- each message once and in order: the places are consecutive from the number of messages delivered before
   pub in_order : (e : ℕ) → AreInOrderFrom e (length (into_in g before e).got)
       (in_flight g before e ++ sent_in e xs replies)
   -- nothing is sent after its seal, and nothing at all on an edge that was sealed before
   pub sealed : (e : ℕ) → sent_after_seal e xs replies ≡ []
   pub sealed_before : (e : ℕ) → was_sealed before e ≡ true → sent_in e xs replies ≡ []
-  -- the firings that were made, one at a time, are a firing sequence within the limit, and lead to the full position
+  -- the firings made, one at a time, are a firing sequence within the limit, and lead to the full configuration
   pub position : FiresToEnd g after (firings after)
-  -- by the counts alone no vertex is below 0, and it is the position by the counts
+  -- by the counts alone no vertex is below 0, and it is the configuration by the counts
   pub none_below : (v : ℕ) → IsBelowZero g.game.graph (chips_given g after) (fired_by g after) v → ⊥
   pub by_counts : (v : ℕ) → position_after g.game.graph (chips_given g after) (firings after) v
       ≡ position_by_counts g.game.graph (chips_given g after) (fired_by g after) v
@@ -55,31 +55,31 @@ pub record HeadlineOf (g : Setting) (before : Log) (xs : List Event) (replies : 
   -- if the root closes, every edge has delivered everything
   pub everything_delivered : IsClosed g after → (e : ℕ) → e < all_edges g
       → delivered_in e xs replies ≡ in_flight g before e ++ sent_in e xs replies
-  -- and, unless a vertex halted, chips and firing counts are those of every firing sequence that ends with no vertex
-  -- legal; the firings that were made are one
+  -- and, unless a vertex halted, chips and firing counts are those of every firing sequence that ends with no legal
+  -- vertex; the firings made are one
   pub one_end : IsClosed g after → NoneHalted g after → (vs : List ℕ)
       → IsFiringSequence g.game.graph (chips_given g after) vs → HasEnded g.game.graph (chips_given g after) vs
       → AgreesWith g after vs
   pub ended : IsClosed g after → NoneHalted g after → HasEnded g.game.graph (chips_given g after) (firings after)
-  -- if the limit alone halted vertices, the same of all that end within the limit, and the vertices that it halted are
-  -- the legal ones
+  -- if only the limit halted vertices, they are those of every sequence that ends within the limit, and the vertices
+  -- that it halted are the legal ones
   pub one_end_within : IsClosed g after → NoneHaltedBySeal g after → (vs : List ℕ)
       → IsWholePlay g.game.graph (chips_given g after) g.game.limit vs → AgreesWith g after vs
   pub ended_within : IsClosed g after → NoneHaltedBySeal g after
       → IsWholePlay g.game.graph (chips_given g after) g.game.limit (firings after)
   pub over : IsClosed g after → NoneHaltedBySeal g after
       → filter_below (λ v. is_by_limit (part_in g after v).halt) g.game.graph.vertices ≡ legal_vertices g.game.graph (chips_at g after)
-  -- and whatever is asked for afterwards, the root stays closed and no part changes but the stopper's: no list, no
-  -- chip, no count, no halt
+  -- and whatever is requested later, the root stays closed and no part but the stopper's changes: no list, no chip, no
+  -- count, no halt
   pub still : IsClosed g after → (ys : List Event) → IsClosed g (log_after g after ys)
       × ((p : ℕ) → p ≢ stopper g → part_in g (log_after g after ys) p ≡ part_in g after p)
 
--- the same of the steps `xs` after a log, by the replies that they get and the log that they leave
+-- the same of the steps `xs` after a log, by the replies that they get and the log after them
 abbrev pub Headline : Setting → Log → List Event → Type 0
 Headline g log xs = HeadlineOf g log xs (replies_to g log xs) (log_after g log xs)
 
--- it holds of every game within the limits, every ring with a cell, every legal log before, be it empty or not, and
--- every list of steps, be they refused or not
+-- it holds of every game within the limits, every ring with a cell, every legal log before, empty or not, and every
+-- list of steps, refused or not
 abbrev pub CoreTheorem : Type 0
 CoreTheorem = (g : Setting) → IsGame g.game → 0 < g.ring → (log : Log) → IsLegalLog g log → (xs : List Event)
     → Headline g log xs

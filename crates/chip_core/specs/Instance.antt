@@ -13,11 +13,11 @@ use Rattle.chip_diffusing.specs.Computation as diffusing
 abbrev pub network_of : Setting → Network
 network_of g = record { parts = stopper g + 1; edges = all_edges g; tail = tail_of g; head = head_of g; root = root g }
 
--- a vertex is passive as the core says. The root is passive once no more is fed, and the stopper always
+-- a vertex is passive by the core's definition. The root is passive once feeding has ended, and the stopper always
 abbrev pub passive_of : Setting → ℕ → Part → Bool
 passive_of g p s = if nat_lt p (root g) then is_passive g p s else if p == root g then s.ended else true
 
--- the world shows these parts. The books of each part have its parent, and the counts of its edges. A message counts as
+-- the world has these parts. The books of each part have its parent, and the counts of its edges. A message counts as
 -- sent once its place is claimed
 pub record Shows (g : Setting) (parts : ℕ → Part) (w : diffusing.World) : Type 0 where
   pub sent : (e : ℕ) → e < all_edges g → diffusing.sent_on (network_of g) w e ≡ claims_of ((parts (tail_of g e)).out e).link
@@ -27,8 +27,8 @@ pub record Shows (g : Setting) (parts : ℕ → Part) (w : diffusing.World) : Ty
   pub parent : (p : ℕ) → (w p).books.parent ≡ (parts p).parent
   pub passive : (p : ℕ) → (w p).passive ≡ passive_of g p (parts p)
 
--- each log of the core is a log of this network, and its world shows the parts. A step is one event, which leads from
--- the world before it to the world after it
+-- each log of the core is a log of this network, and its world has the parts. A step is one event, from the world
+-- before it to the world after it
 pub record Diffuses (g : Setting) : Type 0 where
   pub events : Log → diffusing.Log
   pub world : Log → diffusing.World
@@ -37,6 +37,6 @@ pub record Diffuses (g : Setting) : Type 0 where
   pub goes_on : (x : Step) (log : Log) → IsLegalLog g (x ∷ log) → (event : diffusing.Event)
       × (events (x ∷ log) ≡ event ∷ events log) × diffusing.Happens (network_of g) (world log) event (world (x ∷ log))
 
--- so it is for every game within the limits and every ring with a cell
+-- this holds of every game within the limits and every ring with a cell
 abbrev pub CoreDiffuses : Type 0
 CoreDiffuses = (g : Setting) → IsGame g.game → 0 < g.ring → IsNetwork (network_of g) × Diffuses g

@@ -1,4 +1,4 @@
--- What a log comes to once its root is closed.
+-- The outcome of a log whose root is closed.
 use Rattle.std.specs.Prelude.{◌≡◌, ℕ, ◌<◌, Bool, true, false, List, length, slice_index, Option, Some, None}
 use Rattle.chip_part.specs.Setting.{Setting}
 use Rattle.chip_graph.specs.Sums.{filter_below}
@@ -25,7 +25,7 @@ abbrev pub is_by : Cause → Option Cause → Bool
 is_by SealedEdge h = is_by_seal h
 is_by FiringLimit h = is_by_limit h
 
--- which of the first vertices halted for this cause, ascending
+-- the halted ones of the first vertices for this cause, ascending
 abbrev pub halted_by : Setting → Log → Cause → ℕ → List ℕ
 halted_by g log cause count = filter_below (λ v. is_by cause (part_in g log v).halt) count
 
@@ -42,16 +42,16 @@ pub record IsOutcomeOf (g : Setting) (log : Log) (o : Outcome) : Type 0 where
   pub over : o.over.items ≡ filter_below (λ v. is_by_limit (part_in g log v).halt) g.game.graph.vertices
   pub sealed : o.sealed.items ≡ filter_below (λ v. is_by_seal (part_in g log v).halt) g.game.graph.vertices
 
--- one thread that fires these vertices in turn from the position x, within the limit, comes to the counts and the chips
--- of an outcome
+-- one thread that fires these vertices in turn from the configuration x, within the limit, reaches the counts and the
+-- chips of an outcome
 pub record ComesTo (g : Setting) (x : ℕ → ℕ) (vs : List ℕ) (o : Outcome) : Type 0 where
   pub sequence : IsFiringSequence g.game.graph x vs
   pub within : IsWithin g.game.limit vs
   pub counted : (v : ℕ) → slice_index o.fired.items v ≡ counts vs v
   pub position : (v : ℕ) → slice_index o.chips.items v ≡ position_after g.game.graph x vs v
 
--- the firings that were made come from all that was given to the outcome of a log, a report takes it, and if the root
--- is closed and no seal halted a vertex it is that of every player who starts with all that was given
+-- the firings made lead from all that was given to the outcome of a log, a report accepts it, and if the root is closed
+-- and no seal halted a vertex it is that of every player who starts with all that was given
 pub record OutcomeTells (g : Setting) (log : Log) (o : Outcome) : Type 0 where
   pub comes : ComesTo g (chips_given g log) (firings log) o
   pub in_range : IsOutcome o

@@ -16,7 +16,7 @@ use Rattle.chip_core.specs.Closing.{HasEnd, HasStretches, RootHasPut, HasRounds}
 abbrev pub SealsNone : Log → Type 0
 SealsNone log = (e : ℕ) → was_sealed log e ≡ false
 
--- the root is closed, and what the log comes to is the plain player's outcome of the game with all that was given
+-- the root is closed, and the outcome of the log is the plain player's of the game with all that was given
 abbrev pub EndsAsPlayed : Setting → Log → Type 0
 EndsAsPlayed g log = IsClosed g log × ((o : Outcome) → IsOutcomeOf g log o → IsPlayed (played_game g log) o)
 
@@ -24,7 +24,7 @@ EndsAsPlayed g log = IsClosed g log × ((o : Outcome) → IsOutcomeOf g log o �
 abbrev pub UnsealedHaltsNone : Type 0
 UnsealedHaltsNone = ForEveryLog (λ g log. SealsNone log → NoneHaltedBySeal g log)
 
--- a list of events that asks for everything often enough, and seals nothing, plays the game
+-- a list of events that tries everything often enough, and seals nothing, plays the game
 abbrev pub FairSchedulesPlay : Type 0
 FairSchedulesPlay = ForEveryLog (λ g log. HasEnd g log → (fired : ℕ → ℕ) → AreFiringBounds g log fired → (n : ℕ)
     → steps_at_most g.game (length (fed_so_far g log)) fired + graph_edges g < n → (xs : List Event) → HasStretches g n log xs

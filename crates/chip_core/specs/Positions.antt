@@ -9,11 +9,11 @@ use Rattle.chip_part.specs.Edges.{over_ins}
 use Rattle.chip_core.specs.Core.{Log, Step, Event, Fire, Feed, part_in, out_in, fired_by, root_edge, graph_edges}
 use Rattle.chip_core.specs.Messages.{counts_in_flight}
 
--- the chips that v was given so far, at the opening and by feeding: all that was sent on its root edge
+-- the chips given to v so far, at the opening and by feeding: all that was sent on its root edge
 abbrev pub chips_given : Setting → Log → ℕ → ℕ
 chips_given g log v = sum (sent_counts (out_in g log (root_edge g v)).link)
 
--- the game that is played so far: its start is what was given to each vertex
+-- the game played so far: its start is what was given to each vertex
 abbrev pub played_game : Setting → Log → ChipGame
 played_game g log =
     record {
@@ -22,7 +22,7 @@ played_game g log =
       limit = g.game.limit;
     }
 
--- what is held on an edge: the chips of the last batch that are still to be sent
+-- what is held on an edge: the chips of the last batch not yet sent
 abbrev pub held : Setting → Log → ℕ → ℕ
 held g log e = (out_in g log e).pending
 
@@ -30,7 +30,7 @@ held g log e = (out_in g log e).pending
 abbrev pub chips_at : Setting → Log → ℕ → ℕ
 chips_at g log v = (part_in g log v).chips
 
--- the full position of v: its chips, those on the way to it, and those that are held for it
+-- the full configuration of v: its chips, those in transit to it, and those held for it
 abbrev pub full_position : Setting → Log → ℕ → ℕ
 full_position g log v = (part_in g log v).chips
     + (over_ins g v (λ e. sum (counts_in_flight g log e)) + over_ins g v (held g log))
@@ -40,18 +40,18 @@ abbrev pub firings_of : Event → List ℕ
 firings_of (Fire v k) = replicate k v
 firings_of _ = []
 
--- the firings of a run, one at a time, the first one in front
+-- the firings of a run, one at a time, in order
 abbrev pub firings : Log → List ℕ
 firings [] = []
 firings (x ∷ log) = firings log ++ firings_of x.event
 
--- the events of a run, the first one in front
+-- the events of a run, in order
 abbrev pub events_in : Log → List Event
 events_in [] = []
 events_in (x ∷ log) = events_in log ++ x.event ∷ []
 
--- one thread that fires these vertices in turn from all that was given comes to the full position, within the limit and
--- with the counts of the log
+-- one thread that fires these vertices in turn from all that was given reaches the full configuration, within the limit
+-- and with the counts of the log
 pub record FiresToEnd (g : Setting) (log : Log) (vs : List ℕ) : Type 0 where
   pub sequence : IsFiringSequence g.game.graph (chips_given g log) vs
   pub within : IsWithin g.game.limit vs
@@ -65,12 +65,12 @@ pub record AgreesWith (g : Setting) (log : Log) (vs : List ℕ) : Type 0 where
   pub chips : (v : ℕ) → v < g.game.graph.vertices
       → chips_at g log v ≡ position_after g.game.graph (chips_given g log) vs v
 
--- what an event fed: pairs of a vertex and a count of chips
+-- what an event fed: pairs of a vertex and a number of chips
 abbrev pub fed_of : Setting → Event → List (ℕ × ℕ)
 fed_of g (Feed e k) = (e - graph_edges g, k) ∷ []
 fed_of g _ = []
 
--- what these steps fed, one after another
+-- what these steps fed, in order
 abbrev pub fed_in : Setting → List Step → List (ℕ × ℕ)
 fed_in g [] = []
 fed_in g (x ∷ xs) = fed_of g x.event ++ fed_in g xs

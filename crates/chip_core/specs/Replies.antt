@@ -1,4 +1,4 @@
--- The replies by which nothing was done, and the replies to lists of events that follow one another.
+-- The replies by which nothing was done, and the replies to concatenated lists of events.
 use Rattle.std.specs.Prelude.{◌≡◌, ℕ, Bool, true, false, List, ◌++◌, length}
 use Rattle.chip_part.specs.Setting.{Setting}
 use Rattle.chip_part.specs.declared.reply.Reply.TheVariants.{Empty, Full, Sealed, NotNow}
@@ -12,7 +12,7 @@ is_idle Sealed = true
 is_idle (NotNow rule) = true
 is_idle _ = false
 
--- two parts that differ in their notes of a clear and of a refusal alone
+-- two parts that differ only in their notes of a clear and of a refusal
 pub record DifferInNotes (s t : Part) : Type 0 where
   pub chips : s.chips ≡ t.chips
   pub fired : s.fired ≡ t.fired
@@ -27,12 +27,12 @@ pub record DifferInNotes (s t : Part) : Type 0 where
   pub stop : (e : ℕ) → s.stop e ≡ t.stop e
   pub ended : s.ended ≡ t.ended
 
--- such a reply leaves all parts but for their notes, whatever was done before
+-- such a reply leaves all parts unchanged, except for these notes, whatever was done before
 abbrev pub IdleStepsLeave : Type 0
 IdleStepsLeave = (g : Setting) (log : Log) (x : Event) → is_idle (step g log x).1 ≡ true → (p : ℕ)
     → DifferInNotes (part_in g (step g log x).0 p) (part_in g log p)
 
--- there is a reply to each event, and events that follow others are answered as a run after that of the others
+-- each event has a reply, and the replies to events after others are those of a run after the others' run
 abbrev pub RunsGoOn : Type 0
 RunsGoOn = (g : Setting) (log : Log) (xs ys : List Event) →
     (length (replies_to g log xs) ≡ length xs)

@@ -1,4 +1,4 @@
--- Soon after the end: if nothing is left but to acknowledge, few more rounds close the root.
+-- Soon after the end: if only acknowledgements are left, few more rounds close the root.
 use Rattle.std.specs.Prelude.{◌≡◌, ℕ, suc, ◌<◌, ◌≤◌, true, List, [], ◌++◌, length, Contains, Some}
 use Rattle.chip_part.specs.Setting.{Setting}
 use Rattle.chip_part.specs.Part.{is_passive}
@@ -41,6 +41,6 @@ DepthClosesLater = ForEveryLog (λ g before. HasTerminated g before → (depth :
     → (rounds : Log) → HasRounds g (suc (suc depth)) before rounds → IsLegalLog g (rounds ++ before)
     → IsClosed g (rounds ++ before))
 
--- no tree is deeper than it has vertices
+-- no tree is deeper than its number of vertices
 abbrev pub CoreDepthIsCounted : Type 0
 CoreDepthIsCounted = ForEveryLog (λ g log. (vs : List ℕ) → IsDetectionOrder g log vs → IsTreeAtMostDeep g log (length vs))

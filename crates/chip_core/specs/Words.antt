@@ -1,5 +1,5 @@
--- The words that a running game shares: which word the operation of an event is on, what it leaves there, and what all
--- words show of a log.
+-- The words that a running game shares: the word of an event's operation, what the operation leaves there, and the
+-- contents of all words for a log.
 use Rattle.std.specs.Prelude.{◌≡◌, ◌≢◌, ℕ, ◌+◌, ◌-◌, ◌%◌, ◌^◌, ◌<◌, ◌∷◌, length, sum, option_to_list, bit_or, None}
 use Rattle.chip_link.specs.Link.{WordsShow, claims_of}
 use Rattle.chip_link.specs.Words.{word_after_exchange}
@@ -12,8 +12,8 @@ use Rattle.chip_core.specs.Core.{Part, unmet_rule, root_edge, part_of, part_in, 
 use Rattle.chip_core.specs.Core.{sees, all_edges, head_of}
 use Rattle.chip_core.specs.Laws.{ForEveryLog}
 
--- a word, by what it is for: the edge word and the acknowledgements of an edge, a cell of its ring, and the fired word
--- of a vertex
+-- a word, by its use: the edge word and the acknowledgements of an edge, a cell of its ring, and the fired word of a
+-- vertex
 pub data Word : Type 0 where
   of_edge : ℕ → Word
   of_acks : ℕ → Word
@@ -27,7 +27,7 @@ IsWord g (of_acks e) = e < all_edges g
 IsWord g (of_cell e i) = (e < all_edges g) × (i < g.ring)
 IsWord g (of_vertex v) = v < g.game.graph.vertices
 
--- the word that an event is on, by the part that makes it
+-- the word of an event's operation, by the part that makes it
 abbrev pub word_of_event : Setting → Event → Part → Word
 word_of_event g (Take e) s = of_cell e (length (s.into e).got % g.ring)
 word_of_event g (Ack e) s = of_acks e
@@ -42,7 +42,7 @@ word_of_event g (Read v) s = of_vertex v
 word_of_event g (Feed e k) s = of_edge e
 word_of_event g End s = of_acks (root_edge g 0)
 
--- what it leaves there, if n was found: what is added goes round at 2 ^ 64
+-- what it leaves there, if n was found: addition is modulo 2 ^ 64
 abbrev pub left_by : Setting → Event → Part → ℕ → ℕ
 left_by g (Take e) s n = 0
 left_by g (Ack e) s n = (n + may_ack_on g (head_of g e) s e) % 2 ^ 64
@@ -57,18 +57,18 @@ left_by g (Read v) s n = n
 left_by g (Feed e k) s n = word_after_exchange (claims_of (s.out e).link) (claims_of (s.out e).link + 1) n
 left_by g End s n = n
 
--- what is noted as seen, if n was found: a store finds nothing
+-- what is noted as seen, if n was found: a store sees nothing
 abbrev pub word_to_note : Event → ℕ → ℕ
 word_to_note (Put e) n = 0
 word_to_note _ n = n
 
--- the words show what this log makes of the edges and the vertices
+-- the words show the edges and the vertices after this log
 pub record IsShown (g : Setting) (log : Log) (value : Word → ℕ) : Type 0 where
-  -- the edge word is the claims and the seal; a cell holds a count exactly if its message is put and not taken
+  -- the edge word is the claims and the seal; a cell has a count exactly if its message is put and not taken
   pub edges : (e : ℕ) → e < all_edges g
       → WordsShow g.ring (value (of_edge e)) (λ i. value (of_cell e i)) (out_in g log e).link (into_in g log e).got
       (stop_in g log e)
-  -- the word of acknowledgements is what the head acknowledged
+  -- the word of acknowledgements is the number that the head acknowledged
   pub acks : (e : ℕ) → e < all_edges g → value (of_acks e) ≡ (into_in g log e).acked
   -- the fired word is the firing count, the halt and its cause
   pub fired : (v : ℕ) → v < g.game.graph.vertices → value (of_vertex v) ≡ word_of_part (part_in g log v)
@@ -77,20 +77,20 @@ pub record IsShown (g : Setting) (log : Log) (value : Word → ℕ) : Type 0 whe
 abbrev pub acting_part : Setting → Log → Event → Part
 acting_part g log x = part_in g log (part_of g x)
 
--- an operation finds in its word, which is there, what its event sees
+-- an operation finds what its event sees, in a word that exists
 abbrev pub OperationsFind : Type 0
 OperationsFind = ForEveryLog (λ g log. (value : Word → ℕ) → IsShown g log value → (x : Event)
     → unmet_rule g x (acting_part g log x) ≡ None
     → IsWord g (word_of_event g x (acting_part g log x))
     × (word_to_note x (value (word_of_event g x (acting_part g log x))) ≡ sees g log x))
 
--- one word is changed as the operation of an event leaves it, and every other is as it was
+-- the operation of an event changes one word, and every other is unchanged
 pub record IsLeft (g : Setting) (log : Log) (x : Event) (old new : Word → ℕ) : Type 0 where
   pub here : new (word_of_event g x (acting_part g log x))
       ≡ left_by g x (acting_part g log x) (old (word_of_event g x (acting_part g log x)))
   pub others : (w : Word) → IsWord g w → w ≢ word_of_event g x (acting_part g log x) → new w ≡ old w
 
--- the words that it leaves show the log that is longer by the event
+-- the words after it show the log extended by the event
 abbrev pub WordsGoOn : Type 0
 WordsGoOn = ForEveryLog (λ g log. (old new : Word → ℕ) → IsShown g log old → (x : Event)
     → unmet_rule g x (acting_part g log x) ≡ None → IsLeft g log x old new

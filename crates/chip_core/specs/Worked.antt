@@ -1,5 +1,5 @@
--- Worked runs of the whole core, as the definitions compute them. The limit is 2 ^ 40 and the ring has one cell if
--- nothing else is said.
+-- Worked runs of the whole core, as the definitions compute them. Unless stated otherwise, the limit is 2 ^ 40 and the
+-- ring has one cell.
 use Rattle.std.specs.Prelude.{◌≡◌, ℕ, ◌^◌, true, false, List, [], ◌∷◌, ◌++◌, slice_index, Some}
 use Rattle.chip_graph.specs.ChipGame.{IsGame}
 use Rattle.chip_part.specs.Setting.{Setting, setting_of}
@@ -120,8 +120,8 @@ StoppedByLimit =
     × (on_vertices (fired_by g after) ≡ 2 ∷ 1 ∷ 0 ∷ []) × (on_vertices (chips_at g after) ≡ 2 ∷ 0 ∷ 3 ∷ [])
     × (legal_vertices g.game.graph (chips_at g after) ≡ 0 ∷ [])
 
--- the run that was sealed half way, played on until the root closes: two chips are held for ever, and the counts lead
--- to other chips
+-- the run sealed half way, played on until the root closes: two chips are held for ever, and the counts lead to other
+-- chips
 abbrev pub played_on : List Event
 played_on =
     sealed_half_way
@@ -141,7 +141,7 @@ StoppedBySeal =
 abbrev pub fed_triangle : List ℕ → Setting
 fed_triangle start = record (small_triangle start) { fed = true }
 
--- three chips are fed to vertex 0, and nothing more as long as they lie in the cell
+-- three chips are fed to vertex 0, and no more while they are in the cell
 abbrev pub fed_once : List Event
 fed_once = Clear 4 ∷ Feed 4 3 ∷ Put 4 ∷ Clear 4 ∷ []
 
@@ -153,8 +153,7 @@ FedOnce =
     × (in_flight g after 4 ≡ message_of 4 0 3 ∷ []) × (on_vertices (chips_given g after) ≡ 3 ∷ 0 ∷ 0 ∷ [])
     × (on_vertices (full_position g after) ≡ 3 ∷ 0 ∷ 0 ∷ [])
 
--- what is refused: a feed of nothing, one of a cell that was not seen empty, one past the range of chips, and any after
--- the end
+-- refused events: a feed of nothing, one to a cell not seen empty, one past the range of chips, and any after the end
 abbrev pub FedInVain : Type 0
 FedInVain =
     let g : Setting = fed_triangle (0 ∷ 0 ∷ 2 ^ 40 ∷ []) in
@@ -178,8 +177,8 @@ ClosedByTheEnd =
     × (replies_to g before (Read 0 ∷ End ∷ Read 0 ∷ []) ≡ NotNow NotClosed ∷ Done 0 ∷ Done 2 ∷ []) × IsClosed g after
     × (firings after ≡ 0 ∷ 0 ∷ 1 ∷ []) × (on_vertices (chips_at g after) ≡ 1 ∷ 0 ∷ 3 ∷ [])
 
--- vertex 1 was engaged by vertex 0, and this by the root: so they stand in the detection order, the latest first, and
--- the sink doesn't
+-- vertex 1 was engaged by vertex 0, and vertex 0 by the root: so the detection order has them, the latest first, and
+-- not the sink
 abbrev pub two_engaged : List Event
 two_engaged = Take 4 ∷ Fire 0 2 ∷ Clear 0 ∷ Claim 0 ∷ Put 0 ∷ Take 0 ∷ []
 

@@ -1,4 +1,4 @@
--- Worked bounds, and a schedule that asks in the wrong order, as the definitions compute them.
+-- Worked bounds, and a schedule that tries events in the wrong order, as the definitions compute them.
 use Rattle.std.specs.Prelude.{◌≡◌, ◌^◌, ◌+◌, List, [], ◌∷◌, ◌++◌, slice_index, length}
 use Rattle.chip_part.specs.Setting.{Setting, setting_of}
 use Rattle.chip_part.specs.Worked.{small_triangle}
@@ -32,8 +32,8 @@ abbrev pub sink_alone : Setting
 sink_alone =
     setting_of (record { graph = record { vertices = 1; sink = 0; edges = [] }; start = 5 ∷ []; limit = 2 ^ 40 }) 1
 
--- it is asked for everything, each time for the last thing first: the settle finds nothing acknowledged, the
--- acknowledgement nothing owed, and only the take finds something
+-- everything is tried, each time the last thing first: the settle finds nothing acknowledged, the acknowledgement
+-- nothing owed, and only the take finds something
 abbrev pub backwards : List Event
 backwards = Settle 0 ∷ Ack 0 ∷ Take 0 ∷ Put 0 ∷ Fire 0 1 ∷ Halt 0 ∷ []
 
@@ -44,8 +44,8 @@ ThreeStretches =
     × (IsClosed sink_alone (log_after sink_alone [] (backwards ++ backwards)) → ⊥)
     × IsClosed sink_alone (log_after sink_alone [] (backwards ++ (backwards ++ backwards)))
 
--- but four steps may count there: three of the first message, and a halt. So it takes five stretches for the premise of
--- FairSchedulesClose
+-- but four steps may count there: three of the first message, and a halt. So the premise of FairSchedulesClose needs
+-- five stretches
 abbrev pub FiveStretches : Type 0
 FiveStretches =
     HasEnd sink_alone []
@@ -53,15 +53,16 @@ FiveStretches =
     × (steps_at_most sink_alone.game (length (fed_so_far sink_alone [])) (counts []) + graph_edges sink_alone ≡ 4)
     × HasStretches sink_alone 5 [] (backwards ++ (backwards ++ (backwards ++ (backwards ++ (backwards ++ [])))))
 
--- the triangle's vertex 0 takes its four chips, which are two firings. A batch of two counts, so it is a stretch; a batch of
--- three may not be made, and isn't asked for in place of one firing
+-- the triangle's vertex 0 takes its four chips, which are two firings. A batch of two counts, so it is a stretch; a
+-- batch of three is not enabled, and does not stand for trying one firing
 abbrev pub BatchesAsk : Type 0
 BatchesAsk =
     let g : Setting = small_triangle (4 ∷ 0 ∷ 0 ∷ []) in
     let log : Log = log_after g [] (Take 4 ∷ []) in
     IsStretch g log (Fire 0 2 ∷ []) × (IsStretch g log (Fire 0 3 ∷ []) → ⊥)
 
--- the sink alone without waste: three steps close it. A settle that finds nothing is waste, and at the opening a take is due
+-- the sink alone without waste: three steps close it. A settle that finds nothing is waste, and at the opening a take
+-- is due
 abbrev pub ThreeSteps : Type 0
 ThreeSteps =
     let log : Log = log_after sink_alone [] (Take 0 ∷ Ack 0 ∷ Settle 0 ∷ []) in
@@ -70,7 +71,7 @@ ThreeSteps =
     × (AllAdvance sink_alone [] (log_after sink_alone [] (Settle 0 ∷ [])) → ⊥)
     × (NoneIsDue sink_alone [] → ⊥)
 
--- the whole schedule of the triangle seals nothing, and plays the game out; the one that is sealed half way seals
+-- the whole schedule of the triangle seals nothing, and plays the game to its end; the one sealed half way seals
 abbrev pub TrianglePlays : Type 0
 TrianglePlays =
     let g : Setting = small_triangle (4 ∷ 0 ∷ 0 ∷ []) in

@@ -1,5 +1,5 @@
--- Worked ends, as the definitions compute them: how many messages the root waits for, round by round. A turn at rest
--- settles and acknowledges; its takes find nothing and are left out, and what may not be acknowledged isn't.
+-- Worked ends, as the definitions compute them: the number of messages the root waits for, round by round. An idle turn
+-- settles and acknowledges; its takes find nothing and are left out, and so are acknowledgements that aren't due.
 use Rattle.std.specs.Prelude.{◌≡◌, ℕ, ◌^◌, List, [], ◌∷◌, ◌++◌}
 use Rattle.chip_part.specs.Setting.{Setting, setting_of}
 use Rattle.chip_part.specs.Part.{deficit_of}
@@ -10,7 +10,7 @@ use Rattle.chip_core.specs.Soon.{HasTerminated, IsTreeAtMostDeep}
 abbrev pub root_waits : Setting → Log → ℕ
 root_waits g log = deficit_of g (root g) (part_in g log (root g))
 
--- the chain 0, 1, 2, all of which are engaged: the tree is three deep. Root edge v has the number 2 + v
+-- the chain 0, 1, 2, whose vertices are all engaged: the tree is three deep. Root edge v has the number 2 + v
 abbrev pub chain_fired : List Event
 chain_fired = Take 2 ∷ Fire 0 3 ∷ Clear 0 ∷ Claim 0 ∷ Put 0 ∷ Take 0 ∷ Fire 1 3 ∷ Clear 1 ∷ Claim 1 ∷ Put 1 ∷ Take 1 ∷ []
 
@@ -44,7 +44,7 @@ abbrev pub star_fired : List Event
 star_fired = Take 3 ∷ Take 4 ∷ Fire 1 1 ∷ Fire 2 1 ∷ Clear 0 ∷ Claim 0 ∷ Put 0 ∷ Clear 1 ∷ Claim 1 ∷ Put 1 ∷ Take 0
     ∷ Take 1 ∷ []
 
--- the sink last: the second round closes the root, however many send to it
+-- the sink last: the second round closes the root, for any number of vertices that send to it
 abbrev pub sink_last : List Event
 sink_last = Settle 0 ∷ Ack 3 ∷ Settle 1 ∷ Ack 4 ∷ Ack 0 ∷ Ack 1 ∷ Ack 0 ∷ Settle 2 ∷ Settle 3 ∷ Settle 4 ∷ []
 
@@ -54,8 +54,8 @@ StarCloses =
     (root_waits star (log_after star log sink_last) ≡ 2)
     × (root_waits star (log_after star log (sink_last ++ sink_last)) ≡ 0)
 
--- the triangle with four chips on vertex 0, which engages vertex 1 and owes it a message: two are engaged, two deep. Root
--- edge v has the number 4 + v
+-- the triangle with four chips on vertex 0, which engages vertex 1 and owes it a message: two are engaged, two deep.
+-- Root edge v has the number 4 + v
 abbrev pub four_chips : Setting
 four_chips = small_triangle (4 ∷ 0 ∷ 0 ∷ [])
 
@@ -64,7 +64,7 @@ sent_back = Take 4 ∷ Fire 0 2 ∷ Clear 0 ∷ Claim 0 ∷ Put 0 ∷ Take 0 ∷
     ∷ Clear 1 ∷ Claim 1 ∷ Put 1 ∷ Take 1 ∷ Ack 1 ∷ Clear 3 ∷ Claim 3 ∷ Put 3 ∷ Take 3 ∷ Ack 3 ∷ []
 
 -- vertex 1 first, which waits for the message that vertex 0 acknowledges after it; then vertex 0 first, which waits for
--- vertex 1. So no round of less than three closes the root: one more than two
+-- vertex 1. So at least three rounds close the root: one more than two
 abbrev pub second_first : List Event
 second_first = Settle 2 ∷ Settle 3 ∷ Ack 0 ∷ Settle 0 ∷ Settle 1 ∷ Ack 2 ∷ Ack 4 ∷ Settle 4 ∷ Settle 5 ∷ Settle 6 ∷ []
 

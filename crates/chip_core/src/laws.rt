@@ -1,7 +1,6 @@
-//! What holds of every game, every ring and every list of events, as the contracts of functions that do nothing.
+//! Theorems on every game, every ring and every list of events, as the contracts of functions that do nothing.
 //!
-//! The core theorem stands last. What is before it speaks of the legal logs, which are those of the runs from the
-//! opening.
+//! The core theorem comes last. Those before it are on the legal logs, which are the logs of the runs from the opening.
 
 ghost use Rattle.chip_core.specs.Worked.{ChipsOnTheSink, FullRing, CoreSealedHalfWay, EngagingMessageLast, CoreRingOfTwo};
 ghost use Rattle.chip_core.specs.Worked.{TwoEngaged, WholeSchedule, StoppedByLimit, StoppedBySeal};
@@ -38,7 +37,7 @@ pub fn worked_runs()
     ensures two_engaged { TwoEngaged }
 {}
 
-/// Small runs in which the root feeds.
+/// Small runs in which the root feeds, as the definitions compute them.
 pub fn worked_feeding()
     ensures once { FedOnce }
     ensures in_vain { FedInVain }
@@ -46,60 +45,60 @@ pub fn worked_feeding()
     ensures closed_by_the_end { ClosedByTheEnd }
 {}
 
-/// Whole runs of a small game until the root closes, with no vertex halted, one halted by its limit, and one halted by
-/// a seal.
+/// Whole runs of a small game until the root closes: with no vertex halted, with one halted by its limit, and with one
+/// halted by a seal.
 pub fn worked_closes()
     ensures none_halted { WholeSchedule }
     ensures stopped_by_limit { StoppedByLimit }
     ensures stopped_by_seal { StoppedBySeal }
 {}
 
-/// The legal logs are those that runs leave, and a part is what its own events make of it.
+/// The legal logs are those of runs, and the state of a part follows from its own events.
 pub fn logs()
     ensures runs { LegalLogsAreRuns }
     ensures own_events { PartsByTheirOwnEvents }
 {}
 
-/// What replies tell, and what a reply leaves by which nothing was done.
+/// What replies report, and what a reply leaves by which nothing was done.
 pub fn replies()
     ensures go_on { RunsGoOn }
     ensures idle { IdleStepsLeave }
 {}
 
-/// What one part keeps in every legal log, also by what its events see of the others.
+/// The invariants of one part in every legal log, also those on what its events see of the others.
 pub fn parts()
     ensures kept { PartsAreKept }
     ensures seen { SeenFits }
     ensures root_seen { RootSeenFits }
 {}
 
-/// The counts and the chips of every edge, and how large they get.
+/// The counts and the chips of every edge, and their bounds.
 pub fn edges()
     ensures counts { CountsOfEdges }
     ensures chips { ChipsOfEdges }
     ensures numbers { NumbersAreSmall }
 {}
 
-/// What the shared cells and words tell.
+/// The contents of the shared cells and words.
 pub fn words()
     ensures cells { CellsTell }
     ensures words { WordsTell }
     ensures seals { SealsStand }
 {}
 
-/// Words that show a log: what an operation finds in its word is what its event sees, and what it leaves shows the
-/// longer log.
+/// Words that show a log: an operation finds in its word what its event sees, and the words it leaves show the longer
+/// log.
 pub fn shown_words()
     ensures find { OperationsFind }
     ensures go_on { WordsGoOn }
 {}
 
-/// The worlds that grow by one event at a time are those that the legal logs leave.
+/// The worlds that grow by one event at a time are those of the legal logs.
 pub fn reached_worlds()
     ensures { ReachedByLegalLogs }
 {}
 
-/// The messages that replies tell of are those of the parts.
+/// The messages in the replies are those of the parts.
 pub fn messages()
     ensures sent { SentStands }
     ensures opening { OpeningMessages }
@@ -107,7 +106,7 @@ pub fn messages()
     ensures held { HeldFromTheOpening }
 {}
 
-/// What was given to each vertex, at the opening and by feeding.
+/// The chips given to each vertex, at the opening and by feeding.
 pub fn given_chips()
     ensures fed { GivenIsFed }
     ensures unfed { UnfedIsTheStart }
@@ -122,21 +121,21 @@ pub fn diffuses()
     ensures { CoreDiffuses }
 {}
 
-/// What holds if the root is closed.
+/// What holds once the root is closed.
 pub fn closed_roots()
     ensures in_flight { NothingInFlight }
     ensures reads { ReadsTell }
     ensures stirs { NothingStirs }
 {}
 
-/// The outcome of a log: a firing sequence leads to it, a report takes it, and if the root is closed and no seal halted
-/// a vertex it is every player's.
+/// The outcome of a log: a firing sequence leads to it, a report accepts it, and if the root is closed and no seal
+/// halted a vertex it is every player's.
 pub fn outcomes()
     ensures { OutcomesTell }
 {}
 
-/// How many steps a small game may have and has, a schedule that has to ask three times and one that asks often enough,
-/// batches, steps without waste, and a schedule that plays the game.
+/// The bounds and the number of steps of a small game; a schedule that has to try three times and one that tries often
+/// enough; batches, steps without waste, and a schedule that plays the game.
 pub fn worked_closing()
     ensures bounds { TriangleBounds }
     ensures refused { OneRefused }
@@ -154,42 +153,42 @@ pub fn worked_ends()
     ensures pair { PairCloses }
 {}
 
-/// Few steps of a log count as work, and few claims are refused.
+/// Bounds on the steps of a log that count as work, and on the refused claims.
 pub fn few_steps_count()
     ensures steps { FewSteps }
     ensures distances { DistancesBound }
     ensures refusals { FewRefusals }
 {}
 
-/// Once the end of feeding is noted there is something to do until the root is closed, and if everything was asked for
-/// in vain it is closed.
+/// After the end of feeding some event advances until the root is closed; if every enabled event is tried and none does
+/// work or is refused, the root is closed.
 pub fn never_stuck()
     ensures advances { CoreNeverStuck }
     ensures in_vain { AskedInVain }
     ensures rounds { IdleRoundsClose }
 {}
 
-/// However steps are ordered: if everything is asked for often enough after the end of feeding, the root is closed.
-/// Rounds of whole turns ask so.
+/// Under every order of steps: if every event is tried often enough after the end of feeding, the root is closed.
+/// Rounds of whole turns are such an order.
 pub fn fair_schedules()
     ensures stretches { FairSchedulesClose }
     ensures turns { RoundsAreStretches }
     ensures rounds { FairRoundsClose }
 {}
 
-/// If no step is wasted few are made, and once none is due the root is closed.
+/// Schedules without wasted steps are short, and once no step is due the root is closed.
 pub fn no_waste()
     ensures { CoreNoWasteCloses }
 {}
 
-/// If nothing is sealed, a schedule that asks for everything often enough plays the game.
+/// Without a seal, a schedule that tries every event often enough plays the game.
 pub fn fair_schedules_play()
     ensures unsealed { UnsealedHaltsNone }
     ensures stretches { FairSchedulesPlay }
     ensures rounds { FairRoundsPlay }
 {}
 
-/// If nothing is left but to acknowledge, as many rounds close the root as the tree of engaged vertices is deep, and
+/// If only acknowledgements are left, the root closes after as many rounds as the tree of engaged vertices is deep, and
 /// one more.
 pub fn soon_after_the_end()
     ensures depth { CoreDepthCloses }
@@ -198,8 +197,8 @@ pub fn soon_after_the_end()
 {}
 
 /// For every list of actor steps, each edge has delivered a prefix of what was sent on it, each message once and in
-/// order, and nothing is sent after its seal; if the root closes, every edge has delivered everything and, unless a
-/// vertex halted, chips and firing counts are those of every one-thread legal firing that ends with no vertex legal.
+/// order, and nothing is sent after its seal. If the root closes, every edge has delivered everything and, unless a
+/// vertex halted, chips and firing counts are those of every legal firing on one thread that ends with no legal vertex.
 pub fn core_theorem()
     ensures { CoreTheorem }
 {}

@@ -1,5 +1,5 @@
 -- Serves Asking.antt, ActorAsking.antt.
--- What the tests ask of an actor, one question after another.
+-- The requests of the tests to an actor, in order.
 use Rattle.std.proofs.Common.{◌≡◌, ◌≢◌, ℕ, ◌+◌, ◌<◌, ◌≤◌, true, ◌&&◌, List, [], ◌∷◌, ◌++◌, length, drop, get_or, Option}
 use Rattle.std.proofs.Common.{None, Ok, Err, is_some, refl, sym, ap, ◌∙◌, subst, ⊎_elim, eqb-true}
 use Rattle.std.proofs.Common.{true≢false}
@@ -69,10 +69,10 @@ module _ (g : Setting) (s : Part) (a : Actor) (stands : StandsFor g s a) (x : Ev
       (sym (verdict_err _ _ _ given))
       (stands, refl, refl)
 
--- ---- a list of questions
+-- ---- a list of requests
 
 module _ (xs : List (Event × ℕ × Reply)) (turn : List (Act × ℕ)) where
-  -- the questions from a place on may be asked, and the turn made then
+  -- the requests from a place on are allowed, and the turn made then
   abbrev pub MayPlay : Actor → ℕ → Type 0
   MayPlay a i = SomePart a (λ g s. may_play g a.vertex s (drop i xs) turn ≡ true)
 
@@ -109,7 +109,7 @@ module _ (xs : List (Event × ℕ × Reply)) (turn : List (Act × ℕ)) where
 
 -- ---- a turn
 
--- a turn is under way at this cursor, and these operations may see what stands beside them
+-- a turn is under way at this cursor, and these operations may see the words beside them
 abbrev pub IsTurning : Actor → Cursor → List (Act × ℕ) → Type 0
 IsTurning a cursor os = SomePart a (λ g s. (first : Part) × (done : List Step)
     × IsUnderWay g a.vertex first done cursor s × (may_see_all g a.vertex s os ≡ true))

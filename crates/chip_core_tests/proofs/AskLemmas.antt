@@ -1,5 +1,5 @@
 -- Serves Asking.antt.
--- What a part may be asked for and may see: the tests of it compute.
+-- Requests that a part may get, with what they may see: the tests of them compute.
 use Rattle.std.proofs.Common.{◌≡◌, ℕ, true, Option, Some, None, Ok, Err, refl, ⊎_elim, eqb-true, leb-true, ltb-true}
 use Rattle.std.proofs.lemmas.Bool.{and_parts, or_cases}
 use Rattle.chip_part.specs.declared.act.Act.{Act}

@@ -1,5 +1,5 @@
 -- Serves RootAsking.antt.
--- What the tests ask of a root, one question after another.
+-- The requests of the tests to a root, in order.
 use Rattle.std.proofs.Common.{◌≡◌, ℕ, ◌+◌, ◌<◌, true, ◌&&◌, List, length, drop, get_or, Option, Ok}
 use Rattle.std.proofs.Common.{Err}
 use Rattle.std.proofs.Common.{is_some, refl, sym, ap, ◌∙◌, subst, ⊎_elim, eqb-true, true≢false}
@@ -62,10 +62,10 @@ module _ (g : Setting) (s : Part) (r : Root) (stands : RootStandsFor g s r) (x :
       × (NotNow rule ≡ (part_and_reply g (saw x seen) s u).1))
       (sym (verdict_err _ _ _ given)) (stands, refl)
 
--- ---- a list of questions
+-- ---- a list of requests
 
 module _ (xs : List (Event × ℕ × Reply)) where
-  -- the questions from a place on may be asked
+  -- the requests from a place on are allowed
   abbrev pub MayPlayRoot : Root → ℕ → Type 0
   MayPlayRoot r i = SomeRoot r (λ g s. may_play_root g s (drop i xs) ≡ true)
 

@@ -1,5 +1,5 @@
--- Lists of events and of operations of one vertex, each with a word that it may see: what the tests give to an actor.
--- The tests of a list compute.
+-- Lists of events and of operations of one vertex, each with a word that it may see: the requests of the tests to an
+-- actor. The tests of a list compute.
 use Rattle.std.specs.Prelude.{ℕ, ◌+◌, ◌-◌, Bool, true, ◌&&◌, ◌||◌, ◌==◌, nat_lt, nat_le, List, [], ◌∷◌, false}
 use Rattle.std.specs.Prelude.{length, map, is_some}
 use Rattle.chip_graph.specs.Limits.{max_total, max_limit}
@@ -25,18 +25,18 @@ fits_seen s (Claim e) seen = claims_in seen == claims_of (s.out e).link
 fits_seen s (Settle e) seen = nat_le (s.out e).settled seen && nat_le seen (claims_of (s.out e).link)
 fits_seen s _ seen = true
 
--- the vertex may be asked for this event, and if it makes it, it may see this
+-- the vertex may get this request, and if it makes the event, it may see this
 abbrev pub may_ask : Setting → ℕ → Part → Event → ℕ → Bool
 may_ask g v s x seen = part_of g x == v && (is_some (unmet_rule g x s) || fits_seen s x seen)
 
--- these operations may see what stands beside them, one after another
+-- these operations may see the words beside them, in order
 abbrev pub may_see_all : Setting → ℕ → Part → List (Act × ℕ) → Bool
 may_see_all g v s [] = true
 may_see_all g v s (o ∷ os) = fits_seen s (event_of v o.0) o.1
     && may_see_all g v (does g (saw (event_of v o.0) o.1) s) os
 
--- the vertex may be asked for one event after another, and make these operations then. Beside each event stands what it
--- sees, and the reply that is hoped for
+-- the vertex may get these requests in order, and make these operations then. Beside each event are what it sees, and
+-- the expected reply
 abbrev pub may_play : Setting → ℕ → Part → List (Event × ℕ × Reply) → List (Act × ℕ) → Bool
 may_play g v s [] turn = may_see_all g v s turn
 may_play g v s (x ∷ xs) turn = may_ask g v s x.0 x.1
@@ -58,7 +58,7 @@ game_on ends start =
 abbrev pub setting_on : List (ℕ × ℕ) → List ℕ → Bool → Setting
 setting_on ends start fed = setting_with (game_on ends start) 1 fed
 
--- the vertex may play so from the opening of that game
+-- the vertex may play this from the opening of that game
 abbrev pub may_play_new : List (ℕ × ℕ) → List ℕ → ℕ → List (Event × ℕ × Reply) → List (Act × ℕ) → Bool
 may_play_new ends start v xs turn =
     let g = setting_on ends start false in may_play g v (opening_part g) xs turn

@@ -12,7 +12,7 @@ use chip_link::{Event, Message};
 use chip_part::{Act, Cause, Cursor, Observed, Reply, Rule};
 use std::process::Abort;
 
-/// Asks for an event, which is made if its rules are met.
+/// Requests an event, which is made if its rules are met.
 fn ask(actor: &mut ActorState, event: Event, seen: u64) -> Reply
     requires { SomePart actor.old (λ g s. IsTrue (may_ask g actor.old.vertex s event seen)) }
     ensures { AnswersFor actor.old actor.new event seen result }
@@ -23,7 +23,7 @@ fn ask(actor: &mut ActorState, event: Event, seen: u64) -> Reply
     }
 }
 
-/// It is the operation that is hoped for, and not the end.
+/// Whether it is the expected operation, and not the end.
 fn is_wanted(act: Act, wanted: Act) -> bool
     ensures same { IsTrue result → act ≡ wanted }
     ensures some { IsTrue result → act ≢ Act.End }
@@ -57,7 +57,7 @@ fn is_wanted(act: Act, wanted: Act) -> bool
     }
 }
 
-/// Makes a turn of these operations, each with the word that it sees, and says how many of them count.
+/// Makes a turn of these operations, each with the word that it sees; returns the number of those that count.
 fn make_turn(rt: &impl Abort, actor: &mut ActorState, turn: &[(Act, u64)]) -> usize
     requires { SomePart actor.old (λ g s. IsTrue (may_see_all g actor.old.vertex s turn.now)) }
 {
@@ -79,8 +79,8 @@ fn make_turn(rt: &impl Abort, actor: &mut ActorState, turn: &[(Act, u64)]) -> us
     counted
 }
 
-/// Asks for one event after another, each with the word that it sees and the reply that is hoped for, and makes a turn
-/// of these operations, if there are some. The answer is how many of these count.
+/// Requests events in order, each with the word that it sees and the expected reply, and makes a turn of these
+/// operations, if any. Returns the number of operations that count.
 fn play(
     rt: &impl Abort,
     actor: &mut ActorState,
@@ -116,8 +116,8 @@ fn new_actor(
     Box::new(rt.alloc(), actor).expect(rt, "memory")
 }
 
-/// Plays a vertex of the game on these edges from its opening on. The answer is the actor then, and how many of the
-/// turn's operations count.
+/// Plays a vertex of the game on these edges from its opening on. Returns its actor, and the number of the turn's
+/// operations that count.
 fn play_new(
     rt: &(impl AllocGlobal + Abort),
     ends: &[(u64, u64)],
@@ -159,7 +159,7 @@ fn full_ring(rt: HostRuntime) {
     assert!(rt; !actor.passive());
 }
 
-/// The edge to the sink is sealed before the firing that would go over it.
+/// The edge to the sink is sealed before the firing that would send over it.
 const SEALED_HALF_WAY: [(Event, u64, Reply); 8] = [
     (Event::Take(4), 4, got!(4, 0, 4)),
     (fire!(0, 2), 0, Reply::Done(2)),
@@ -180,7 +180,7 @@ fn sealed_half_way(rt: HostRuntime) {
     assert!(rt; actor.detect().deficit() == 1);
 }
 
-/// A vertex that was engaged by the last of two messages.
+/// A vertex engaged by the last of two messages.
 const ENGAGING_MESSAGE_LAST: [(Event, u64, Reply); 5] = [
     (Event::Take(0), 1, got!(0, 0, 1)),
     (Event::Take(1), 1, got!(1, 0, 1)),
@@ -196,7 +196,7 @@ fn engaging_message_last(rt: HostRuntime) {
     assert!(rt; actor.chips() == 2);
 }
 
-/// The operation that claims a message on this edge, the first one.
+/// The operation that claims the first message on this edge.
 macro_rules! claim {
     ($edge:expr) => {
         Act::Claim {

@@ -1,4 +1,4 @@
-//! The books of one vertex, call for call.
+//! The books of one vertex, call by call.
 
 ghost use Rattle.std.specs.Prelude.{◌≡◌, ◌≤◌, [], ◌∷◌, length};
 ghost use Rattle.std.specs.List.Sorted.{IsStrictlyIncreasing};
@@ -64,7 +64,7 @@ fn deficit_of_two_edges(rt: HostRuntime) {
     assert!(rt; detect.may_ack(7, true) == 1);
 }
 
-/// What is settled so far on the second of these edges out of the vertex.
+/// The number settled so far on the second of these edges out of the vertex.
 fn settled_on_the_second(detect: &Detect) -> u64
     requires { out_edges detect.now ≡ 2 ∷ 5 ∷ [] }
 {
@@ -88,7 +88,7 @@ fn lists_in_any_order(rt: HostRuntime) {
     assert!(rt; detect.deficit() == 0);
 }
 
-/// A body that gives up at long lists meets its contract too.
+/// An implementation that fails at long lists meets the contract too.
 #[test]
 fn as_many_edges_as_there_may_be(rt: HostRuntime) {
     let mut edges = [0u64; 65_537];

@@ -1,4 +1,4 @@
-//! Games that several modules play, and short words for what happens in them.
+//! Games that several modules play, and short names for events in them.
 
 ghost use Rattle.std.specs.Prelude.{◌≡◌, ◌<◌, length};
 ghost use Rattle.chip_core_tests.specs.Asking.{game_on};
@@ -6,7 +6,7 @@ ghost use Rattle.chip_core_tests.specs.Asking.{game_on};
 use chip_graph::{Edge, Game, Graph};
 use std::process::Abort;
 
-/// A message by edge, place and count.
+/// A message, by edge, place and count.
 macro_rules! message {
     ($edge:expr, $place:expr, $count:expr) => {
         Message {

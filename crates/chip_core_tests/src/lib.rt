@@ -1,5 +1,5 @@
-//! The core on small games, and floods of small networks: what no contract says of `chip_link`, `chip_detect`,
-//! `chip_flooding`, `chip_actor` and `chip_world`.
+//! The core on small games, and floods of small networks: what the contracts of `chip_link`, `chip_detect`,
+//! `chip_flooding`, `chip_actor` and `chip_world` do not state.
 #![tactic(auto)]
 
 #[cfg(test)]

@@ -1,4 +1,4 @@
-//! What the calls answer, step by step, on small runs and on rings that wrap.
+//! The results of the calls, step by step, on small runs and on rings that wrap.
 
 ghost use Rattle.std.specs.Prelude.{◌≡◌, ◌+◌, ◌^◌, ◌<◌, ◌≤◌};
 ghost use Rattle.chip_link.specs.Ends.{max_count};
@@ -7,7 +7,7 @@ use crate::games::message;
 use chip_link::{EdgeWord, FiredWord, HeadLink, MAX_RING, Message, Ring, TailLink};
 use std::process::Abort;
 
-/// An edge with both its ends, by plain words.
+/// An edge with its two ends, as plain words.
 #[derive(Drop)]
 struct Wire {
     tail: TailLink,
@@ -31,7 +31,7 @@ fn new_wire(rt: &(impl AllocGlobal + Abort), edge: u64, size: u64) -> Box<Wire>
     Box::new(rt.alloc(), wire).expect(rt, "memory")
 }
 
-/// Sends one message if the tail finds room, by plain reads and writes: its place and its cell.
+/// Sends one message if the tail finds room, by plain reads and writes; returns its place and its cell.
 fn send(
     rt: &impl Abort,
     tail: &mut TailLink,
@@ -56,7 +56,7 @@ fn send(
     Some((message.place, cell))
 }
 
-/// Takes the next message, if there is one: its place, its count and its cell.
+/// Takes the next message, if there is one; returns its place, its count and its cell.
 fn receive(rt: &impl Abort, head: &mut HeadLink, cells: &mut Vec<u64>) -> Option<(u64, u64, u64)>
     requires { head.old.taken < 2 ^ 62 }
     ensures { head.new.taken ≤ head.old.taken + 1 }
@@ -69,7 +69,7 @@ fn receive(rt: &impl Abort, head: &mut HeadLink, cells: &mut Vec<u64>) -> Option
     Some((message.place, message.count, cell))
 }
 
-/// Sends a message of `count` chips, which goes to this place and cell.
+/// Sends a message of `count` chips and expects this place and cell.
 fn sends(rt: &impl Abort, wire: &mut Wire, count: u64, place: u64, cell: u64)
     requires { (1 ≤ count) × (count ≤ max_count) }
     ensures { wire.new.head ≡ wire.old.head }
@@ -84,7 +84,7 @@ fn sends(rt: &impl Abort, wire: &mut Wire, count: u64, place: u64, cell: u64)
     );
 }
 
-/// The ring has no room for a message.
+/// Expects that the ring has no room for a message.
 fn is_full(rt: &impl Abort, wire: &mut Wire)
     ensures { wire.new.head ≡ wire.old.head }
 {
@@ -92,7 +92,7 @@ fn is_full(rt: &impl Abort, wire: &mut Wire)
     assert!(rt; sent.is_none(), "ring of {}: {sent:?}", wire.cells.len());
 }
 
-/// Takes a message from this place and cell, with `count` chips.
+/// Takes a message and expects this place and cell, and `count` chips.
 fn receives(rt: &impl Abort, wire: &mut Wire, place: u64, count: u64, cell: u64)
     requires { wire.old.head.taken < 2 ^ 62 }
     ensures { wire.new.head.taken ≤ wire.old.head.taken + 1 }
@@ -108,7 +108,7 @@ fn receives(rt: &impl Abort, wire: &mut Wire, place: u64, count: u64, cell: u64)
     );
 }
 
-/// The ring has no message.
+/// Expects that the ring has no message.
 fn is_empty(rt: &impl Abort, wire: &mut Wire)
     requires { wire.old.head.taken < 2 ^ 62 }
 {
@@ -138,7 +138,7 @@ fn tail_of_one_cell(rt: &impl Abort, tail: &mut TailLink) {
     assert!(rt; !tail.cleared(0));
 }
 
-/// The tail of an edge with two cells: two messages are sent as a whole, and the cell of a third is full at first.
+/// The tail of an edge with two cells: two messages are sent as a whole; the cell of a third is full at first.
 fn whole_sends(rt: &impl Abort, tail: &mut TailLink) {
     assert!(rt; tail.place_for(0) == Some(0));
     assert!(rt; tail.place_for(7) == None);
@@ -205,7 +205,7 @@ fn ring_of_two(rt: HostRuntime) {
     assert!(rt; wire.word == 3);
 }
 
-/// A ring that is kept full from its first turn on, so each further message waits for a take, and then emptied.
+/// A ring kept full from its first turn on, so that each further message waits for a take, and then emptied.
 fn wraps(rt: &impl Abort, wire: &mut Wire, size: u64)
     requires head { wire.old.head.taken ≡ 0 }
     requires size { (1 ≤ size) × (size ≤ 64) }

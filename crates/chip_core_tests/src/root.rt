@@ -13,7 +13,7 @@ use chip_link::{Event, Message, Ring};
 use chip_part::{Reply, Rule, Setting};
 use std::process::Abort;
 
-/// Asks the root for an event, which is made if its rules are met.
+/// Requests an event of the root, which makes it if its rules are met.
 fn ask_root(root: &mut RootBooks, event: Event, seen: u64) -> Reply
     requires { SomeRoot root.old (λ g s. IsTrue (may_ask_root g s event seen)) }
     ensures { RootAnswers root.old root.new event seen result }
@@ -24,7 +24,7 @@ fn ask_root(root: &mut RootBooks, event: Event, seen: u64) -> Reply
     }
 }
 
-/// Asks the root for one event after another, each with the word that it sees and the reply that is hoped for.
+/// Requests events of the root in order, each with the word that it sees and the expected reply.
 fn play_root(rt: &impl Abort, root: &mut RootBooks, questions: &[(Event, u64, Reply)])
     requires { SomeRoot root.old (λ g s. IsTrue (may_play_root g s questions.now)) }
 {
@@ -51,7 +51,7 @@ fn new_root(
     Box::new(rt.alloc(), root).expect(rt, "memory")
 }
 
-/// Asks the root of the game on these edges from its opening on. It is closed then.
+/// Makes these requests of the root of the game on these edges, from its opening on. It is closed then.
 fn closes(
     rt: &(impl AllocGlobal + Abort),
     ends: &[(u64, u64)],
@@ -85,7 +85,7 @@ fn unfed_root(rt: HostRuntime) {
     closes(&rt, &TRIANGLE, &[4, 0, 0], false, &UNFED);
 }
 
-/// The message of vertex 0 is acknowledged, and then no more is new.
+/// The message of vertex 0 is acknowledged; no later acknowledgement is new.
 fn settles_once(rt: &impl Abort, root: &mut RootBooks)
     requires { RootStandsFor four_on_first (opening_part four_on_first) root.old }
 {

@@ -1,4 +1,4 @@
-//! Small games: reply for reply, what a run records, round by round, and until the root closes.
+//! Small games: each reply, the record of a run, each round, and until the root closes.
 
 use crate::games::{feed, fire, got, message, sent};
 use chip_graph::{Edge, Game, Graph};
@@ -34,7 +34,7 @@ const TRIANGLE: Edges = &[
 /// A chain of two edges to the sink 2.
 const CHAIN: Edges = &[edge!(0, 1, 1), edge!(1, 2, 1)];
 
-/// No limit that a vertex could meet.
+/// A limit that no vertex reaches.
 const MOST: u64 = 1 << 40;
 
 /// A graph whose last vertex is the sink.
@@ -50,7 +50,7 @@ fn game_of(rt: &(impl AllocGlobal + Abort), edges: &[Edge], start: &[u64], limit
     Game::new(graph, start, limit).expect(rt, "a game")
 }
 
-/// The same as it opens.
+/// The same game, as it opens.
 fn opened(
     rt: &(impl AllocGlobal + Abort),
     edges: &[Edge],
@@ -81,7 +81,7 @@ fn run(rt: &(impl AllocGlobal + Abort), world: &mut World, events: &[Event]) -> 
     world.run(rt.alloc(), events).expect(rt, "memory")
 }
 
-/// Runs some events, each with the reply that it is to have, and gives the record.
+/// Runs some events, each with its expected reply; returns the record.
 fn recorded(
     rt: &(impl AllocGlobal + Abort),
     world: &mut World,
@@ -99,12 +99,12 @@ fn recorded(
     record
 }
 
-/// Runs some events, each with the reply that it is to have.
+/// Runs some events, each with its expected reply.
 fn expect(rt: &(impl AllocGlobal + Abort), world: &mut World, steps: &[(Event, Reply)]) {
     let _record = recorded(rt, world, steps);
 }
 
-/// Opens a game and runs some events, each with the reply that it is to have.
+/// Opens a game and runs some events, each with its expected reply.
 fn plays(
     rt: &(impl AllocGlobal + Abort),
     edges: Edges,
@@ -116,7 +116,7 @@ fn plays(
     expect(rt, &mut world, steps);
 }
 
-/// Makes these events, none of which may be refused.
+/// Makes these events, all of which must be accepted.
 fn play(rt: &impl Abort, world: &mut World, events: &[Event]) {
     for (index, event) in events.iter().enumerate() {
         let refused = matches!(world.step(*event), Reply::NotNow(_));
@@ -124,13 +124,13 @@ fn play(rt: &impl Abort, world: &mut World, events: &[Event]) {
     }
 }
 
-/// No outcome can be had yet.
+/// Expects that there is no outcome yet.
 fn is_open(rt: &(impl AllocGlobal + Abort), world: &World) {
     let fault = world.outcome(rt.alloc()).err();
     assert!(rt; fault == Some(WorldFault::NotClosed));
 }
 
-/// Compares an outcome: how often each vertex fired, the chips, and who halted by the limit and by a seal.
+/// Compares an outcome: the firing counts, the chips, and the vertices halted by the limit and by a seal.
 fn ends(
     rt: &(impl AllocGlobal + Abort),
     world: &World,
@@ -177,7 +177,7 @@ fn fired(world: &World, counts: &[u64]) -> bool {
     true
 }
 
-/// Whether these are the numbers of messages that were delivered, of all edges.
+/// Whether these are the numbers of delivered messages, of all edges.
 fn delivered(world: &World, counts: &[u64]) -> bool {
     if counts.len() as u64 != world.setting().all_edges() {
         return false;
@@ -201,10 +201,10 @@ const FULL_RING: [(Event, Reply); 7] = [
     (Event::Clear(0), Reply::Full),
 ];
 
-/// What is sent then, by edge.
+/// The messages sent then, by edge.
 const FULL_RING_SENT: [&[Message]; 5] = [&[message!(0, 0, 1)], &[], &[message!(2, 0, 3)], &[], &[]];
 
-/// What is delivered then, by edge.
+/// The messages delivered then, by edge.
 const FULL_RING_DELIVERED: [&[Message]; 5] = [&[], &[], &[message!(2, 0, 3)], &[], &[]];
 
 #[test]
@@ -215,7 +215,7 @@ fn full_ring(rt: HostRuntime) {
     expect_lists(&rt, &record.delivered, &FULL_RING_DELIVERED);
 }
 
-/// The edge to the sink is sealed before the firing that would go over it.
+/// The edge to the sink is sealed before the firing that would send over it.
 const SEALED_HALF_WAY: [(Event, Reply); 9] = [
     (Event::Seal(1), Reply::Done(0)),
     (Event::Take(4), got!(4, 0, 4)),
@@ -228,7 +228,7 @@ const SEALED_HALF_WAY: [(Event, Reply); 9] = [
     (Event::Halt(0), Reply::Done(0)),
 ];
 
-/// A vertex that was engaged by the last of two messages.
+/// A vertex engaged by the last of two messages.
 const ENGAGING_MESSAGE_LAST: [(Event, Reply); 13] = [
     (Event::Take(2), got!(2, 0, 2)),
     (fire!(0, 1), Reply::Done(1)),
@@ -251,7 +251,7 @@ fn engaging_message_last(rt: HostRuntime) {
     plays(&rt, twice, &[2, 0], Ring::of(1), &ENGAGING_MESSAGE_LAST);
 }
 
-/// A ring of two cells, which holds a second message while the first is not taken.
+/// A ring of two cells, with a second message while the first is not yet taken.
 const RING_OF_TWO: [(Event, Reply); 18] = [
     (Event::Take(2), got!(2, 0, 3)),
     (fire!(0, 1), Reply::Done(1)),
@@ -294,7 +294,7 @@ fn long_schedule(rt: HostRuntime) {
     takes_nothing(&rt, &mut world, 0, 100_000);
 }
 
-/// A game, and where it ends.
+/// A game and its end.
 struct Ending {
     edges: Edges,
     start: &'static [u64],
@@ -377,7 +377,7 @@ fn drives_to_the_end(rt: HostRuntime) {
     }
 }
 
-/// One round: where it ends, and what is owed then.
+/// The result of a round, the state after it, and what is owed then.
 struct Round {
     drive: Drive,
     chips: &'static [u64],
@@ -428,7 +428,7 @@ fn sealed_half_way(rt: &(impl AllocGlobal + Abort)) -> Box<World> {
     world
 }
 
-/// Compares the chips and the firings of all vertices, and the messages that were delivered on all edges.
+/// Compares the chips and the firings of all vertices, and the numbers of delivered messages of all edges.
 fn stands_at(rt: &impl Abort, world: &World, chips: &[u64], counts: &[u64], messages: &[u64]) {
     assert!(rt; holds(world, chips));
     assert!(rt; fired(world, counts));
@@ -451,7 +451,7 @@ fn drives_round_by_round(rt: HostRuntime) {
     drives_rounds(&rt, &mut world, &ROUNDS);
 }
 
-/// Whether the vertex met a sealed edge and halted.
+/// Whether the vertex claimed on a sealed edge and halted.
 fn halted_by_seal(world: &World, vertex: u64) -> bool {
     vertex < world.setting().vertices() && world.halted(vertex) == Some(Cause::SealedEdge)
 }

@@ -1,5 +1,5 @@
 -- Serves Dealing.antt, Rounds.antt.
--- Where the run of a worker begins and ends, and what its turns leave of it.
+-- The start and the end of a worker's run, and the effect of its turns.
 use Rattle.chip_crew.proofs.Names.{◌^◌, ◌≡◌, ℕ, zero, suc, ◌+◌, ◌*◌, ◌%◌, ◌<◌, ◌≤◌, ◌-◌, ◌==◌, max, List, length}
 use Rattle.chip_crew.proofs.Names.{Option, Some, None, take, get_or, set, length-take, refl, ap, arith}
 use Rattle.chip_crew.proofs.Names.{add-one, zero-add, mod-add-mod, mod-eq_of_lt, length-set, sum_by-set, mul-le}
@@ -10,7 +10,7 @@ use Rattle.chip_crew.proofs.Names.{IsShareStart, IsFirstOf, AreActorsOf, HasDeal
 use Rattle.chip_crew.proofs.TurnLemmas.{turn_counts}
 use Rattle.chip_crew.proofs.RunLemmas.{from_at, from_set, from_take, from_all}
 
--- few ends of edges are at a vertex
+-- the number of edge ends at a vertex is bounded
 pub few_ends : (G : Multigraph) (v : ℕ) → length G.edges ≤ 2 ^ 23 → ends_at G v ≤ (2 ^ 24 + 1)
 few_ends G v few = let outs = length-picked (λ e. (edge_at G e).tail == v) (length G.edges) in
     let ins = length-picked (λ e. (edge_at G e).head == v) (length G.edges) in omega arith
@@ -42,7 +42,7 @@ module _ (G : Multigraph) where
         let short : v < G.vertices → ⊥ = λ less. (let more = mul-le workers (suc (ends_before G v)) workers
         (ends_before G G.vertices) (omega arith) (ends_grow v G.vertices less) in omega arith) in omega arith
 
-    -- one goes on from the first vertex of a worker to that of the next
+    -- one gets from the first vertex of a worker to that of the next
     pub cut_next : (worker v w share ends : ℕ) → IsShareStart G workers worker v
         → share ≡ (worker + 1) * ends_before G G.vertices → ends ≡ ends_before G w → share ≤ workers * ends
         → ((u : ℕ) → v ≤ u → u < w → workers * ends_before G u < share) → IsShareStart G workers (worker + 1) w
@@ -65,7 +65,7 @@ still_ours crew old new answer makes ours =
       turned = rw (turn_counts old new answer makes) (old, answer, ours.turned, makes);
     }
 
--- a turn leaves as many actors as there were, and is one turn at most
+-- a turn keeps the number of actors, and is at most one turn
 turn_leaves : (place : ℕ) (next : Option ActorKnown) (old new : List ActorKnown) → slice_get old place ≡ next
     → TurnsThere place next old new → (length new ≡ length old) × (all_turns new ≤ all_turns old + 1)
 turn_leaves place None old new at same = rw same (refl, omega arith)
@@ -94,7 +94,7 @@ rounds_turns passes (suc k) first now made = let old = rounds_turns passes k fir
 
 -- ---- turns in a row
 
--- the actor that stands there made its turn
+-- the actor at that place made its turn
 pub turn_at : (k : ℕ) (actors : List ActorKnown) (a new : ActorKnown) (answer : Turn) → k < length actors
     → a ≡ get_or actors k a → MakesTurn a new answer → TurnsAt k actors (set actors k new)
 turn_at k actors a new answer less read turn =
@@ -104,7 +104,7 @@ turn_at k actors a new answer less read turn =
 pub none_at : (k : ℕ) (actors : List ActorKnown) → length actors ≤ k → TurnsAt k actors actors
 none_at k actors few = rw (slice_get_past actors k few) refl
 
--- where a round begins, the turns of it stand at their places
+-- where a round begins, its turns are at their places
 pub place_is : (m k round : ℕ) → m % round ≡ 0 → k < round → (m + k) % round ≡ k
 place_is m k round begins less = rw (← mod-add-mod m round k) (rw (begins, zero-add) (mod-eq_of_lt less))
 
@@ -133,7 +133,7 @@ dealt_turn asked worker m k before now made begins less pass turn =
 
 -- ---- dealing
 
--- the first ones of those that are left are the worker's
+-- the first ones of those left are the worker's
 pub are_of : (crew : CrewId) (worker first next : ℕ) (actors own : List ActorKnown) → IsFirstOf crew worker first
     → IsFirstOf crew (worker + 1) next → first ≤ next → next ≤ first + length actors → AreFrom crew first actors
     → own ≡ take (next - first) actors → AreActorsOf crew worker own

@@ -1,5 +1,5 @@
 -- Serves Feeding.antt, Ending.antt.
--- What feeds, polls and the end leave of the root: what was fed, what may be fed still, and whether it is over.
+-- The root after feeds, polls and the end: what was fed, what may still be fed, and whether it is over.
 use Rattle.chip_crew.proofs.Names.{◌≡◌, ℕ, zero, suc, ◌+◌, ◌%◌, ◌<◌, ◌≤◌, ◌-◌, ◌==◌, List, Some, None, refl, ap}
 use Rattle.chip_crew.proofs.Names.{arith, true, false, Bool, [], ◌∷◌, ◌++◌, All, append_assoc, inl}
 use Rattle.chip_crew.proofs.Names.{inr, nat_tests, All-tail, All-head, All-push, All-nil, sum_by-append, tested_le}
@@ -36,7 +36,7 @@ module _ (g : Setting) where
       let rest = settles_leave (does g x s) xs (All-tail IsSettle x.event (events_of xs) are) in
       (rw (here.0, rest.0) refl, rw (rest.1, here.1) refl)
 
-  -- so does the end, with the settles behind it
+  -- so does the end, with the settles after it
   end_feeds : (s : Part) (xs : List Step) (rest : List Event) → events_of xs ≡ End ∷ rest → All IsSettle rest
       → fed_in g xs ≡ []
   end_feeds s [] rest is are = absurd (cc)
@@ -48,9 +48,9 @@ module _ (g : Setting) where
   fed_steps [] ys = refl
   fed_steps (x ∷ xs) ys = rw (fed_steps xs ys, append_assoc) refl
 
--- ---- the root after more
+-- ---- the root after more events
 
--- it has the same net, fed these more, and the end is noted or not
+-- it has the same net and these feeds more, and the end is noted or not
 pub record Adds (old new : RootKnown) (more : List (ℕ × ℕ)) (ended : Bool) : Type 0 where
   pub net : new.net ≡ old.net
   pub stopper : new.stopper_did ≡ old.stopper_did
@@ -75,7 +75,7 @@ poll_adds old new n polling =
     (rw polling.events_are (are_settles old.net.setting 0 n)) in
     adds_steps old new polling.steps [] (has_ended old) polling.record_is leaves.1 leaves.0
 
--- nor does a look in vain
+-- nor does an idle look
 look_adds : (old new : RootKnown) (v : ℕ) → LooksInVain old new v → Adds old new [] (has_ended old)
 look_adds old new v looks = adds_steps old new (saw (Clear (root_edge old.net.setting v)) looks.seen ∷ []) []
     (has_ended old) looks.record_is refl refl
@@ -88,7 +88,7 @@ end_adds old new answer ends =
     (rw (← part_append g (opening_part g) old.did steps) (rw ends.ending.record_is at ends.ended))
     (end_feeds g (root_part old) steps _ ends.ending.events_are (are_settles g 1 (g.game.graph.vertices - 1)))
 
--- a feed feeds what it says
+-- a feed feeds its chips
 feed_adds : (old new : RootKnown) (v k place : ℕ) → FeedsChips old new v k place
     → Adds old new ((v, k) ∷ []) (has_ended old)
 feed_adds old new v k place feeds =
@@ -96,7 +96,7 @@ feed_adds old new v k place feeds =
     adds_steps old new (feed_steps g v k place) ((v, k) ∷ []) (has_ended old) feeds.record_is refl
     (rw back refl)
 
--- ---- what may be fed still
+-- ---- what may still be fed
 
 all_right : {X : Type 0} (P : X → Type 0) (xs ys : List X) → All P (xs ++ ys) → All P ys
 all_right P [] ys all = all
@@ -114,7 +114,7 @@ may_after {old} {new} {more} left adds may =
       within = rw (adds.fed, adds.net) (omega arith);
     }
 
--- the root went on feeding: of what was left some was fed, in order, and the others are left and may be fed
+-- the root continued feeding: some of the feeds left were made, in order, and the others are left and may be made
 pub record GoesOn (feeds left : Left) (old new : RootKnown) : Type 0 where
   pub net : new.net ≡ old.net
   pub stopper : new.stopper_did ≡ old.stopper_did
@@ -132,7 +132,7 @@ goes_on first last = record {
   may = λ may. last.may (first.may may);
 }
 
--- these were fed, of those that were left
+-- these feeds of those left were made
 adds_left : {old new : RootKnown} {more : List (ℕ × ℕ)} {ended : Bool} (feeds left : Left) → Adds old new more ended
     → pairs feeds ≡ more ++ pairs left → (MayFeedLeft old feeds → MayFeedLeft new left) → GoesOn feeds left old new
 adds_left {old} {new} {more} feeds left adds is may = record {
@@ -142,13 +142,13 @@ adds_left {old} {new} {more} feeds left adds is may = record {
   may = may;
 }
 
--- a poll leaves what is left
+-- a poll keeps the feeds left
 pub poll_goes_on : (left : Left) (old new : RootKnown) (n : ℕ) → IsPolling old new n → GoesOn left left old new
 poll_goes_on None old new n polling = adds_left None None (poll_adds old new n polling) refl (λ may. may)
 poll_goes_on (Some left) old new n polling = let adds = poll_adds old new n polling in
     adds_left (Some left) (Some left) adds refl (may_after left adds)
 
--- the first that is left was fed, or is left still
+-- the next feed was made, or is still left
 next_goes_on : (feeds left : List (ℕ × ℕ)) (old new : RootKnown) → FeedsNext feeds left old new
     → GoesOn (Some feeds) (Some left) old new
 next_goes_on [] left old new next = stays (Some []) (Some left) old new (ap Some next.0) next.1
@@ -172,12 +172,12 @@ once_goes_on None left old new once = stays None left old new once.0 once.1
 once_goes_on (Some feeds) left old new once =
     goes_on (next_goes_on feeds once.0 old once.1 once.2) (end_goes_on once.0 left once.1 new once.3)
 
--- a poll that is made where it is due leaves what is left
+-- a poll that is due keeps the feeds left
 if_goes_on : (due : Bool) (left : Left) (old new : RootKnown) → PollsIf due old new → GoesOn left left old new
 if_goes_on true left old new polls = poll_goes_on left old new old.net.setting.game.graph.vertices polls
 if_goes_on false left old new same = stays left left old new refl same
 
--- worker 0 leads the root so
+-- worker 0 leads the root in this way
 pub led_goes_on : (round k : ℕ) (feeds left : Left) (old now : RootKnown) → IsLed round k feeds old left now
     → GoesOn feeds left old now
 led_goes_on round zero feeds left old now led = stays feeds left old now led.0 led.1
@@ -185,7 +185,7 @@ led_goes_on round (suc k) feeds left old now (rest, before, fed, led, once, poll
     goes_on (led_goes_on round k feeds rest old before led)
     (goes_on (once_goes_on rest left before fed once) (if_goes_on (suc k % round == 0) left fed now polls))
 
--- a root that is closed has nothing left to feed
+-- a closed root has no feeds left
 pub over_has_fed : (left : Left) (root : RootKnown) → MayFeedLeft root left → has_ended root ≡ true → left ≡ None
 over_has_fed None root may ended = refl
 over_has_fed (Some left) root may ended = absurd (cc)
@@ -212,7 +212,7 @@ over_polled old now n polls over =
     let is = ap root_deficit polls.record_is in
     (omega arith, rw (poll_adds old now n polls).ended_is over.1)
 
--- nothing is fed any more
+-- nothing more is fed
 pub over_fed : (left after : Left) (old new : RootKnown) → MayFeedLeft old left → FeedsOnce left after old new → IsRootOver old
     → IsRootOver new
 over_fed left after old new may once over =

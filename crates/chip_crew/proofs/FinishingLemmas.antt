@@ -1,5 +1,5 @@
 -- Serves Finished.antt, Feeding.antt, Plans.antt.
--- What is known of a crew is known of the game that it played.
+-- What holds of a crew holds of the game that it played.
 use Rattle.chip_crew.proofs.Names.{◌≡◌, ℕ, ◌<◌, ◌≤◌, List, Option, Some, None, refl, subst, arith, true}
 use Rattle.chip_crew.proofs.Names.{false, [], ⊎_elim, ◌⊎◌, is_some, and_parts, nat_tests, AllPass-from_list_all}
 use Rattle.chip_crew.proofs.Names.{option_copied, ChipGame, HasMore, Outcome, setting_with, Step, RootKnown}
@@ -12,7 +12,7 @@ use Rattle.chip_crew.proofs.FeedLemmas.{Adds, GoesOn, poll_adds, led_goes_on, ov
 use Rattle.chip_crew.proofs.LeadingLemmas.{led_by, IsSame, takes_back, back_same, knows_seals}
 use Rattle.chip_crew.specs.declared.fault.CrewFault.TheVariants as fault
 
--- the root of a net that opens to be fed may feed what the plan says
+-- the root of a net opened for feeding may make the plan's feeds
 pub may_begin : (game : ChipGame) (feeds : Left) (plan : Plan) (net : NetId) (root : RootKnown)
     (stopper_did : Option (List Step)) → CanPlay game feeds plan
     → net.setting ≡ setting_with game plan.ring (is_some feeds) → root ≡ new_root net stopper_did
@@ -25,7 +25,7 @@ may_begin game (Some feeds) plan net root stopper_did can setting is =
       within = rw setting (omega arith);
     })
 
--- what its plan says is in its ranges
+-- the plan is within its ranges
 pub plan_fits : (game : ChipGame) (feeds : Left) (plan : Plan) → CanPlay game feeds plan
     → (0 < plan.workers) × (plan.workers ≤ max_workers) × (plan.turns ≤ max_turns) × (seals_edge game plan.seal ≡ true)
 plan_fits game feeds plan can = let within = can.within in grind (arith, nat_tests)
@@ -63,7 +63,7 @@ module _ (asked : Asked) (round turns : ℕ) (leader : Leader) (back : RootKnown
         ends = ends;
       }
 
-  -- it did not: all turns are made
+  -- it did not: all turns are used up
   pub stays_led : (now : RootKnown) (deficit : ℕ) → StaysOpen back now deficit
       → StaysUnfinished asked.crew asked.feeds asked.plan now deficit
   stays_led now deficit stays =
@@ -81,7 +81,7 @@ module _ (asked : Asked) (round turns : ℕ) (leader : Leader) (back : RootKnown
         stays = stays;
       }
 
--- the game of the outcome is the one that has all chips at the start
+-- the game of the outcome has all chips at the start
 whole_by : (game whole : ChipGame) (feeds : Left) (net : NetId) (fed : List (ℕ × ℕ)) (ring : ℕ)
     → net.setting ≡ setting_with game ring (is_some feeds) → fed ≡ pairs feeds
     → (net.setting.fed ≡ false → whole ≡ net.setting.game) → HasMore net.setting.game fed whole
@@ -110,7 +110,7 @@ module _ (feeds : Left) (plan : Plan) (crew : CrewId) (f : Finished) (finished :
   knows last kept = knows_seals plan.seal ends.turns (root_of crew plan) ends.led ends.back last refl led.stopper
       ends.is_back kept
 
-  -- all was fed, once and in order, and what was sealed is what the plan says
+  -- all feeds were made, once and in order, and the plan's seal and no other
   pub finished_by : (shared : Sharing) (game : ChipGame) → IsCrewFor shared game feeds plan crew
       → IsFinished shared game feeds plan f
   finished_by shared game opened =
@@ -129,7 +129,7 @@ module _ (feeds : Left) (plan : Plan) (crew : CrewId) (f : Finished) (finished :
             KnowsSeals seal ends.turns ends.ends.root) none (knows ends.ends.root polled.stopper)));
       }
 
--- why a crew that was opened for the game didn't finish
+-- why a crew opened for the game didn't finish
 pub stopped_by : (shared : Sharing) (game : ChipGame) (asked : Asked) (e : CrewFault)
     → IsCrewFor shared game asked.feeds asked.plan asked.crew → IsCrewStopped asked e
     → IsFaultOf shared game asked.feeds asked.plan asked.may_answer e

@@ -1,5 +1,5 @@
 -- Serves Gathering.antt.
--- What the calling thread gathers from the queue are the actors of all vertices, and sorted they are in order.
+-- The calling thread gathers the actors of all vertices from the queue, and sorted they are in order.
 use Rattle.chip_crew.proofs.Names.{◌≡◌, ℕ, suc, ◌+◌, ◌*◌, ◌<◌, ◌≤◌, List, length, refl, ap, arith, []}
 use Rattle.chip_crew.proofs.Names.{◌∷◌, ◌++◌, All, map, nat_tests, length-map, map-append, All-tail, All-head}
 use Rattle.chip_crew.proofs.Names.{All-append, All-permutation, sum_by-IsPermutation, sum_by-append, sum_by-cons}
@@ -13,7 +13,7 @@ use Rattle.chip_crew.proofs.RunLemmas.{in_order}
 abbrev pub vertices_of : List ActorKnown → List ℕ
 vertices_of row = map (λ a. a.vertex) row
 
--- these actors came to the row
+-- these actors were appended to the row
 pub gathers_more : (asked : Asked) (old new : Ledger) (row now : Vec ActorKnown) (more : List ActorKnown) (m n : ℕ)
     → IsGatheringFor asked m old row → now.items ≡ row.items ++ more → All (IsOurs asked.crew) more
     → asked.crew.net.setting.game.graph.vertices ≤ vec_capacity now → new.workers ≡ n
@@ -52,7 +52,7 @@ gathered asked l row gathers there =
 
 -- ---- in order
 
--- where all are of greater vertices none is of this one
+-- where all are of greater vertices this one is missing
 none_below : (v : ℕ) (xs : List ActorKnown) → All (λ a. v < a.vertex) xs → actors_of v xs ≡ 0
 none_below v xs all = let none = sum_by-le (is_of v) 0 xs (λ k d less. let above = all k d less in
     grind (arith, nat_tests)) in omega arith

@@ -1,5 +1,5 @@
 -- Serves Duties.antt, Leading.antt, Sealing.antt.
--- What a worker does beside its turns: worker 0 leads the root, and seals.
+-- A worker's duties besides the turns of its actors: worker 0 leads the root, and seals.
 use Rattle.chip_crew.proofs.Names.{◌≡◌, ℕ, zero, suc, ◌+◌, ◌%◌, ◌<◌, ◌==◌, List, length, Option, Some, None, refl, ap}
 use Rattle.chip_crew.proofs.Names.{arith, add-one, true, false, Bool, eq-eqb, ne_eqb, [], ◌∷◌, ◌++◌, is_some}
 use Rattle.chip_crew.proofs.Names.{ltb-true, if◌then◌else◌, add-mod_right, nat_tests, option_copied, option_zip}
@@ -38,14 +38,14 @@ none_sealed crew game None stopper is named same = rw is refl
 none_sealed crew game (Some at) stopper is named same =
     ([], rw is refl, grind (arith, nat_tests), rw same (ltb-true at.edge (length game.graph.edges) named))
 
--- ---- the root that has the stopper back
+-- ---- the root with the stopper back
 
 pub takes_back : (crew : CrewId) (plan : Option SealAt) (turns : ℕ) (seal : Option (StopperKnown × SealAt))
     (old new : RootKnown) → HasSealed crew plan turns seal → HasBack seal old new → TakesBack plan turns old new
 takes_back crew None turns seal old new has back = rw has at back
 takes_back crew (Some at) turns seal old new has back = (has.0, rw has.1 at back, has.2)
 
--- it has its net and did what it had done
+-- it has its net and its steps
 abbrev pub IsSame : RootKnown → RootKnown → Type 0
 IsSame old new = (did : Option (List Step)) × (new ≡ record { net = old.net; did = old.did; stopper_did = did })
 
@@ -54,7 +54,7 @@ pub back_same : (plan : Option SealAt) (turns : ℕ) (old new : RootKnown) → T
 back_same None turns old new back = (old.stopper_did, back)
 back_same (Some at) turns old new back = (Some back.0, back.1)
 
--- and it knows what was sealed, where it had the stopper from the beginning if nothing was to be sealed
+-- and it knows what was sealed; without a seal in the plan it always had the stopper
 pub knows_seals : (plan : Option SealAt) (turns : ℕ) (first old new last : RootKnown)
     → first.stopper_did ≡ (if is_some plan then None else Some []) → old.stopper_did ≡ first.stopper_did
     → TakesBack plan turns old new → last.stopper_did ≡ new.stopper_did → KnowsSeals plan turns last
@@ -69,7 +69,7 @@ pub seal_stays : (net : NetId) (turn : ℕ) (old new : Option (StopperKnown × S
 seal_stays net turn None new seals can = rw seals tt
 seal_stays net turn (Some s) new seals can = rw seals.1 can
 
--- a poll leaves what worker 0 needs
+-- a poll keeps what worker 0 needs
 pub can_still : (net : NetId) (leader : Leader) (root : RootKnown) (closed : Bool)
     → IsPolling leader.root root leader.root.net.setting.game.graph.vertices → root.net ≡ leader.root.net
     → (closed ≡ true → IsRootOver root) → CanLead net leader → CanLead net (record leader { root = root; is_closed = closed })
@@ -80,7 +80,7 @@ can_still net leader root closed polls same over can = record {
   closed = over;
 }
 
--- a round that ends polls the root, and leaves what is left to feed and what was sealed
+-- a round that ends polls the root, and keeps the feeds left and the seals
 ends_round : (over : Bool) (old new : Leader) → EndsIf LeadsRound over old new
     → (option_copied new.feeds ≡ option_copied old.feeds) × (new.seal ≡ old.seal) × PollsIf over old.root new.root
 ends_round true old new ends = (ap option_copied ends.feeds, ends.seal, ends.polls)
@@ -106,7 +106,7 @@ pub round_over : (round m k : ℕ) → k ≡ round → m % round ≡ 0 → (m + 
 round_over round m k whole begins = rw (whole, add-mod_right) begins
 
 module _ {D : Type 0} (before : ℕ → D → D → Type 0) (after : D → D → Type 0) (round : ℕ) where
-  -- one turn more, with what comes after a round where it ends one
+  -- one turn more, with the duty after a round where it ends one
   pub serves_turn : (k : ℕ) (over : Bool) (old was now end : D) → ServesTurns before after round k old was
       → before k was now
       → ((k + 1) % round == 0) ≡ over → EndsIf after over now end → ServesTurns before after round (k + 1) old end

@@ -1,5 +1,5 @@
 -- Serves Places.antt, Ledger.antt.
--- What is done at the queue keeps its rule, and what the rule tells.
+-- Operations on the queue keep its rule, and what follows from the rule.
 use Rattle.chip_crew.proofs.Names.{◌≡◌, ℕ, zero, suc, ◌+◌, ◌<◌, ◌≤◌, ◌==◌, List, length, set, refl, sym, ap}
 use Rattle.chip_crew.proofs.Names.{arith, add-one, [], ◌∷◌, All, map, cond, drop, sum_by, length-append}
 use Rattle.chip_crew.proofs.Names.{nat_tests, All-tail, All-head, All-push, All-set, All-cons, All-nil, All-drop}
@@ -19,7 +19,7 @@ is_it v u = cond (u == v) 1 0
 abbrev pub is_of : ℕ → ActorKnown → ℕ
 is_of v a = cond (a.vertex == v) 1 0
 
--- what a thread has, and the workers for which it speaks
+-- the actors of a thread, and the workers for which it speaks
 abbrev has_count : Ledger → ℕ
 has_count l = length l.has
 
@@ -48,7 +48,7 @@ all_at : {X : Type 0} (P : X → Type 0) (xs : List X) (i : ℕ) (x : X) → All
 all_at {X} P xs i x all at = All-head P x (drop (suc i) xs) (rw (drop_at xs i x at) at (All-drop {X = X} P i xs all))
 
 module _ (f : Ledger → ℕ) (nothing : (l : Ledger) → HasNothing l → f l ≡ 0) where
-  -- who speaks for no worker adds nothing
+  -- a ledger that speaks for no worker adds nothing
   none_adds : (ls : List Ledger) → sum_by workers_of ls ≡ 0 → All IsSpent ls → sum_by f ls ≡ 0
   none_adds [] none spent = refl
   none_adds (l ∷ ls) none spent =
@@ -56,7 +56,7 @@ module _ (f : Ledger → ℕ) (nothing : (l : Ledger) → HasNothing l → f l �
       let here = nothing l (All-head IsSpent l ls spent (omega arith)) in
       let rest = none_adds ls (omega arith) (All-tail IsSpent l ls spent) in omega (arith, sum_by-cons f)
 
-  -- who speaks for all workers is all of it
+  -- one that speaks for all workers is all of it
   one_adds : (ls : List Ledger) (i : ℕ) (l : Ledger) → get_elem? ls i ≡ some l → sum_by workers_of ls ≡ l.workers
       → All IsSpent ls → sum_by f ls ≡ f l
   one_adds ls i l at all spent =
@@ -68,7 +68,7 @@ module _ (f : Ledger → ℕ) (nothing : (l : Ledger) → HasNothing l → f l �
 module _ (crew : CrewId) where
   -- ---- what keeps the rule
 
-  -- an actor goes in, which was the first of those that the thread had
+  -- an actor goes in, the first of those that the thread had
   pub puts : (n pass : ℕ) (v : Ledger) (x : ActorKnown) (rest : List ℕ) → IsOurs crew x → v.has ≡ x.vertex ∷ rest
       → Pushes (AreShared crew) n pass v x (λ w. IsOurs crew x × (w ≡ with_put v x))
   puts n pass v x rest ours first queued ledgers room old at =
@@ -89,7 +89,7 @@ module _ (crew : CrewId) where
         (ours, refl),
       )
 
-  -- an actor comes out, and the thread had not all of them
+  -- an actor comes out, and the thread did not have all of them
   pub takes : (pass : ℕ) (v : Ledger) → 0 < v.workers → Pops (AreShared crew) pass v
       (λ x w. IsOurs crew x × (length v.has < crew.net.setting.game.graph.vertices) × (w ≡ with_actor v x))
   takes pass v speaks x queued ledgers old at =
@@ -128,7 +128,7 @@ module _ (crew : CrewId) where
             (λ none. (refl, refl, refl));
       }
 
-  -- and hands it back
+  -- and gives it back
   pub merges : (pass : ℕ) (v : Ledger) (other : ℕ) (u : Ledger)
       → Merges (AreShared crew) pass v other u (both_ledgers v u) no_ledger
   merges pass v other u queued ledgers old at apart there =
@@ -150,7 +150,7 @@ module _ (crew : CrewId) where
             (rw (one.0, two.0) refl, omega arith, omega arith)) old.spent);
       }
 
-  -- ---- what the rule tells
+  -- ---- what follows from the rule
 
   pub all_there : (pass : ℕ) (v : Ledger) → Learns (AreShared crew) pass v (AreAllThere crew v)
   all_there pass v queued ledgers old at all =
@@ -164,12 +164,12 @@ module _ (crew : CrewId) where
   pub have_room : (pass : ℕ) (v : Ledger) → Learns (AreShared crew) pass v (HaveRoom crew v)
   have_room pass v queued ledgers old at = let a = sum_least has_count ledgers pass v at in omega arith
 
-  -- who found the queue empty knows it of no actors
+  -- a thread that found the queue empty knows that it has no actors
   pub none_queued : (l : Ledger) → Held 0 (AreAllThere crew l) → AreAllThere crew l []
   none_queued l ([], empty, there) = there
   none_queued l (a ∷ rest, empty, there) = absurd (omega arith)
 
-  -- ---- how it begins
+  -- ---- the start
 
   -- each number is there once, and none that is less
   numbers_once : (from k v : ℕ) → (v < from → times v (range_with_len from k) ≡ 0)

@@ -1,5 +1,5 @@
 -- Serves Crew.antt.
--- Lists whose elements fit numbers that grow by one, as the actors of a crew do.
+-- Lists whose elements have properties of consecutive numbers, as the actors of a crew have.
 use Rattle.chip_crew.proofs.Names.{◌≡◌, ℕ, zero, suc, ◌+◌, ◌<◌, List, length, Some, take, set, refl, ap}
 use Rattle.chip_crew.proofs.Names.{arith, add-one, [], ◌∷◌, ◌++◌, All, drop, sum_by-le, slice_get_within}
 use Rattle.chip_crew.proofs.Names.{get_or_from_slice_get, same_Some, none-some, slice_get, ActorKnown, NetId, newcomer}
@@ -69,7 +69,7 @@ ours_by crew n actors vertices count each = from_each (IsAt crew) 0 actors (λ i
     let is : a ≡ newcomer crew.net crew.room i = (let there = each i (omega arith) in cc) in
     rw is (record { net_is = refl; inside = omega arith; room_is = refl; turned = refl }, omega arith))
 
--- none of them made a turn yet
+-- none of them has made a turn
 pub new_turns : (net : NetId) (room : ℕ) (actors : List ActorKnown)
     → ((v : ℕ) → v < length actors → slice_get actors v ≡ Some (newcomer net room v)) → all_turns actors ≡ 0
 new_turns net room actors each = let none = sum_by-le turns_of 0 actors (λ k d less.

@@ -15,7 +15,7 @@ module _ (g : Setting) (v : ℕ) where
   abbrev takes_in : List Step → ℕ
   takes_in ds = sum_by take_count ds
 
-  -- whatever such a phase does, it does not take from the root edge
+  -- no such phase takes from the root edge
   abbrev TakesNone : Phase → Type 0
   TakesNone p = (s : Part) (ds : List Step) (t : Part) → p s ds t → takes_in ds ≡ 0
 
@@ -45,7 +45,7 @@ module _ (g : Setting) (v : ℕ) where
       (none_then _ _ (none_each _ (λ e s ds t phase. grind (arith, nat_tests)) (ins_of g v))
       (λ s ds t phase. grind (arith, nat_tests)))))))
 
-  -- one take is from the root edge, behind those of these graph edges
+  -- one take is from the root edge, after those of these graph edges
   one_take : (es : List ℕ) → All (λ e. e < graph_edges g) es → (s : Part) (ds : List Step) (t : Part)
       → each_phase (λ e. one_step g v (Take e)) (es ++ root_edge g v ∷ []) s ds t → takes_in ds ≡ 1
   one_take [] all s ds t (front, m, back, is, (seen, rest, now, none), last) =
@@ -73,7 +73,7 @@ turn_counts old new answer makes =
 
 -- ---- by the queue
 
--- after k turns a worker has the actor that it kept, and no other, and no more turns were made of those that it had
+-- after k turns a worker has the actor that it kept, and no other, and at most k turns were made of those it had
 abbrev AreMade : ℕ → Ledger → Option ActorKnown → Type 0
 AreMade k l kept = HasJust l kept × (gave_turns l + kept_turns kept ≤ got_turns l + k)
 

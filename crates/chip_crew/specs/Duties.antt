@@ -1,7 +1,7 @@
--- What a worker does beside the turns of its actors: something before each turn, and something after each round.
+-- The duties of a worker besides the turns of its actors: before each turn, and after each round.
 use Rattle.std.specs.Prelude.{◌≡◌, ℕ, zero, suc, ◌+◌, ◌%◌, ◌==◌, Bool, true, false}
 
--- the gate let a turn pass, and what comes before it was done; or it did not, and nothing was done
+-- the gate accepted a turn, and what comes before it was done; or it did not, and nothing was done
 abbrev pub BeginsTurn : {D : Type 0} → (D → D → Type 0) → Type 0 → Type 0 → D → D → Bool → Type 0
 BeginsTurn before passes shut old new true = passes × before old new
 BeginsTurn before passes shut old new false = shut × (new ≡ old)
@@ -16,7 +16,7 @@ abbrev pub EndsIf : {D : Type 0} → (D → D → Type 0) → Bool → D → D �
 EndsIf after true old new = after old new
 EndsIf after false old new = new ≡ old
 
--- k turns of a worker, of which `round` make a round: what comes before each was done, and after each round what comes
+-- k turns of a worker, `round` of them in each round: what comes before each was done, and after each round what comes
 -- after it
 abbrev pub ServesTurns : {D : Type 0} → (ℕ → D → D → Type 0) → (D → D → Type 0) → ℕ → ℕ → D → D → Type 0
 ServesTurns before after round zero old new = new ≡ old

@@ -1,4 +1,4 @@
--- How a crew ends.
+-- The end of a crew.
 use Rattle.std.specs.Prelude.{◌≡◌, ◌⊎◌, ℕ, ◌≤◌, false, None}
 use Rattle.chip_sequence.specs.declared.outcome.Outcome.{Outcome}
 use Rattle.chip_net.specs.Roots.{RootKnown, root_deficit, has_ended, IsRootOver, IsPolling}
@@ -21,8 +21,8 @@ pub record EndsWell (old receipt : RootKnown) (o : Outcome) : Type 0 where
   pub closed : IsRootOver root
   pub finishes : Finishes root receipt o
 
--- in `turns` turns the root fed all and noted the end: the turns of the plan, or fewer if it was closed by then; it
--- took the stopper back, was polled once, and finished
+-- in `turns` turns the root made all feeds and noted the end: in the turns of the plan, or fewer if it was closed by
+-- then; it took the stopper back, was polled once, and finished
 pub record EndsLed (crew : CrewId) (feeds : Left) (plan : Plan) (receipt : RootKnown) (o : Outcome) : Type 0 where
   pub round : ℕ
   pub is_round : IsRoundOfTurns crew round
@@ -35,14 +35,14 @@ pub record EndsLed (crew : CrewId) (feeds : Left) (plan : Plan) (receipt : RootK
   pub is_back : TakesBack plan.seal turns led back
   pub ends : EndsWell back receipt o
 
--- the root was polled once and isn't closed: `left` messages are left, none only if the end of feeding isn't noted
+-- the root was polled once and isn't closed: `left` messages are open, 0 only if the end of feeding isn't noted
 pub record StaysOpen (old now : RootKnown) (left : ℕ) : Type 0 where
   pub polled : PolledOnce old now
   pub deficit : left ≡ root_deficit now
   pub some : left ≡ 0 → has_ended now ≡ false
   pub not_over : IsRootOver now → ⊥
 
--- in all turns of the plan the root left this to be fed; then it took the stopper back, was polled once, and isn't
+-- after all turns of the plan the root has these feeds left; then it took the stopper back, was polled once, and isn't
 -- closed
 pub record StaysUnfinished (crew : CrewId) (feeds : Left) (plan : Plan) (now : RootKnown) (deficit : ℕ) : Type 0 where
   pub round : ℕ

@@ -1,4 +1,4 @@
--- What a run answers.
+-- What a run returns.
 use Rattle.std.specs.Prelude.{◌≡◌, ◌⊎◌, ℕ, ◌+◌, ◌<◌, ⊤, Bool, true, false, sum, Some, None, ◌*◌, ◌≤◌}
 use Rattle.std.specs.Prelude.{is_some}
 use Rattle.chip_graph.specs.Limits.{max_total}
@@ -20,12 +20,12 @@ use Rattle.chip_crew.specs.declared.play.Finished.{Finished}
 use Rattle.chip_crew.specs.declared.fault.CrewFault.{CrewFault}
 use Rattle.chip_crew.specs.declared.fault.CrewFault.TheVariants as fault
 
--- with the chips of the start what is fed stays within the total
+-- the chips of the start and of the feeds stay within the total
 abbrev pub StaysWithin : ChipGame → Left → Type 0
 StaysWithin game None = ⊤
 StaysWithin game (Some feeds) = HasRoomForChips game feeds
 
--- it passes the total
+-- they exceed the total
 abbrev pub PassesTotal : ChipGame → Left → Type 0
 PassesTotal game None = ⊥
 PassesTotal game (Some feeds) = max_total < sum game.start + all_brought feeds
@@ -40,8 +40,8 @@ abbrev pub RefusesPlan : ChipGame → Left → Plan → CrewFault → Type 0
 RefusesPlan game feeds plan e = ((e ≡ fault.Plan) × (is_fed_plan game (pairs feeds) plan ≡ false))
     ⊎ ((e ≡ fault.Total) × (is_fed_plan game (pairs feeds) plan ≡ true) × PassesTotal game feeds)
 
--- the crew's net was opened for this game with the plan's rings, to be fed if there are feeds, and its actors with room
--- for the plan's trace rows; the plan's workers share them in this way
+-- the crew's net was opened for this game with the plan's rings, for feeding if there are feeds, and its actors with
+-- room for the plan's trace rows; the plan's workers share them in this way
 pub record IsCrewFor (shared : Sharing) (game : ChipGame) (feeds : Left) (plan : Plan) (crew : CrewId) : Type 0 where
   pub can : CanPlay game feeds plan
   pub setting : crew.net.setting ≡ setting_with game plan.ring (is_some feeds)
@@ -49,23 +49,22 @@ pub record IsCrewFor (shared : Sharing) (game : ChipGame) (feeds : Left) (plan :
   pub workers : crew.workers ≡ plan.workers
   pub sharing : crew.sharing ≡ shared
 
--- the crew's root fed all, was polled when it was closed and then finished, and all its actors are there
+-- the crew's root fed everything, was polled when it was closed and then finished, and the crew has all its actors
 pub record HasFinished (crew : CrewId) (feeds : Left) (plan : Plan) (f : Finished) : Type 0 where
   pub ends : EndsLed crew feeds plan f.receipt f.outcome
   pub actors : AreActors crew f.actors.items
-  -- all workers together made no more turns than they may
+  -- all workers together made at most the turns that the plan allows them
   pub turns : all_turns f.actors.items ≤ crew.workers * plan.turns
-  -- what the root, the stopper and the actors did is one run, of which that is the outcome
+  -- the steps of the root, the stopper and the actors are one run with this outcome
   pub run : IsRun f.receipt f.actors.items f.outcome
 
--- the game that has all chips at the start, also those that are fed
+-- the game with all chips at the start, fed ones among them
 abbrev pub IsWhole : ChipGame → Left → ChipGame → Type 0
 IsWhole game None whole = whole ≡ game
 IsWhole game (Some feeds) whole = HasMore game feeds whole
 
--- a crew of this game finished after it made exactly these feeds, in order, and the seal of the plan if worker 0 made
--- that turn, and no other; without a seal the outcome is the plain player's of the game that has all these chips at the
--- start
+-- a crew of this game finished after exactly these feeds, in order, and the seal of the plan if worker 0 made that
+-- turn, and no other; without a seal the outcome is the plain player's of the game with all these chips at the start
 pub record IsFinished (shared : Sharing) (game : ChipGame) (feeds : Left) (plan : Plan) (f : Finished) : Type 0 where
   pub crew : CrewId
   pub opened : IsCrewFor shared game feeds plan crew
@@ -78,8 +77,8 @@ pub record IsFinished (shared : Sharing) (game : ChipGame) (feeds : Left) (plan 
 
 -- ---- why a crew didn't finish
 
--- why a crew that was opened didn't finish: memory or threads ran out, a gate was shut, or the root is open. No actor is
--- missing, and none is there twice
+-- why an opened crew didn't finish: memory or threads ran out, a gate was shut, or the root is open. Each actor is
+-- there exactly once
 abbrev pub IsCrewStopped : Asked → CrewFault → Type 0
 IsCrewStopped asked fault.NoMemory = ⊤
 IsCrewStopped asked fault.Spawn = ⊤
@@ -87,8 +86,8 @@ IsCrewStopped asked fault.GateShut = SomeShut asked.may_answer asked.crew.worker
 IsCrewStopped asked (fault.Unfinished deficit root) = StaysUnfinished asked.crew asked.feeds asked.plan root deficit
 IsCrewStopped asked _ = ⊥
 
--- plan or feeds are at fault; or their total is; or a crew of this game didn't finish, whose gate may answer so. No actor
--- is missing, and none is there twice
+-- plan or feeds are at fault; or their total is; or a crew of this game didn't finish, whose gate may return such
+-- results. Each actor is there exactly once
 abbrev pub IsFaultOf : Sharing → ChipGame → Left → Plan → (ℕ → ℕ → Bool → Type 0) → CrewFault → Type 0
 IsFaultOf shared game feeds plan may_answer fault.Plan = is_fed_plan game (pairs feeds) plan ≡ false
 IsFaultOf shared game feeds plan may_answer fault.Total = (is_fed_plan game (pairs feeds) plan ≡ true) × PassesTotal game feeds

@@ -22,14 +22,14 @@ pub record AreGathered (crew : CrewId) (actors : List ActorKnown) : Type 0 where
   pub count : length actors ≡ crew.net.setting.game.graph.vertices
   pub once : (v : ℕ) → v < crew.net.setting.game.graph.vertices → actors_of v actors ≡ 1
 
--- the row has the actors of the first `workers` workers, one run behind the other, and there is room for all of them
+-- the row has the actors of the first `workers` workers, one run after the other, and room for all actors
 pub record IsRow (crew : CrewId) (workers : ℕ) (row : List ActorKnown) (room : ℕ) : Type 0 where
   pub up_to : IsFirstOf crew workers (length row)
   pub each : AreFrom crew 0 row
   pub has_room : crew.net.setting.game.graph.vertices ≤ room
 
--- who gathers speaks for `workers` workers, the row has its actors and room for all of them, and with these workers no
--- more turns were made than they may make
+-- the gathering thread speaks for `workers` workers, the row has its actors and room for all of them, and these workers
+-- made at most the turns that the plan allows them
 pub record IsGatheringFor (asked : Asked) (workers : ℕ) (ledger : Ledger) (row : Vec ActorKnown) : Type 0 where
   pub speaks : ledger.workers ≡ workers
   pub has : ledger.has ≡ map (λ a. a.vertex) row.items
@@ -38,19 +38,19 @@ pub record IsGatheringFor (asked : Asked) (workers : ℕ) (ledger : Ledger) (row
   pub turns : all_turns row.items + gave_turns ledger ≤ got_turns ledger + workers * asked.plan.turns
 
 module _ {B : Type 0} where
-  -- what is there once `workers` workers have given back what they had
+  -- the state once `workers` workers have given back what they had
   abbrev pub AreBack : Asked → ℕ → Back B → Type 0
   AreBack asked workers (back.Queue queue pass row) = (asked.crew.sharing ≡ sharing.Queue)
       × IsPassOf queue.now pass × IsGatheringFor asked workers (view pass) row
   AreBack asked workers (back.Dealt row) = (asked.crew.sharing ≡ sharing.Dealt)
       × IsRow asked.crew workers row.items (vec_capacity row) × (all_turns row.items ≤ workers * asked.plan.turns)
 
-  -- through which queue they come, if any
+  -- the queue through which they come, if any
   abbrev pub queue_for : Back B → Option TableId
   queue_for (back.Queue queue pass row) = Some pass.table_id
   queue_for (back.Dealt row) = None
 
-  -- what one worker more had was taken back, and whether its gate let it pass is told
+  -- what one more worker had was taken back, and whether its gate accepted all its turns
   pub record Collects (asked : Asked) (passed : Bool) (old new : Collected B) : Type 0 where
     pub workers : new.workers ≡ old.workers + 1
     pub are_back : AreBack asked new.workers new.back

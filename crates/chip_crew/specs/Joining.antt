@@ -1,4 +1,4 @@
--- What is known of the workers as they start, and once they have ended.
+-- The workers as they start, and once they have ended.
 use Rattle.std.specs.Prelude.{◌≡◌, ℕ, ◌<◌, ◌≤◌, false, List, [], ◌∷◌, length, Option, None}
 use Rattle.atomic_table.specs.Seated.{TableId}
 use Rattle.chip_net.specs.Tokens.{ActorKnown}
@@ -13,7 +13,7 @@ use Rattle.chip_crew.specs.declared.worker.Share.{Share}
 use Rattle.chip_crew.specs.declared.joining.Joined.{Joined}
 use Rattle.chip_crew.specs.declared.joining.WorkerPromise.{WorkerPromise}
 
--- the leader and the actors of a crew on a net that has just been opened
+-- the leader and the actors of a crew on a net that has just opened
 pub record AreOpened (asked : Asked) (leader : Leader) (actors : List ActorKnown) : Type 0 where
   pub leads : IsLeader asked leader
   pub each : AreFrom asked.crew 0 actors
@@ -25,7 +25,7 @@ pub record AreOpened (asked : Asked) (leader : Leader) (actors : List ActorKnown
   pub few_workers : asked.crew.workers ≤ max_workers
 
 module _ {B : Type 0} where
-  -- which queue the workers with these shares use, if any
+  -- the queue that the workers with these shares use, if any
   abbrev pub queue_of_all : List (Share B) → Option TableId
   queue_of_all [] = None
   queue_of_all (own ∷ rest) = queue_of own
@@ -37,13 +37,13 @@ module _ {B : Type 0} where
     pub count : length shares ≡ asked.crew.workers
     pub ready : AreReady asked (queue_of_all shares) shares
 
-  -- it is the promise of this worker
+  -- it is the contract of this worker
   pub record IsWorker {D : Type 0} (asked : Asked) (queue : Option TableId) (worker : ℕ) (p : WorkerPromise B D)
       : Type 0 where
     pub number_is : p.number ≡ worker
     pub ready : IsReady asked queue worker p.share.value
 
-  -- all workers have ended: worker 0 did its duties with the root, and all that they had is back
+  -- all workers have ended: worker 0 did its duties with the root, and they gave back all that they had
   pub record HasJoined (asked : Asked) (j : Joined B) : Type 0 where
     pub led : HasLed asked j.round j.turns j.leader
     pub are_back : AreBack asked asked.crew.workers j.collected.back

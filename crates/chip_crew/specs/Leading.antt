@@ -1,4 +1,4 @@
--- What worker 0 does beside its turns.
+-- The duties of worker 0 besides its turns.
 use Rattle.std.specs.Prelude.{◌≡◌, ℕ, ◌<◌, ◌≤◌, Bool, true, false}
 use Rattle.std.specs.Option.{option_copied}
 use Rattle.chip_net.specs.Tokens.{NetId}
@@ -10,15 +10,15 @@ use Rattle.chip_crew.specs.Feeding.{MayFeedLeft, FeedsOnce}
 use Rattle.chip_crew.specs.Sealing.{MaySeal, SealsBefore, HasSealed}
 use Rattle.chip_crew.specs.declared.leader.Leader.{Leader}
 
--- root and stopper are of this net, the root may feed what is left, what is to be sealed is an edge of the graph, and a
--- root that was found closed is
+-- root and stopper are of this net, the root may make the feeds left, the edge to seal is one of the graph, and a root
+-- that was found closed is closed
 pub record CanLead (net : NetId) (leader : Leader) : Type 0 where
   pub net_is : leader.root.net ≡ net
   pub may : MayFeedLeft leader.root (option_copied leader.feeds)
   pub seal : MaySeal net leader.seal
   pub closed : leader.is_closed ≡ true → IsRootOver leader.root
 
--- the stopper sealed what is due before this turn, and the root fed what it could
+-- the stopper sealed what is due before this turn, and the root made the next feed if it could
 pub record LeadsTurn (turn : ℕ) (old new : Leader) : Type 0 where
   pub seals : SealsBefore turn old.seal new.seal
   pub feeds : FeedsOnce (option_copied old.feeds) (option_copied new.feeds) old.root new.root
@@ -34,7 +34,7 @@ abbrev pub Stops : Bool → Leader → Type 0
 Stops true leader = IsRootOver leader.root
 Stops false leader = IsRootOver leader.root → ⊥
 
--- what worker 0 begins with: the root of the crew, what it has to feed, and the stopper, which sealed nothing yet
+-- the start of worker 0: the root of the crew, its feeds, and the stopper, which has sealed nothing
 pub record IsLeader (asked : Asked) (leader : Leader) : Type 0 where
   pub root : leader.root ≡ root_of asked.crew asked.plan
   pub feeds : option_copied leader.feeds ≡ asked.feeds
@@ -42,7 +42,7 @@ pub record IsLeader (asked : Asked) (leader : Leader) : Type 0 where
   pub goes_on : leader.is_closed ≡ false
   pub can : CanLead asked.crew.net leader
 
--- it led in `turns` turns, of which `round` make a round
+-- it led in `turns` turns, `round` of them in each round
 pub record HasLed (asked : Asked) (round turns : ℕ) (leader : Leader) : Type 0 where
   pub first : Leader
   pub begins : IsLeader asked first

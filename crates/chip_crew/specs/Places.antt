@@ -1,25 +1,25 @@
--- Where the actors of a crew are that wait in a queue.
+-- The places of a crew's actors that wait in a queue.
 use Rattle.std.specs.Prelude.{◌≡◌, ◌==◌, ℕ, ◌+◌, ◌<◌, ◌≤◌, List, [], length, All, sum_by, count_by}
 use Rattle.chip_net.specs.Tokens.{ActorKnown}
 use Rattle.chip_crew.specs.Crew.{CrewId, IsOurs, all_turns}
 use Rattle.chip_crew.specs.Ledger.{got_turns, gave_turns}
 use Rattle.chip_crew.specs.declared.queue.Ledger.{Ledger}
 
--- how often this vertex is among these
+-- the number of times that this vertex is among these
 abbrev pub times : ℕ → List ℕ → ℕ
 times v vertices = count_by (λ u. u == v) vertices
 
--- how many of these actors are of this vertex
+-- the number of these actors that are of this vertex
 abbrev pub actors_of : ℕ → List ActorKnown → ℕ
 actors_of v actors = count_by (λ a. a.vertex == v) actors
 
--- the thread has no actor, and those that it got and gave had made no turns
+-- the thread has no actor, and those that it took and put had made no turns
 abbrev pub HasNothing : Ledger → Type 0
 HasNothing l = (l.has ≡ []) × (got_turns l ≡ 0) × (gave_turns l ≡ 0)
 
--- the rule of the queue, which has these actors, while the threads have these ledgers: the actor of each vertex is in one
--- place, in the queue or with one thread; with the turns of the actors in the queue those that came out have as many as
--- those that went in; and who speaks for no worker has nothing
+-- the rule of the queue, which has these actors, while the threads have these ledgers: the actor of each vertex is in
+-- one place, in the queue or with one thread; the turns of the actors that came out and of those in the queue sum to
+-- those of the actors that went in; and a ledger that speaks for no worker has nothing
 pub record AreShared (crew : CrewId) (queued : List ActorKnown) (ledgers : List Ledger) : Type 0 where
   pub ours : All (IsOurs crew) queued
   pub once : (v : ℕ) → v < crew.net.setting.game.graph.vertices
@@ -29,13 +29,13 @@ pub record AreShared (crew : CrewId) (queued : List ActorKnown) (ledgers : List 
   pub turns : all_turns queued + sum_by got_turns ledgers ≡ sum_by gave_turns ledgers
   pub spent : All (λ l. l.workers ≡ 0 → HasNothing l) ledgers
 
--- who speaks for all workers has the actor of each vertex that is not in the queue
+-- a ledger that speaks for all workers has the actor of each vertex that is not in the queue
 abbrev pub AreAllThere : CrewId → Ledger → List ActorKnown → Type 0
 AreAllThere crew ledger queued = ledger.workers ≡ crew.workers
     → (length queued + length ledger.has ≡ crew.net.setting.game.graph.vertices)
     × (all_turns queued + got_turns ledger ≡ gave_turns ledger)
     × ((v : ℕ) → v < crew.net.setting.game.graph.vertices → actors_of v queued + times v ledger.has ≡ 1)
 
--- the queue and the thread have no more actors than there are
+-- the queue and the thread together have at most all actors
 abbrev pub HaveRoom : CrewId → Ledger → List ActorKnown → Type 0
 HaveRoom crew ledger queued = length queued + length ledger.has ≤ crew.net.setting.game.graph.vertices

@@ -1,4 +1,4 @@
--- Which plans there are for a crew.
+-- The valid plans of a crew.
 use Rattle.std.specs.Prelude.{ℕ, ◌^◌, Bool, true, ◌&&◌, nat_lt, nat_le, List, length, Option, Some, None}
 use Rattle.std.specs.List.{list_all}
 use Rattle.chip_graph.specs.ChipGame.{ChipGame}
@@ -22,7 +22,7 @@ max_trace_rows = 2 ^ 20
 abbrev pub is_within : ℕ → ℕ → Bool
 is_within most n = nat_lt 0 n && nat_le n most
 
--- what is to be sealed is an edge of the graph
+-- the edge to seal is an edge of the graph
 abbrev pub seals_edge : ChipGame → Option SealAt → Bool
 seals_edge game None = true
 seals_edge game (Some at) = nat_lt at.edge (length game.graph.edges)
@@ -32,7 +32,7 @@ abbrev pub is_plan : ChipGame → Plan → Bool
 is_plan game plan = is_within max_workers plan.workers && is_within max_ring plan.ring && is_within max_turns plan.turns
     && nat_le plan.trace_rows max_trace_rows && seals_edge game plan.seal
 
--- each is of one chip or more for a vertex of the graph
+-- each is of 1 chip or more for a vertex of the graph
 abbrev pub are_feeds : ChipGame → List (ℕ × ℕ) → Bool
 are_feeds game feeds = list_all (λ pair. nat_lt pair.0 game.graph.vertices && nat_lt 0 pair.1) feeds
 

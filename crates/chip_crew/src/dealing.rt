@@ -1,4 +1,4 @@
-//! How the actors are dealt out to the workers.
+//! Deals the actors out to the workers.
 
 ghost use Rattle.std.specs.Prelude.{◌≡◌, ◌+◌, ◌*◌, ◌≤◌, ◌<◌, ◌^◌, ℕ, IfOk, length};
 ghost use Rattle.chip_graph.specs.Limits.{max_edges};
@@ -16,7 +16,7 @@ use chip_graph::Graph;
 use chip_net::Actor;
 use std::alloc::{AllocError, Global};
 
-/// The ends of edges at a vertex, with that of its root edge: what a turn of its actor looks at.
+/// The number of edge ends at a vertex, with its root edge's: a turn of its actor reads them.
 fn ends_at(graph: &Graph, vertex: u64) -> u64
     requires vertex { vertex < graph.now.vertices }
     requires few_edges { length graph.now.edges ≤ max_edges }
@@ -26,7 +26,7 @@ fn ends_at(graph: &Graph, vertex: u64) -> u64
     graph.outs(vertex).len() as u64 + graph.ins(vertex).len() as u64 + 1
 }
 
-/// The ends of edges at all vertices.
+/// The number of edge ends at all vertices.
 fn all_ends(graph: &Graph) -> u64
     ensures value { result ≡ ends_before graph.now graph.now.vertices }
     ensures few { result ≤ 2 ^ 46 }
@@ -58,9 +58,9 @@ fn next_cut(graph: &Graph, workers: u64, share: u64, first: u64, before: u64) ->
     (graph.vertices(), ends)
 }
 
-/// Deals the actors of all vertices out, which are in their order: to each worker a run of consecutive ones. Before a
-/// run are the fewest vertices at which there are at least as many ends of edges as an even deal gives the workers
-/// before. The actors come back to a row that has room for all.
+/// Deals the actors of all vertices, in ascending order, out to the workers in runs. Before a run are the fewest
+/// vertices that have at least as many edge ends as an even deal gives the workers before. Also returns a row with room
+/// for all actors to come back to.
 pub(crate) fn deal<'q, B: Crew>(
     alloc: Global,
     graph: &Graph,

@@ -1,17 +1,17 @@
-//! What a worker does beside the turns of its actors.
+//! The duties of a worker besides the turns of its actors.
 
 use crate::plan::Gate;
 use chip_net::Net;
 
-/// Done by a worker beside the turns of its actors, by its own thread.
+/// The duties of a worker besides the turns of its actors, done on its own thread.
 pub(crate) trait Duties {
     ghost use Rattle.std.specs.Prelude.{◌≡◌, ℕ, Bool, false};
     ghost use Rattle.chip_net.specs.Tokens.{NetId};
 
-    // Whether they can be done at this net.
+    // Whether they can be done on this net.
     ghost can: { NetId → Self → Type 0 };
 
-    // Whether no round ended so that the crew is to stop.
+    // Whether no round so far ended with the order to stop.
     ghost goes_on: { Self → Type 0 };
 
     // What was done before the turn of this number.
@@ -31,7 +31,7 @@ pub(crate) trait Duties {
         ensures goes_on { goes_on self.new }
         ensures done { before turn self.old self.new };
 
-    /// Done after each whole round, of which this was the last turn: whether the crew is to stop.
+    /// Done after each whole round, whose last turn was `turn`. Returns whether the crew is to stop.
     fn end_round<G: Gate>(&mut self, net: &Net, gate: &G, turn: u64) -> bool
         requires can { can net.now self.old }
         requires goes_on { goes_on self.old }
@@ -41,7 +41,7 @@ pub(crate) trait Duties {
         ensures stops { stops result self.new };
 }
 
-/// Those of every worker but worker 0: none.
+/// The duties of every worker but worker 0: none.
 #[derive(Drop)]
 pub(crate) struct NoDuties;
 

@@ -1,4 +1,4 @@
-//! What is done with the root once all workers have ended.
+//! The last use of the root, once all workers have ended.
 
 ghost use Rattle.std.specs.Prelude.{◌≡◌, MatchResult, IfOk, IfSome};
 ghost use Rattle.chip_crew.specs.Ending.{EndsWell, StaysOpen};
@@ -8,7 +8,7 @@ use crate::plan::SealAt;
 use chip_net::{Net, Receipt, Root, RootState, Stopper};
 use chip_sequence::Outcome;
 
-/// Gives the root the stopper back, if there is one: nothing is sealed from then on.
+/// Gives the stopper, if there is one, back to the root: nothing is sealed from then on.
 pub(crate) fn take_back(net: &Net, root: &mut Root, seal: Option<(Stopper, SealAt)>)
     requires net { root.old.net ≡ net.now }
     requires stopper { IfSome seal (λ s. s.0.net ≡ net.now) }
@@ -20,7 +20,7 @@ pub(crate) fn take_back(net: &Net, root: &mut Root, seal: Option<(Stopper, SealA
     }
 }
 
-/// The last poll, and the end. If messages are open it tells how many, and gives the root back.
+/// Makes the last poll and finishes. If messages are open it returns their number and the root.
 pub(crate) fn last_poll(net: &Net, mut root: Root) -> Result<(Outcome, Receipt), (u64, Root)>
     requires net { root.net ≡ net.now }
     ensures ends { MatchResult result (λ r. EndsWell root r.1 r.0) (λ r. StaysOpen root r.1 r.0) }

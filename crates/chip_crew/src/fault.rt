@@ -2,28 +2,27 @@ use chip_graph::GameFault;
 use chip_net::Root;
 use std::alloc::AllocError;
 
-/// Why a crew didn't finish: the first reason in this order.
+/// Why a crew didn't finish: the first of these that applies.
 #[derive(Drop)]
 pub enum CrewFault {
-    /// A number of the plan is out of its range, the edge to be sealed is none of the graph's, or a feed is of no chip
-    /// or of no vertex of the graph.
+    /// A number of the plan is out of its range, the edge to seal is not in the graph, or a feed has no chips or a
+    /// vertex that is not in the graph.
     Plan,
     /// The chips of the start and of all feeds are more than `MAX_TOTAL`.
     Total,
     /// Memory ran out before a worker was started.
     NoMemory,
-    /// A thread could not be started. Those that were started have ended.
+    /// A thread could not be started. The started ones have ended.
     Spawn,
-    /// A gate answered false.
+    /// A gate returned false.
     GateShut,
-    /// Two actors of this vertex were gathered. It is never answered, since a crew has one actor of each vertex.
+    /// Two actors of this vertex were gathered. Never returned, since a crew has one actor of each vertex.
     Doubled(u64),
-    /// No actor of this vertex was gathered. It is never answered, for the same reason.
+    /// No actor of this vertex was gathered. Never returned, for the same reason.
     Lost(u64),
-    /// All turns were made and the root isn't closed. Feeds that weren't made by then are not made.
+    /// All turns were made and the root isn't closed. Feeds not made by then are dropped.
     Unfinished {
-        /// How many of its messages aren't acknowledged, as the last poll found: 1 or more, but it may be 0 if not all
-        /// was fed.
+        /// The number of its unacknowledged messages at the last poll: 1 or more, or 0 if some feeds were dropped.
         deficit: u64,
         /// The root.
         root: Root,
@@ -34,7 +33,7 @@ impl CrewFault {
     ghost use Rattle.std.specs.Prelude.{◌≡◌};
     ghost use Rattle.chip_crew.specs.FaultNumbers.{crew_fault_number};
 
-    /// The number of this fault in the table of faults.
+    /// The fault's number.
     pub fn number(&self) -> u64
         ensures { result ≡ crew_fault_number self.now }
     {

@@ -6,7 +6,7 @@ ghost use Rattle.chip_crew.specs.Feeding.{MayFeed, MayFeedLeft, FeedsNext, Feeds
 
 use chip_net::{FeedFault, Net, Root};
 
-/// Feeds the first that is left, and tells what is left then. If its cell is full, it is still left.
+/// Makes the next feed, and returns those left. If its cell is full, it is still left.
 #[cold]
 fn feed_next<'a>(net: &Net, root: &mut Root, left: &'a [(u64, u64)]) -> &'a [(u64, u64)]
     requires net { root.old.net ≡ net.now }
@@ -20,12 +20,12 @@ fn feed_next<'a>(net: &Net, root: &mut Root, left: &'a [(u64, u64)]) -> &'a [(u6
     match root.feed(net, *vertex, *count) {
         Ok(_) => rest,
         Err(FeedFault::Full) => left,
-        // What a crew feeds stays within the total, and it notes the end once nothing is left.
+        // What a crew feeds stays within the total, and it notes the end only once nothing is left.
         Err(FeedFault::Ended | FeedFault::Total) => unreachable!(),
     }
 }
 
-/// Feeds the first that is left, and notes the end once nothing is. If it is noted nothing is done.
+/// Makes the next feed, and notes the end once none is left. If it is noted, does nothing.
 pub(crate) fn feed_once(net: &Net, root: &mut Root, left: &mut Option<&[(u64, u64)]>)
     requires net { root.old.net ≡ net.now }
     requires may { MayFeedLeft root.old (option_copied left.old) }

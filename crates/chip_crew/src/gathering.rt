@@ -1,4 +1,4 @@
-//! How the actors are gathered once all workers have ended.
+//! Gathers the actors once all workers have ended.
 
 ghost use Rattle.std.specs.Prelude.{◌≡◌, ◌+◌, ◌<◌, ◌≤◌, ℕ, IfSome, ◌*◌};
 ghost use Rattle.chip_crew.specs.Crew.{IsOurs, AreActors, all_turns};
@@ -13,13 +13,13 @@ use crate::worker::Share;
 use chip_net::Actor;
 use std::sync::Wait;
 
-/// Where the actors come back to, once the workers have ended: a row that has room for all of them.
+/// The place the actors come back to once the workers have ended: a row with room for all of them.
 #[derive(Drop)]
 pub(crate) enum Back<'a, B: Crew> {
-    /// They come through a queue. The row has those that the calling thread has, in the order in which they came.
+    /// They come through a queue. The row has those that the calling thread has, in order of arrival.
     Queue {
         queue: &'a Queue<B>,
-        /// The calling thread's pass of the queue, which joins those of the workers.
+        /// The calling thread's pass of the queue; those of the workers join it.
         pass: QueuePass,
         row: Vec<Actor>,
     },
@@ -27,14 +27,14 @@ pub(crate) enum Back<'a, B: Crew> {
     Dealt(Vec<Actor>),
 }
 
-/// What came back from the workers.
+/// What the workers gave back.
 #[derive(Drop)]
 pub(crate) struct Collected<'a, B: Crew> {
-    /// From how many.
+    /// The number of workers.
     pub workers: u64,
-    /// Whether no gate of theirs answered false.
+    /// Whether no gate of theirs returned false.
     pub passed: bool,
-    /// Their actors.
+    /// The workers' actors.
     pub back: Back<'a, B>,
 }
 
@@ -55,7 +55,7 @@ fn join_pass<B: Crew>(
     ensures gathering { IsGatheringFor B.asked ((view pass.old).workers + 1) (view pass.new) row.new }
 {
     queue.absorb::<SplitLedger>(pass, theirs);
-    // It tells that there is room for the actor.
+    // (shows that there is room for the actor)
     queue.learn_as::<Pushed<B>>(pass);
     if let Some(actor) = kept {
         row.push_reserved(actor);
@@ -63,7 +63,7 @@ fn join_pass<B: Crew>(
 }
 
 impl<'a, B: Crew> Collected<'a, B> {
-    /// Takes back what a worker has. What all lesser workers had is back already.
+    /// Takes back what a worker has. All lower workers have given back theirs.
     pub fn take(&mut self, share: Share<B>, passed: bool)
         requires next { (self.old.workers < B.asked.crew.workers) × (B.asked.crew.workers ≤ max_workers) }
         requires back { AreBack B.asked self.old.workers self.old.back }
@@ -96,7 +96,7 @@ impl<'a, B: Crew> Collected<'a, B> {
     }
 }
 
-/// Takes all actors that are in the queue. All workers have given back what they had.
+/// Takes all actors from the queue. All workers have given back what they had.
 fn drain<R: Wait, B: Crew>(rt: &R, queue: &Queue<B>, pass: &mut QueuePass, row: &mut Vec<Actor>)
     requires pass { IsPassOf queue.now pass.old }
     requires gathering { IsGatheringFor B.asked B.asked.crew.workers (view pass.old) row.old }

@@ -1,4 +1,4 @@
-//! Starting the workers, and taking back what they have once they have ended.
+//! Starts the workers, and takes back what they have once they have ended.
 
 ghost use Rattle.std.specs.Prelude.{◌≡◌, ◌+◌, ◌≤◌, length, IfOk, IfErr};
 ghost use Rattle.chip_crew.specs.declared.fault.CrewFault.TheVariants.{Spawn};
@@ -23,8 +23,8 @@ use std::snapshot::Snapshot;
 use std::sync::atomic::Ordering::SeqCst;
 use std::thread::{Promise, PromisedHandle, Scope, Threads};
 
-/// The promise of the worker of this number, which begins with this share and these duties: each of its turns was let pass
-/// by its gate and gave one actor one turn, its gate answered false only if it may, and it did its duties.
+/// The contract of the worker of this number, which starts with this share and these duties: its gate accepted each of
+/// its turns, each gave one actor one turn, its gate returned false only if it may, and it did its duties.
 #[derive(Drop)]
 pub(crate) struct WorkerPromise<'a, B: Crew, D> {
     number: u64,
@@ -45,14 +45,14 @@ type Started<'a, B, D> = PromisedHandle<WorkerResult<'a, B, D>, WorkerPromise<'a
 #[derive(Drop)]
 pub(crate) struct Joined<'l, 'q, B: Crew> {
     pub leader: Leader<'l>,
-    /// How many turns worker 0 made.
+    /// The number of turns that worker 0 made.
     pub turns: u64,
-    /// How many of them make a round.
+    /// The number of turns of a round of worker 0.
     pub round: u64,
     pub collected: Collected<'q, B>,
 }
 
-/// Starts a worker. If it can't be started, those that were are told to stop.
+/// Starts a worker. If it can't be started, the started ones are stopped.
 fn start<'s, E, B: Crew + Send + Sync, G: Gate + Sync, D: Duties + Send + Drop + 's>(
     scope: &Scope<'s, E>,
     worker: Worker<'s, B, G, D>,

@@ -1,4 +1,4 @@
-//! What worker 0 does beside the turns of its actors: it seals, it feeds, and it polls the root.
+//! The duties of worker 0 besides the turns of its actors: it seals, feeds and polls the root.
 
 ghost use Rattle.std.specs.Prelude.{◌≡◌, ◌⊎◌};
 ghost use Rattle.chip_net.specs.Roots.{IsRootOver};
@@ -12,20 +12,20 @@ use crate::queue::Crew;
 use crate::shared::Shared;
 use chip_net::{Net, Root, RootState, Stopper};
 
-/// What worker 0 has beside its actors.
+/// The state of worker 0 besides its actors.
 #[derive(Drop)]
 pub(crate) struct Leader<'a> {
     /// The root, which it polls after each of its rounds.
     pub root: Root,
-    /// What it feeds, a vertex and its chips each, before it notes the end; `None` if the end is noted.
+    /// The feeds left before it notes the end, a vertex and its chips each; `None` once the end is noted.
     pub feeds: Option<&'a [(u64, u64)]>,
-    /// The stopper, and when it is to seal which edge.
+    /// The stopper, and when it seals which edge.
     pub seal: Option<(Stopper, SealAt)>,
     /// Whether a poll found the root closed.
     pub is_closed: bool,
 }
 
-/// Seals, if this is the turn for it.
+/// Seals, if the plan seals before this turn.
 fn seal_before(net: &Net, seal: &mut Option<(Stopper, SealAt)>, turn: u64)
     requires { MaySeal net.now seal.old }
     ensures { SealsBefore turn seal.old seal.new }
@@ -59,7 +59,7 @@ impl<'a> Duties for Leader<'a> {
         feed_once(net, &mut self.root, &mut self.feeds);
     }
 
-    /// Polls the root, and tells the gate what is not acknowledged. The crew is to stop once the root is closed.
+    /// Polls the root, and reports its unacknowledged messages to the gate. The crew stops once the root is closed.
     #[inline(always)]
     fn end_round<G: Gate>(&mut self, net: &Net, gate: &G, turn: u64) -> bool {
         match self.root.poll(net) {
@@ -77,8 +77,8 @@ impl<'a> Duties for Leader<'a> {
 }
 
 impl<'a> Leader<'a> {
-    /// Goes on in the place of worker 0, which made `made` turns, `round` in each round: without actors, and without
-    /// asking the gate, as long as the plan gives turns and the root is open. It tells how many turns were made in all.
+    /// Continues for worker 0, which made `made` turns, `round` in each round: without actors and without calling the
+    /// gate, until the plan's turns are used up or the root is closed. Returns the number of turns made in all.
     pub fn go_on<B: Crew, G: Gate>(&mut self, shared: &Shared<B, G>, round: u64, made: u64) -> u64
         requires led { HasLed B.asked round made self.old }
         ensures led { HasLed B.asked round result self.new }

@@ -1,10 +1,10 @@
-//! What each worker of a running net does. Workers share the net's actors by one bounded queue, or each has its own.
+//! The work of each worker of a running net. Workers share the net's actors by one bounded queue, or each has its own.
 //!
-//! The rule of the queue (`queue.rt`) is that every actor in it was opened by this net. A worker takes an actor,
-//! gives it a turn and puts it back (`worker.rt`); if the actors are dealt out (`dealing.rt`) it gives each of its
-//! own a turn, round by round. What it does beside (`duties.rt`) comes before each turn and after each round: worker 0
-//! leads (`leader.rt`), it has the root, which it feeds (`feeding.rt`) and polls, and the stopper. Once all have ended
-//! (`joining.rt`) there is a last poll (`ending.rt`), and the actors are gathered (`gathering.rt`).
+//! The rule of the queue (`queue.rt`): this net opened every actor in it. A worker takes an actor, gives it a turn and
+//! puts it back (`worker.rt`); if the actors are partitioned (`dealing.rt`) it gives each of its own a turn, round by
+//! round. Its other duties (`duties.rt`) come before each turn and after each round: worker 0 leads (`leader.rt`), it
+//! has the root, which it feeds (`feeding.rt`) and polls, and the stopper. Once all workers have ended (`joining.rt`)
+//! there is a last poll (`ending.rt`), and the actors are gathered (`gathering.rt`).
 #![tactic(auto)]
 
 mod dealing;

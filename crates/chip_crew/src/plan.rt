@@ -17,20 +17,21 @@ pub const MAX_TURNS: u64 = 1 << 40;
 /// The most trace rows of each actor.
 pub const MAX_TRACE_ROWS: u64 = 1 << 20;
 
-/// Asked before each turn of each worker, by the worker's own thread, and told of the root's polls. It returns.
+/// The caller's control of a crew: each worker's thread calls it before each of its turns, worker 0's also after its
+/// polls. Each call returns.
 pub trait Gate {
     ghost use Rattle.std.specs.Prelude.{ℕ, Bool, ⊤};
 
-    // What is known if it answers so for a worker and one of its turns: nothing, unless the gate says more.
+    // What the result implies for a worker and one of its turns: nothing, unless the gate says more.
     ghost may_answer: { Self → ℕ → ℕ → Bool → Type 0 } = { λ _ _ _ _. ⊤ };
 
     /// Whether the worker may begin its turn of this number. Workers and turns are numbered from 0, and each worker
-    /// counts its own turns. If it may not, the whole crew ends.
+    /// counts its own turns. On false the whole crew ends.
     fn pass(&self, worker: u64, turn: u64) -> bool
         ensures { may_answer self.now worker turn result };
 
-    /// Told by worker 0, after its turn of this number, how many of the root's messages aren't acknowledged, if some
-    /// are not. What it does changes nothing of the crew's work.
+    /// Reports `deficit`, the number of the root's unacknowledged messages. Worker 0 calls it after a poll that finds
+    /// some, in its turn of this number. The call has no effect on the crew's work.
     fn polled(&self, turn: u64, deficit: u64)
         requires { 0 < deficit }
     {}
@@ -39,33 +40,33 @@ pub trait Gate {
 /// When worker 0 seals an edge.
 #[derive(Clone, Copy)]
 pub struct SealAt {
-    /// Before the turn of worker 0 that has this number, counted from 0. A turn that is never made seals nothing.
+    /// Before this turn of worker 0, counted from 0. A turn that is never made seals nothing.
     pub turn: u64,
-    /// The edge of the graph.
+    /// The number of the edge in the graph.
     pub edge: u64,
 }
 
 /// How the workers of a crew share its actors.
 #[derive(Clone, Copy)]
 pub enum Sharing {
-    /// All actors wait in one queue. Whoever takes one gives it a turn and puts it back.
+    /// All actors wait in one queue. A worker takes one, gives it a turn and puts it back.
     Queue,
-    /// Each worker has the actors of a run of vertices, and nobody else touches them.
+    /// Each worker owns the actors of a run of vertices.
     Dealt,
 }
 
-/// How a crew is to work.
+/// The plan of a crew's work.
 #[derive(Clone, Copy)]
 pub struct Plan {
-    /// How many threads share the actors, 1 to `MAX_WORKERS`.
+    /// The number of threads that share the actors, 1 to `MAX_WORKERS`.
     pub workers: u64,
-    /// How many cells the ring of each edge has, 1 to `MAX_RING`.
+    /// The number of cells in the ring of each edge, 1 to `MAX_RING`.
     pub ring: u64,
-    /// How many turns each worker makes at most, 1 to `MAX_TURNS`. In each it gives one actor a turn.
+    /// The most turns of each worker, 1 to `MAX_TURNS`. Each gives one actor a turn.
     pub turns: u64,
-    /// How many rows of its trace each actor has room for, up to `MAX_TRACE_ROWS`.
+    /// The number of rows in the trace of each actor, up to `MAX_TRACE_ROWS`.
     pub trace_rows: u64,
-    /// The edge that is sealed, if any.
+    /// The seal to make, if any.
     pub seal: Option<SealAt>,
 }
 
@@ -111,7 +112,7 @@ fn is_count(most: u64, count: u64) -> bool
     0 < count && count <= most
 }
 
-/// Whether each feed is of a vertex of the graph and of one chip or more.
+/// Whether each feed is of a vertex of the graph and of 1 chip or more.
 fn are_feeds(game: &Game, feeds: Option<&[(u64, u64)]>) -> bool
     ensures { result ≡ Rattle.chip_crew.specs.Plans.are_feeds game.now (pairs (option_copied feeds.entry)) }
 {

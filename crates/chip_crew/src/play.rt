@@ -1,4 +1,4 @@
-//! A game played by a crew, from its opening to its end.
+//! A crew's play of a game, from its opening to its end.
 
 ghost use Rattle.chip_crew.specs.Places.{HasNothing};
 ghost use Rattle.chip_crew.specs.Ledger.{got_turns, gave_turns};
@@ -34,10 +34,10 @@ use std::sync::Wait;
 use std::sync::atomic::AtomicBool;
 use std::thread::{self, Threads};
 
-/// How a game ended that a crew played.
+/// The result of a game that a crew played.
 #[derive(Drop)]
 pub struct Finished {
-    /// The counts, the chips and who halted.
+    /// The counts, the chips and the halted vertices.
     pub outcome: Outcome,
     /// The root's token, which has read the outcome.
     pub receipt: Receipt,
@@ -45,7 +45,7 @@ pub struct Finished {
     pub actors: Vec<Actor>,
 }
 
-/// Puts the actors into the queue, in their order. It has room for all of them.
+/// Puts the actors into the queue, in their order. The queue has room for all of them.
 fn fill<R: Wait, B: Crew>(rt: &R, queue: &Queue<B>, pass: &mut QueuePass, actors: Vec<Actor>)
     requires pass { IsPassOf queue.now pass.old }
     requires room { ruled_capacity queue.now ≡ B.asked.crew.net.setting.game.graph.vertices }
@@ -62,7 +62,8 @@ fn fill<R: Wait, B: Crew>(rt: &R, queue: &Queue<B>, pass: &mut QueuePass, actors
     }
 }
 
-/// What workers begin with that share a queue, each with a pass of its own, and where their actors come back to.
+/// The start of workers that share a queue: their shares, each with a pass of its own, and the place their actors come
+/// back to.
 fn passes<'q, B: Crew>(
     alloc: Global,
     queue: &'q Queue<B>,
@@ -90,7 +91,7 @@ fn passes<'q, B: Crew>(
     Ok((all, Back::Queue { queue, pass, row }))
 }
 
-/// Goes on in the place of worker 0, polls once more, and tells how it ended, once all workers have.
+/// Continues for worker 0 once all workers have ended, polls once more, and returns the result.
 fn end_play<R: Wait, B: Crew, G: Gate>(
     rt: &R,
     shared: &Shared<B, G>,
@@ -128,7 +129,7 @@ fn end_play<R: Wait, B: Crew, G: Gate>(
     }
 }
 
-/// All workers work until they have ended, and the actors come back.
+/// Runs all workers until they have ended, and gathers the actors.
 fn work_all<'a, R: Threads + Wait, B: Crew + Send + Sync, G: Gate + Sync>(
     rt: &R,
     alloc: Global,
@@ -158,7 +159,7 @@ fn work_all<'a, R: Threads + Wait, B: Crew + Send + Sync, G: Gate + Sync>(
     )
 }
 
-/// Plays with actors that are shared in this way: all of them are in a queue at the start, or they are dealt out.
+/// Plays with actors shared in this way: all start in a queue, or they are dealt out.
 fn play_shared<'a, R: Threads + Wait, B: Crew + Send + Sync, G: Gate + Sync>(
     rt: &R,
     alloc: Global,
@@ -188,7 +189,7 @@ fn play_shared<'a, R: Threads + Wait, B: Crew + Send + Sync, G: Gate + Sync>(
     }
 }
 
-/// Plays on a net that has just been opened, and feeds it.
+/// Plays on a net that has just opened, and feeds it.
 fn play_on<R: Threads + Wait, B: Crew + Send + Sync, G: Gate + Sync>(
     rt: &R,
     alloc: Global,
@@ -227,14 +228,14 @@ fn play_on<R: Threads + Wait, B: Crew + Send + Sync, G: Gate + Sync>(
     play_shared(rt, alloc, sharing, &shared, leader, actors)
 }
 
-/// Plays a game on a net of its own by as many threads as the plan says, which share its actors in this way, and feeds it
-/// if there are feeds: a vertex and a count of chips for it each.
+/// Plays a game on a net of its own, with the plan's number of threads, which share its actors in this way. Each of
+/// `feeds` is a vertex and a number of chips for it.
 ///
-/// Worker 0 polls the root after each of its rounds and ends the others' work once it is closed. With a queue each turn is
-/// a round. If the actors are dealt out, a round is one turn of each actor that worker 0 has. Before each of its turns
-/// worker 0 makes the next feed, if the cell for its message is empty, and after the last one it notes that no more
-/// come. When all workers have ended, the calling thread polls once more and finishes. Without a seal the game ends as the
-/// one that has all these chips at the start. All threads are joined, whatever happens.
+/// Worker 0 polls the root after each of its rounds, and stops the others once it is closed. With a queue each turn is
+/// a round; if the actors are dealt out, a round is one turn of each of worker 0's actors. Before each of its turns
+/// worker 0 makes the next feed, if the cell for its message is empty; after the last feed it notes the end of feeding.
+/// When all workers have ended, the calling thread polls once more and finishes. Without a seal, the result is that of
+/// the game with all these chips at the start. All threads are joined on every path.
 pub fn run_with<R: Threads + Wait, G: Gate + Sync>(
     rt: &R,
     alloc: Global,
@@ -253,7 +254,7 @@ pub fn run_with<R: Threads + Wait, G: Gate + Sync>(
     play_on::<R, Brand, G>(rt, alloc, opened, feeds, &plan, sharing, gate)
 }
 
-/// Does what `run_with` does with a queue if nothing is fed.
+/// Plays as `run_with` does with a queue and without feeds.
 pub fn run<R: Threads + Wait, G: Gate + Sync>(
     rt: &R,
     alloc: Global,
@@ -264,13 +265,13 @@ pub fn run<R: Threads + Wait, G: Gate + Sync>(
     ensures finished { IfOk result (IsFinished shares.Queue game.now None plan) }
     ensures fault { IfErr result (IsFaultOf shares.Queue game.now None plan (G.may_answer gate.now)) }
 {
-    // (a plan that is refused is refused before memory is asked for)
+    // (refuses a bad plan before it takes memory)
     plan.ring_for(game, None)?;
     let game = game.copy(alloc)?;
     run_with(rt, alloc, game, plan, Sharing::Queue, None, gate)
 }
 
-/// Does what `run_with` does with a queue if there are feeds.
+/// Plays as `run_with` does with a queue and feeds.
 pub fn run_fed<R: Threads + Wait, G: Gate + Sync>(
     rt: &R,
     alloc: Global,

@@ -6,7 +6,7 @@ use crossbeam_queue::{Pass, RuledArrayQueue};
 use std::collections::LinkedList;
 use std::marker::{Brand, PhantomData};
 
-/// What a crew was asked to do. Proofs alone know it.
+/// The task of a crew. Only proofs know it.
 pub(crate) trait Crew {
     ghost use Rattle.chip_crew.specs.Asked.{Asked};
 
@@ -19,20 +19,20 @@ impl Crew for Brand {
     ghost asked = { none_asked };
 }
 
-/// What a thread did at the queue, and what it has. No value of it is made.
+/// The ghost record of a thread's use of the queue, and what it has. No value of it exists.
 pub(crate) struct Ledger {
-    /// For how many workers it speaks. All of them together speak for the workers of the crew.
+    /// The number of workers that it speaks for. All ledgers together speak for the workers of the crew.
     pub workers: u64,
     /// The vertices whose actors the thread has.
     pub has: LinkedList<u64>,
     /// The actors that it took from the queue, in their order.
     pub taken: LinkedList<Actor>,
-    /// Those that it put there, in their order.
+    /// The actors that it put there, in their order.
     pub put: LinkedList<Actor>,
 }
 
-/// The rule: every actor in the queue was opened by this net, and the actor of each vertex is in one place, in the queue
-/// or with one thread.
+/// The rule: this net opened every actor in the queue, and the actor of each vertex is in one place, in the queue or
+/// with one thread.
 pub(crate) struct Owned<B> {
     of: PhantomData<B>,
 }
@@ -46,8 +46,8 @@ impl<B: Crew> Protocol<Actor, Ledger> for Owned<B> {
     ghost first = { first_ledger B.asked.crew };
 }
 
-/// An actor comes out: it was opened by this net, the thread had not all of them, and the ledger has it as taken. If
-/// none comes, what the thread has is all that there is, if it speaks for all workers.
+/// Takes an actor out: this net opened it, the thread did not have all actors, and the ledger counts it as taken. If
+/// none comes out and the thread speaks for all workers, it has all actors.
 pub(crate) struct Popped<B> {
     of: PhantomData<B>,
 }
@@ -67,8 +67,8 @@ impl<B: Crew> Lesson<Actor, Ledger> for Popped<B> {
     ghost fact = { AreAllThere B.asked.crew };
 }
 
-/// An actor goes in, the first of those that the thread has: it was opened by this net, and the ledger has it as put.
-/// If it finds no place, the thread has nothing.
+/// Puts an actor in, the first of the thread's: this net opened it, and the ledger counts it as put. If there is no
+/// place for it, the thread has nothing.
 pub(crate) struct Pushed<B> {
     of: PhantomData<B>,
 }
@@ -87,7 +87,7 @@ impl<B: Crew> Lesson<Actor, Ledger> for Pushed<B> {
     ghost fact = { HaveRoom B.asked.crew };
 }
 
-/// A worker gets a ledger of its own, and the calling thread speaks for one worker less. When the worker has ended, it
+/// Gives a worker a ledger of its own; the calling thread then speaks for one worker less. A worker that has ended
 /// gives its ledger back.
 pub(crate) struct SplitLedger;
 
@@ -110,5 +110,5 @@ impl Join<Ledger> for SplitLedger {
 /// The queue of the actors that no worker has at the moment.
 pub(crate) type Queue<B> = RuledArrayQueue<Actor, Ledger, Owned<B>>;
 
-/// A thread's right to use the queue. Proofs alone know its ledger.
+/// A thread's right to use the queue. Only proofs know its ledger.
 pub(crate) type QueuePass = Pass<Actor, Ledger>;

@@ -1,4 +1,4 @@
-//! What all workers share.
+//! The data that all workers share.
 
 use crate::plan::{Gate, Plan};
 use crate::queue::Crew;
@@ -6,16 +6,16 @@ use chip_net::Net;
 use std::marker::{Model, PhantomData};
 use std::sync::atomic::AtomicBool;
 
-/// What all workers share.
+/// The data that all workers share.
 #[derive(Drop)]
 pub(crate) struct Shared<'a, B: Crew, G: Gate> {
     /// The net.
     pub net: &'a Net,
-    /// Whether the workers are told to stop.
+    /// Whether the workers should stop.
     pub stop: &'a AtomicBool,
     /// The gate.
     pub gate: &'a G,
-    /// What the crew is to do.
+    /// The crew's plan.
     pub plan: &'a Plan,
     pub of: PhantomData<B>,
 }

@@ -1,4 +1,4 @@
-//! What each worker does.
+//! The work of each worker.
 
 ghost use Rattle.std.specs.Prelude.{◌≡◌, ◌+◌, ◌%◌, ◌<◌, ◌≤◌, IfSome, length, max};
 ghost use Rattle.crossbeam_queue.specs.Passes.{view, IsPassOf};
@@ -19,20 +19,20 @@ use std::thread;
 /// A worker's share of the actors.
 #[derive(Drop)]
 pub(crate) enum Share<'a, B: Crew> {
-    /// Those that it takes from the queue.
+    /// The actors that it takes from the queue.
     Queue {
         queue: &'a Queue<B>,
-        /// Its pass of the queue, which has what it took from there and put there.
+        /// Its pass of the queue, with what it took from there and put there.
         pass: QueuePass,
         /// The actor that it couldn't put back.
         kept: Option<Actor>,
     },
-    /// Those that were dealt to it, ascending. Nobody else has one of them.
+    /// The actors dealt to it, ascending. No other worker has one of them.
     Dealt(Vec<Actor>),
 }
 
 impl<'a, B: Crew> Share<'a, B> {
-    /// How many turns make a round: one, or one for each actor that was dealt to the worker.
+    /// The number of turns in a round: one with a queue, else one for each of the worker's actors, at least 1.
     pub fn round(&self) -> u64
         ensures { result ≡ round_of self.now }
     {
@@ -43,26 +43,26 @@ impl<'a, B: Crew> Share<'a, B> {
     }
 }
 
-/// A worker before it begins. As one value it goes to its thread.
+/// A worker before it starts: one value, which moves to its thread.
 #[derive(Drop)]
 pub(crate) struct Worker<'a, B: Crew, G: Gate, D> {
     pub shared: &'a Shared<'a, B, G>,
     /// Its number.
     pub number: u64,
     pub share: Share<'a, B>,
-    /// What it does beside the turns of its actors.
+    /// Its duties besides the turns of its actors.
     pub duties: D,
 }
 
 /// What a worker gives back.
 #[derive(Drop)]
 pub(crate) struct WorkerResult<'a, B: Crew, D> {
-    /// With the actors that it has, if any.
+    /// Its actors, if any.
     pub share: Share<'a, B>,
     pub duties: D,
-    /// Whether its gate never answered false.
+    /// Whether its gate never returned false.
     pub passed: bool,
-    /// How many turns it made.
+    /// The number of turns that it made.
     pub turns: u64,
 }
 
@@ -82,7 +82,7 @@ fn next_actor<B: Crew>(queue: &Queue<B>, pass: &mut QueuePass, kept: Option<Acto
     }
 }
 
-/// Counts a turn in vain. The worker yields after more of them in a row than there are actors.
+/// Counts an idle turn. The worker yields after more idle turns in a row than there are actors.
 fn count_in_vain(in_vain: &mut usize, actors: usize) {
     if *in_vain < actors {
         *in_vain += 1;
@@ -92,8 +92,8 @@ fn count_in_vain(in_vain: &mut usize, actors: usize) {
     }
 }
 
-/// Takes an actor, gives it a turn and puts it back. An actor that was kept has its turn in place of one from the
-/// queue, and one that can't be put back is kept. The turns in vain before it in a row are counted on.
+/// Takes an actor, gives it a turn and puts it back. A kept actor has its turn instead of one from the queue, and one
+/// that can't be put back is kept. `in_vain` is the number of idle turns in a row before.
 #[inline(never)]
 fn turn_by_queue<B: Crew>(
     net: &Net,
@@ -125,7 +125,7 @@ fn turn_by_queue<B: Crew>(
 }
 
 impl<'a, B: Crew, G: Gate> Shared<'a, B, G> {
-    /// Begins a turn of a worker, if its gate lets it pass. Else all are told to stop.
+    /// Begins a turn of a worker, if its gate accepts it. Else it stops all workers.
     #[inline(always)]
     fn begin<D: Duties>(&self, worker: u64, turn: u64, duties: &mut D) -> bool
         requires turn { turn < B.asked.plan.turns }
@@ -143,9 +143,9 @@ impl<'a, B: Crew, G: Gate> Shared<'a, B, G> {
         true
     }
 
-    /// The turns of a round of a worker with actors of its own, one of each actor, and one if it has none: at most
-    /// `most`, from the number `first` on, and fewer if the gate answers no. It tells how many were made, and yields if
-    /// no actor had anything to do.
+    /// Makes the turns of a round of a worker with actors of its own: one of each actor, and one if it has none; at
+    /// most `most`, from the number `first` on, and fewer if the gate returns false. Returns the number of turns made,
+    /// and yields if no actor had anything to do.
     #[inline(always)]
     fn turn_each<D: Duties>(
         &self,
@@ -167,7 +167,7 @@ impl<'a, B: Crew, G: Gate> Shared<'a, B, G> {
         ensures goes_on { D.goes_on duties.new }
         ensures done { BeginsEach D.before first result duties.old duties.new }
     {
-        // Read once: behind an atomic operation it would be read again.
+        // (read once: after an atomic operation it would be read again)
         let net = self.net;
         let mut is_idle = true;
         for place in 0..most {
@@ -185,8 +185,8 @@ impl<'a, B: Crew, G: Gate> Shared<'a, B, G> {
         most
     }
 
-    /// The turns of a round of a worker, from the number `first` on: at most `most`, and fewer if the gate answers no.
-    /// It tells how many were made. With a queue the turns in vain before them in a row are counted on.
+    /// Makes the turns of a round of a worker, from the number `first` on: at most `most`, and fewer if the gate
+    /// returns false. Returns the number of turns made. With a queue it counts on the idle turns in a row before.
     #[inline(always)]
     fn round<D: Duties>(
         &self,
@@ -223,7 +223,7 @@ impl<'a, B: Crew, G: Gate> Shared<'a, B, G> {
 }
 
 impl<'a, B: Crew, G: Gate, D: Duties> Worker<'a, B, G, D> {
-    /// Makes its turns, round by round, until it is told to stop.
+    /// Makes its turns, round by round, until it is to stop.
     pub fn work(self) -> WorkerResult<'a, B, D>
         requires made { HasMade B.asked self.number 0 self.share }
         requires can { D.can B.asked.crew.net self.duties }
@@ -240,13 +240,13 @@ impl<'a, B: Crew, G: Gate, D: Duties> Worker<'a, B, G, D> {
         let mut turns = 0;
         let mut in_vain = 0;
         let mut passed = true;
-        // The worker that told it to stop gives the reason back.
+        // The worker that ordered the stop returns the reason.
         while turns < shared.plan.turns && !shared.stop.load(SeqCst) {
             let most = round.min(shared.plan.turns - turns);
             let made = shared.round(number, turns, most, &mut share, &mut duties, &mut in_vain);
             turns += made;
             if made < round {
-                // The gate answered no, or the plan gives no more turns.
+                // The gate returned false, or the plan's turns are used up.
                 passed = made == most;
                 break;
             }

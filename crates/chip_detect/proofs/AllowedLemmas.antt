@@ -1,5 +1,5 @@
 -- Serves Acknowledging.antt.
--- What the rule of acknowledging says, over plain arguments.
+-- The rule of acknowledging, over plain arguments.
 use Rattle.std.proofs.Common.{◌≡◌, ◌≢◌, ℕ, ◌-◌, ◌<◌, ◌≤◌, Bool, true, false, Option, Some, None, refl, subst, inl, inr}
 use Rattle.std.proofs.Common.{arith}
 use Rattle.std.proofs.lemmas.Bool.Decides.{nat_tests, eqb_tells}
@@ -28,7 +28,7 @@ pub one_is_kept : (e here all waiting : ℕ) (passive : Bool) → here ≡ 1 →
 one_is_kept e here all waiting true one undone = grind (arith, nat_tests, undone refl)
 one_is_kept e here all waiting false one undone = grind (arith, nat_tests)
 
--- a parent that stays is owed something, and is the one that was there
+-- a parent that stays is owed something, and is unchanged
 pub stays_owed : (parent : Option ℕ) (owes : ℕ → ℕ) (p : ℕ) → parent_while_owed parent owes ≡ Some p
     → (parent ≡ Some p) × (0 < owes p)
 stays_owed None owes p same = cc

@@ -27,7 +27,7 @@ contained (u ∷ us) v = dite (ℕ_discrete v u)
     (λ ne. ⊎_elim (λ m. inl (contains_later u us v m)) (λ out. inr (λ z. ⊎_elim ne out (contains_cases u us v z)))
     (contained us v))
 
--- how many elements there are from the first v on, 0 if there is none
+-- the number of elements from the first v on, 0 if there is none
 unfoldable pub place_in : List ℕ → ℕ → ℕ
 place_in [] v = 0
 place_in (u ∷ us) v = cond (eqb v u) (suc (length us)) (place_in us v)

@@ -28,7 +28,7 @@ not_in_front x xs i up in_range same = omega (arith, up 0 (suc i) (omega arith) 
 pub slot_among : (xs : List ℕ) (slot : Slot) → IsSlotOf xs slot → Contains xs slot.edge
 slot_among xs slot is = (slot.index, is.within, sym (get_or_default xs slot.index 0 slot.edge is.within) ∙ is.edge)
 
--- where an edge stands, its look-up reads the tally there
+-- the look-up of an edge reads the tally at its index
 pub look_at : (f : Tally → ℕ) (ts : List Tally) (i : ℕ) (d : Tally) → Ascends (edges_of ts) → i < length ts
     → look f ts (get_or (edges_of ts) i 0) ≡ f (get_or ts i d)
 look_at f [] i d up in_range = absurd (omega arith)
@@ -38,7 +38,7 @@ look_at f (t ∷ ts) (suc i) d up in_range =
     let rest = look_at f ts i d (ascends_tail t.edge (edges_of ts) up) (omega arith) in
     grind (arith, nat_tests)
 
--- a tally that is written changes the look-up of its edge alone
+-- writing a tally changes only the look-up of its edge
 pub look_set : (f : Tally → ℕ) (ts : List Tally) (i : ℕ) (u : Tally) (e : ℕ) → Ascends (edges_of ts) → i < length ts
     → u.edge ≡ get_or (edges_of ts) i 0 → look f (set ts i u) e ≡ (if eqb u.edge e then f u else look f ts e)
 look_set f [] i u e up in_range same = absurd (omega arith)

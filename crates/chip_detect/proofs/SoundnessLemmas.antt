@@ -86,7 +86,7 @@ module _ (old new : Books) (e : ℕ) (sound : IsSound old) (on : Contains (in_ed
   more_owed : (i : ℕ) → owed new i ≡ (if eqb e i then owed old i + 1 else owed old i)
   more_owed = message_opens old.ins new.ins e sound.ins change.ins
 
-  -- the parent is the one that was there, or the edge of the message
+  -- the parent is unchanged, or the edge of the message
   owes : (parent : Option ℕ) → old.parent ≡ parent → (p : ℕ) → or_else parent e ≡ Some p → 0 < owed new p
   owes None was p is = let same : e ≡ p = cc in grind (arith, nat_tests, more_owed p)
   owes (Some q) was p is = let same : q ≡ p = cc in grind (arith, nat_tests, more_owed p, sound.engaged p (was ∙ is))
@@ -103,7 +103,7 @@ module _ (old new : Books) (e : ℕ) (sound : IsSound old) (on : Contains (in_ed
     neutral = λ is. absurd (never_neutral old.parent (sym change.parent ∙ is));
   }
 
--- a step that leaves the edges into the vertex and its parent alone
+-- a step that leaves the edges into the vertex and its parent
 out_step_keeps : (old new : Books) → IsSound old → AreTallies new.outs → new.ins ≡ old.ins → new.parent ≡ old.parent
     → IsSound new
 out_step_keeps old new sound outs ins parent = record {

@@ -1,5 +1,5 @@
--- What one vertex knows of the detection of termination, in the words of Dijkstra and Scholten's
--- paper on diffusing computations (1980).
+-- One vertex's state of the detection of termination, in the terms of Dijkstra and Scholten's paper on diffusing
+-- computations (1980).
 use Rattle.std.specs.Prelude.{◌≡◌, ℕ, ◌-◌, ◌<◌, Bool, List, Option, Some, None, is_some, sum_by}
 use Rattle.chip_detect.specs.Tally.{Tally, AreTallies, AreFresh, edges_of, messages_on, answered_on}
 
@@ -17,19 +17,19 @@ in_edges b = edges_of b.ins
 abbrev pub out_edges : Books → List ℕ
 out_edges b = edges_of b.outs
 
--- how many messages the vertex got on an edge into it
+-- the number of messages the vertex got on an edge into it
 abbrev pub got_of : Books → ℕ → ℕ
 got_of b = messages_on b.ins
 
--- how many of these it acknowledged
+-- the number of these that it acknowledged
 abbrev pub acked_of : Books → ℕ → ℕ
 acked_of b = answered_on b.ins
 
--- how many messages it sent on an edge out of it
+-- the number of messages it sent on an edge out of it
 abbrev pub sent_of : Books → ℕ → ℕ
 sent_of b = messages_on b.outs
 
--- of how many of these it has settled the acknowledgement
+-- the number of these whose acknowledgement it has settled
 abbrev pub settled_of : Books → ℕ → ℕ
 settled_of b = answered_on b.outs
 
@@ -53,7 +53,7 @@ deficit b = sum_by (outstanding b) (out_edges b)
 abbrev pub is_engaged : Books → Bool
 is_engaged b = is_some b.parent
 
--- what is always true: an engaged vertex owes something on its parent edge, a neutral one nothing
+-- the invariant: an engaged vertex owes something on its parent edge, a neutral one nothing
 pub record IsSound (b : Books) : Type 0 where
   pub ins : AreTallies b.ins
   pub outs : AreTallies b.outs

@@ -1,12 +1,12 @@
--- What a step changes in the tallies of one side of a vertex, edge number by edge number.
+-- The change that a step makes to the tallies of one side of a vertex, edge by edge.
 use Rattle.std.specs.Prelude.{◌≡◌, ℕ, ◌+◌, ◌==◌, if◌then◌else◌, List}
 use Rattle.chip_detect.specs.Tally.{Tally, edges_of, messages_on, answered_on}
 
--- every edge has what it had
+-- every edge is unchanged
 abbrev pub Same : (ℕ → ℕ) → (ℕ → ℕ) → Type 0
 Same old new = (e : ℕ) → new e ≡ old e
 
--- the edge has `more` more, and every other edge what it had
+-- the edge has `more` more, and every other edge is unchanged
 abbrev pub Adds : (ℕ → ℕ) → (ℕ → ℕ) → ℕ → ℕ → Type 0
 Adds old new edge more = (e : ℕ) → new e ≡ (if edge == e then old e + more else old e)
 

@@ -1,4 +1,4 @@
--- What the rules of the books come to.
+-- What follows from the rules of the books.
 use Rattle.std.specs.Prelude.{◌≡◌, ℕ, ◌<◌, ◌≤◌, Bool, true, false, ◌&&◌, ◌==◌, if◌then◌else◌, Some, None}
 use Rattle.chip_detect.specs.Books.{Books, IsSound, owed, all_owed, deficit, is_engaged}
 use Rattle.chip_detect.specs.Acknowledging.{is_parent, may_ack}
@@ -10,8 +10,8 @@ StepsKeepSoundness =
     (old new : Books) (s : Step) →
     IsSound old → MayBeMade old s → Makes old s new → IsSound new
 
--- the step acknowledged on the parent edge a count that a passive vertex may and an active one may
--- not, and nothing at all is left
+-- the step acknowledged on the parent edge a count that a passive vertex may and an active one may not, and nothing at
+-- all is left
 pub record IsLastAcknowledgement (old new : Books) (s : Step) : Type 0 where
   pub edge : ℕ
   pub count : ℕ

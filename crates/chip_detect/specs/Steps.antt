@@ -1,12 +1,11 @@
--- The steps of a vertex that its books note: when each may be made, and what it changes. All else
--- stays as it is.
+-- The steps of a vertex that its books note: when each is enabled, and what it changes. All else is unchanged.
 use Rattle.std.specs.Prelude.{◌≡◌, ℕ, ◌-◌, ◌<◌, ◌≤◌, true, Contains}
 use Rattle.chip_detect.specs.Tally.{message_limit}
 use Rattle.chip_detect.specs.Books.{Books, in_edges, out_edges, got_of, sent_of, settled_of, owed}
 use Rattle.chip_detect.specs.Acknowledging.{or_else, parent_while_owed, may_ack}
 use Rattle.chip_detect.specs.Change.{AddsMessage, AddsAnswers}
 
--- `Settled` has the number of messages of the edge that its head acknowledged from the beginning on
+-- `Settled` has the number of messages of the edge that its head has acknowledged in all
 pub data Step : Type 0 where
   Got : ℕ → Step
   Acked : ℕ → ℕ → Step
@@ -37,7 +36,7 @@ pub record Settles (old new : Books) (edge count : ℕ) : Type 0 where
   pub outs : AddsAnswers old.outs new.outs edge count
   pub parent : new.parent ≡ old.parent
 
--- the step may be made here
+-- the step is enabled here
 abbrev pub MayBeMade : Books → Step → Type 0
 MayBeMade b (Got e) = Contains (in_edges b) e × (got_of b e < message_limit)
 MayBeMade b (Acked e n) = Contains (in_edges b) e × (n ≤ may_ack b e true)
@@ -45,7 +44,7 @@ MayBeMade b (Sent e) = Contains (out_edges b) e × (sent_of b e < message_limit)
 MayBeMade b (Settled e word) =
     Contains (out_edges b) e × (settled_of b e ≤ word) × (word ≤ sent_of b e)
 
--- the step makes the new books of the old ones
+-- the step leads from the old books to the new ones
 abbrev pub Makes : Books → Step → Books → Type 0
 Makes old (Got e) new = Gets old new e
 Makes old (Acked e n) new = Acknowledges old new e n

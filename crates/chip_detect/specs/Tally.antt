@@ -1,6 +1,6 @@
--- Tallies of edges: how many messages there were on each edge, and how many of them are answered.
--- On an edge into a vertex a message is answered by the vertex's own acknowledgement, on an edge
--- out of it by one that the vertex has settled. What isn't answered is open.
+-- Tallies of edges: the number of messages on each edge, and the number of answered ones. On an edge into a vertex a
+-- message is answered by the vertex's own acknowledgement, on an edge out of it by one that the vertex has settled.
+-- Other messages are open.
 use Rattle.std.specs.Prelude.{◌≡◌, ℕ, ◌+◌, ◌-◌, ◌^◌, ◌≤◌, ◌==◌, if◌then◌else◌, List, [], ◌∷◌, length, map, sum_by, get_or}
 use Rattle.std.specs.Prelude.{Contains}
 use Rattle.std.specs.List.Sorted.{IsStrictlyIncreasing}
@@ -27,30 +27,30 @@ abbrev pub look : (Tally → ℕ) → List Tally → ℕ → ℕ
 look f [] e = 0
 look f (t ∷ ts) e = if t.edge == e then f t else look f ts e
 
--- how many messages there were on an edge
+-- the number of messages on an edge
 abbrev pub messages_on : List Tally → ℕ → ℕ
 messages_on ts = look (λ t. t.messages) ts
 
--- how many of them are answered
+-- the number of answered messages on an edge
 abbrev pub answered_on : List Tally → ℕ → ℕ
 answered_on ts = look (λ t. t.answered) ts
 
--- how many of them are still open
+-- the number of open messages on an edge
 abbrev pub open_on : List Tally → ℕ → ℕ
 open_on ts e = messages_on ts e - answered_on ts e
 
--- how many are open on all edges together
+-- the number of open messages on all edges together
 abbrev pub all_open : List Tally → ℕ
 all_open ts = sum_by (open_on ts) (edges_of ts)
 
--- each edge has one tally, within the limits, and no more is answered than there was
+-- each edge has one tally, within the limits, and no more messages are answered than there were
 pub record AreTallies (ts : List Tally) : Type 0 where
   pub ascending : IsStrictlyIncreasing (edges_of ts)
   pub few : length (edges_of ts) ≤ edge_limit
   pub within : (e : ℕ) → messages_on ts e ≤ message_limit
   pub answered : (e : ℕ) → answered_on ts e ≤ messages_on ts e
 
--- the edges of a given list, whatever its order and however often it names each
+-- the edges of a given list, in any order and with repetitions
 pub record AreEdgesOf (given edges : List ℕ) : Type 0 where
   pub all : (e : ℕ) → Contains given e → Contains edges e
   pub none_else : (e : ℕ) → Contains edges e → Contains given e

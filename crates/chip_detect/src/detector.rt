@@ -6,17 +6,16 @@ use crate::tallies::Tallies;
 use std::alloc::{AllocError, Global};
 use std::marker::Model;
 
-/// What one vertex knows of the detection. The root needs none: no edge leads to it, so no message ever engages it.
+/// One vertex's state of the detection. The root needs none: no edge leads to it, so no message ever engages it.
 ///
-/// Contracts see it as plain books: for each edge into the vertex how many messages were got and acknowledged, for each
-/// edge out of it how many were sent and settled, and the parent edge. A call finds an edge by binary search. If the
-/// caller goes through the edges in ascending order, it knows the slot of each, and the calls whose names end in `_at`
-/// search nothing. Only `new` takes memory.
+/// Contracts see it as plain books: the numbers of messages got and acknowledged on each edge into the vertex, of those
+/// sent and settled on each edge out of it, and the parent edge. A call finds an edge by binary search; calls whose
+/// names end in `_at` get its slot and search nothing. Only `new` allocates.
 #[derive(Drop)]
 pub struct Detect {
     /// The vertex owes an acknowledgement for each open message here.
     ins: Tallies,
-    /// It waits for the acknowledgement of each open message here.
+    /// The vertex waits for the acknowledgement of each open message here.
     outs: Tallies,
     /// The edge of the message that engaged the vertex, until that message is acknowledged.
     parent: Option<u64>,
@@ -40,8 +39,8 @@ impl Detect {
     ghost use Rattle.chip_detect.specs.Steps.{Gets, Acknowledges, Sends, Settles};
     ghost use Rattle.chip_detect.specs.Slot.{IsSlotOf};
 
-    /// The books of a neutral vertex with these edges into it and out of it, on which nothing was got or sent yet. The
-    /// lists may be in any order, and name an edge more than once.
+    /// The books of a neutral vertex with these edges into it and out of it, and no message yet. The lists may be in
+    /// any order and repeat an edge. Fails only without memory.
     pub fn new(alloc: Global, ins: &[u64], outs: &[u64]) -> Result<Self, AllocError>
         requires few_ins { length ins.now ≤ edge_limit }
         requires few_outs { length outs.now ≤ edge_limit }
@@ -55,7 +54,7 @@ impl Detect {
         })
     }
 
-    /// Notes a message that came on the edge.
+    /// Notes that a message of the edge was received.
     pub fn got(&mut self, edge: u64)
         requires into { Contains (in_edges self.old) edge }
         requires room { got_of self.old edge < message_limit }
@@ -66,7 +65,7 @@ impl Detect {
         self.got_at(slot);
     }
 
-    /// Notes a message that came on the edge into the vertex at this slot.
+    /// Notes that a message was received on the edge into the vertex at this slot.
     pub fn got_at(&mut self, slot: Slot)
         requires slot { IsSlotOf (in_edges self.old) slot }
         requires room { got_of self.old slot.edge < message_limit }
@@ -79,7 +78,7 @@ impl Detect {
         }
     }
 
-    /// How many messages of the edge may be acknowledged now; `passive` says whether the vertex is.
+    /// The number of messages of the edge that may be acknowledged now; `passive` says whether the vertex is passive.
     pub fn may_ack(&self, edge: u64, passive: bool) -> u64
         requires { Contains (in_edges self.now) edge }
         ensures { result ≡ may_ack self.now edge passive }
@@ -87,21 +86,21 @@ impl Detect {
         self.may_ack_at(self.ins.slot_of(edge), passive)
     }
 
-    /// How many messages of the edge into the vertex at this slot may be acknowledged now.
+    /// The number of messages of the edge into the vertex at this slot that may be acknowledged now.
     pub fn may_ack_at(&self, slot: Slot, passive: bool) -> u64
         requires { IsSlotOf (in_edges self.now) slot }
         ensures { result ≡ may_ack self.now slot.edge passive }
     {
         let owed = self.ins.open_at(slot);
-        // (mostly nothing is owed on an edge, and then no parent is looked at: a turn asks for each edge)
+        // (mostly nothing is owed on an edge, and then the parent is not read: a turn calls this for each edge)
         if owed == 0 || self.parent != Some(slot.edge) {
             return owed;
         }
         may_ack_on_parent(owed, self.ins.all_open(), self.deficit(), passive)
     }
 
-    /// Whether the vertex owes only the message that engaged it, and may not acknowledge it yet. `passive` says whether
-    /// it is passive.
+    /// Whether the vertex owes only the message that engaged it and may not acknowledge it yet. `passive` says whether
+    /// the vertex is passive.
     pub fn keeps_last(&self, passive: bool) -> bool
         ensures value { result ≡ keeps_last self.now passive }
         ensures none { IsTrue result → (p : ℕ) → self.now.parent ≡ Some p → may_ack self.now p passive ≡ 0 }
@@ -133,7 +132,7 @@ impl Detect {
         }
     }
 
-    /// Notes a message that was sent on the edge.
+    /// Notes that a message was sent on the edge.
     pub fn sent(&mut self, edge: u64)
         requires out { Contains (out_edges self.old) edge }
         requires room { sent_of self.old edge < message_limit }
@@ -144,7 +143,7 @@ impl Detect {
         self.sent_at(slot);
     }
 
-    /// Notes a message that was sent on the edge out of the vertex at this slot.
+    /// Notes that a message was sent on the edge out of the vertex at this slot.
     pub fn sent_at(&mut self, slot: Slot)
         requires slot { IsSlotOf (out_edges self.old) slot }
         requires room { sent_of self.old slot.edge < message_limit }
@@ -154,7 +153,7 @@ impl Detect {
         self.outs.add_message_at(slot);
     }
 
-    /// Notes that the edge's head acknowledged `word` messages so far, and answers how many of these are new.
+    /// Notes that the edge's head has acknowledged `word` messages in all; returns the number of new acknowledgements.
     pub fn settled(&mut self, edge: u64, word: u64) -> u64
         requires out { Contains (out_edges self.old) edge }
         requires no_fewer { settled_of self.old edge ≤ word }
@@ -167,7 +166,8 @@ impl Detect {
         self.settled_at(slot, word)
     }
 
-    /// Notes the same of the edge out of the vertex at this slot.
+    /// Notes that the head of the edge out of the vertex at this slot has acknowledged `word` messages in all; returns
+    /// the number of new acknowledgements.
     pub fn settled_at(&mut self, slot: Slot, word: u64) -> u64
         requires slot { IsSlotOf (out_edges self.old) slot }
         requires no_fewer { settled_of self.old slot.edge ≤ word }
@@ -177,14 +177,14 @@ impl Detect {
         ensures sound { IsSound self.new }
     {
         let more = word - self.outs.answered_at(slot);
-        // (mostly nothing is new, and then nothing is written: a turn looks at each edge)
+        // (mostly nothing is new, and then nothing is written: a turn reads each edge)
         if more > 0 {
             self.outs.add_answers_at(slot, more);
         }
         more
     }
 
-    /// How many acknowledgements of the edge out of the vertex at this slot are settled so far.
+    /// The number of settled acknowledgements of the edge out of the vertex at this slot.
     pub fn settled_so_far(&self, slot: Slot) -> u64
         requires { IsSlotOf (out_edges self.now) slot }
         ensures count { result ≡ settled_of self.now slot.edge }
@@ -193,14 +193,14 @@ impl Detect {
         self.outs.answered_at(slot)
     }
 
-    /// How many acknowledgements the vertex waits for, in constant time.
+    /// The number of acknowledgements that the vertex waits for, in constant time.
     pub fn deficit(&self) -> u64
         ensures { result ≡ deficit self.now }
     {
         self.outs.all_open()
     }
 
-    /// How many acknowledgements the vertex owes on the edge.
+    /// The number of acknowledgements that the vertex owes on the edge.
     pub fn owed(&self, edge: u64) -> u64
         requires { Contains (in_edges self.now) edge }
         ensures { result ≡ owed self.now edge }
@@ -208,7 +208,7 @@ impl Detect {
         self.owed_at(self.ins.slot_of(edge))
     }
 
-    /// How many acknowledgements the vertex owes on the edge at this slot of those into it.
+    /// The number of acknowledgements that the vertex owes on the edge into it at this slot.
     pub fn owed_at(&self, slot: Slot) -> u64
         requires { IsSlotOf (in_edges self.now) slot }
         ensures { result ≡ owed self.now slot.edge }
@@ -232,8 +232,8 @@ impl Detect {
     }
 }
 
-/// How many messages a vertex may acknowledge on its parent edge, if it owes `owed` messages there. It keeps the one
-/// that engaged it until it is done but for these: it owes nothing elsewhere, is passive and has no deficit.
+/// The number of messages that a vertex may acknowledge on its parent edge, if it owes `owed` messages there. It keeps
+/// the one that engaged it until it owes nothing elsewhere, is passive and has no deficit.
 pub fn may_ack_on_parent(owed: u64, all_owed: u64, deficit: u64, passive: bool) -> u64
     requires { 0 < owed }
     ensures { result ≡ (if is_done owed all_owed deficit passive then owed else owed - 1) }

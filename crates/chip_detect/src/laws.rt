@@ -1,9 +1,9 @@
-//! What follows from the rules of the books, for every vertex and every step.
+//! Theorems that follow from the rules of the books, for every vertex and every step.
 ghost use Rattle.chip_detect.specs.Laws.{StepsKeepSoundness, NeutralOnlyWhenDone, NoMoreThanOwed, ParentGoesWithAll};
 ghost use Rattle.chip_detect.specs.Worked.{SlotOfTheLast, BooksAcknowledgeLast, TwoOnTheParentEdge};
 
-/// Every step keeps the books sound: an engaged vertex owes something on its parent edge, and a
-/// neutral one owes nothing.
+/// Every step keeps the books sound: an engaged vertex owes something on its parent edge, and a neutral one owes
+/// nothing.
 pub fn soundness()
     ensures { StepsKeepSoundness }
 {}
@@ -13,7 +13,7 @@ pub fn last_acknowledgement()
     ensures { NeutralOnlyWhenDone }
 {}
 
-/// Acknowledgements never outnumber what is owed.
+/// Acknowledgements never outnumber the messages owed.
 pub fn no_more_than_owed()
     ensures { NoMoreThanOwed }
 {}

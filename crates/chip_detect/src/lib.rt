@@ -1,6 +1,6 @@
-//! A vertex's bookkeeping for the detection of termination, after Dijkstra and Scholten: which
-//! messages it owes an acknowledgement, which acknowledgements it waits for, and which message
-//! engaged it. `docs/DETECTOR.md` explains the method.
+//! A process's counters for the detection of termination, after Dijkstra and Scholten: the messages that it owes
+//! acknowledgements for, the acknowledgements that it waits for, and the message that engaged it. `docs/DETECTOR.md`
+//! explains the method.
 #![tactic(auto)]
 
 pub use detector::{Detect, may_ack_on_parent};

@@ -1,7 +1,7 @@
-/// The place of an edge among the edges on one side of a vertex, which ascend.
+/// The place of an edge among the ascending edges on one side of a vertex.
 #[derive(Clone, Copy)]
 pub struct Slot {
-    /// Its index among them, from 0.
+    /// The index of the edge among them, from 0.
     pub index: usize,
     /// The number of the edge.
     pub edge: u64,

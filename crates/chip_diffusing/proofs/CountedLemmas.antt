@@ -1,5 +1,5 @@
 -- Serves Computation.antt.
--- Books that have given counts, for who keeps the counts otherwise: what they tell, and what a step makes of them.
+-- Books with given counts, for callers that keep the counts otherwise: what holds of them, and the effect of a step.
 use Rattle.std.proofs.Common.{◌≡◌, ◌≢◌, ℕ, ◌+◌, ◌-◌, ◌≤◌, eqb, List, [], ◌∷◌, cond, map}
 use Rattle.std.proofs.Common.{Option, None, Contains, refl, sym, ap, ◌∙◌, subst, arith, length}
 use Rattle.std.specs.List.{sum_by}
@@ -11,7 +11,7 @@ use Rattle.chip_detect.specs.Books.{Books}
 use Rattle.chip_detect.specs.Change.{AddsMessage, AddsAnswers}
 use Rattle.chip_detect.proofs.ListLemmas.{contained, contains_cases, contains_first, contains_later, contains_nothing}
 
--- the books with these numbers of messages and answers on each of these edges into the part and out of it
+-- the books with these numbers of messages and answers on each of these edges into the process and out of it
 abbrev pub books_by : List ℕ → List ℕ → (ℕ → ℕ) → (ℕ → ℕ) → (ℕ → ℕ) → (ℕ → ℕ) → Option ℕ → Books
 books_by ins outs got acked sent settled parent = record {
   ins = map (λ e. record { edge = e; messages = got e; answered = acked e }) ins;

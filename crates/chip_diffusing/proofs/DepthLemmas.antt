@@ -1,4 +1,4 @@
--- Serves Ending.antt, Laws.antt. Once it is over each round takes the lowest level off the tree.
+-- Serves Ending.antt, Laws.antt. Once it is over each round removes the lowest level of the tree.
 use Rattle.std.proofs.Common.{Bool, true, Option, ◌+◌, ◌≡◌, ◌≢◌, ◌⊎◌, ℕ, zero, suc, ◌-◌, ◌<◌, ◌≤◌, eqb, List, [], ◌∷◌, cond}
 use Rattle.std.proofs.Common.{Some, None, Contains, refl, sym, ap, ◌∙◌, subst, arith, inl, inr, ⊎_elim}
 use Rattle.std.proofs.lemmas.Bool.Decides.{nat_tests}
@@ -18,7 +18,7 @@ use Rattle.chip_diffusing.proofs.OrderLemmas.{owes_on}
 use Rattle.chip_detect.proofs.ListLemmas.{place_in, few_places, none_some, cases_option, contained, contains_first}
 use Rattle.chip_detect.proofs.ListLemmas.{contains_later, contains_cases, contains_nothing}
 
--- ---- the books of one part
+-- ---- the books of one process
 
 -- if nothing may be acknowledged on an edge, nothing is owed there, or it is the parent edge
 little : (e : ℕ) (parent : Option ℕ) (here all waiting : ℕ) (passive : Bool)
@@ -29,7 +29,7 @@ little e (Some q) here all waiting passive none = grind (arith, nat_tests)
 idle_little : (b : Books) (e : ℕ) (passive : Bool) → may_ack b e passive ≡ 0 → (owed b e ≡ 0) ⊎ (b.parent ≡ Some e)
 idle_little b e passive none = little e b.parent (owed b e) (all_owed b) (deficit b) passive none
 
--- a passive part that waits for nothing and may acknowledge nothing isn't engaged
+-- a passive process that waits for nothing and may acknowledge nothing isn't engaged
 rests : (b : Books) (passive : Bool) → IsSound b → passive ≡ true → deficit b ≡ 0
     → ((e : ℕ) → Contains (in_edges b) e → may_ack b e passive ≡ 0) → b.parent ≡ None
 rests b passive sound is none idle = ⊎_elim (λ z. z) (λ some. absurd (engaged some.0 some.1)) (cases_option b.parent)
@@ -55,11 +55,11 @@ module _ (net : Network) (is : IsNetwork net) (level : ℕ → ℕ) where
     below : (p : ℕ) → p < net.parts → (e : ℕ) → (w p).books.parent ≡ Some e
         → (level (net.tail e) < level p) × (level p ≤ most)
 
-  -- messages are owed on parent edges alone
+  -- messages are owed only on parent edges
   abbrev Rested : World → Type 0
   Rested w = (e : ℕ) → e < net.edges → (got_on net w e ≤ acked_on net w e) ⊎ ((w (net.head e)).books.parent ≡ Some e)
 
-  -- a neutral part owes nothing
+  -- a neutral process owes nothing
   none_owed : (w : World) → IsKept net w → (e : ℕ) → e < net.edges → (w (net.head e)).books.parent ≡ None
       → got_on net w e ≤ acked_on net w e
   none_owed w kept e l none =
@@ -83,7 +83,7 @@ module _ (net : Network) (is : IsNetwork net) (level : ℕ → ℕ) where
       from_moment : IsLater net is m b
       from_moment = later net is m to_moment.kept to_moment.silent turn.after.0 b turn.after.1
 
-    -- a round leaves what is owed on parent edges alone
+    -- after a round messages are owed only on parent edges
     round_rests : Rested b
     round_rests e l =
         let h : ℕ = net.head e in
@@ -103,7 +103,7 @@ module _ (net : Network) (is : IsNetwork net) (level : ℕ → ℕ) where
     round_keeps : (most : ℕ) → Low a most → Low b most
     round_keeps most low = record { below = λ p l e at. low.below p l e (to_end.parent p e at) }
 
-    -- and takes the lowest level off
+    -- and it removes the lowest level
     round_lowers : (most : ℕ) → Low a (suc most) → Rested a → Low b most
     round_lowers most low rested = record {
       below = λ p l e at. (let was = low.below p l e (to_end.parent p e at) in let w1 = was.1 in
@@ -218,7 +218,7 @@ module _ (net : Network) (is : IsNetwork net) (w : World) where
       (λ z. is.none_to_root tree.2.0 tree.2.1.into.0 (tree.2.1.into.1 ∙ sym z))
       (λ z. never_root vs tree.0 z) (contains_cases v vs net.root has)
 
-  -- the parent edge of the latest part comes from an earlier one or from the root, and so do the others
+  -- the parent edge of the latest process comes from an earlier one or from the root, and so do the others
   from_rest : (u : ℕ) (us : List ℕ) → IsEngagementTree net w (u ∷ us) → (v e : ℕ) → (w v).books.parent ≡ Some e
       → (Contains us v → (w v).books.parent ≡ Some e → (net.tail e ≡ net.root) ⊎ Contains us (net.tail e))
       → (v ≡ u) ⊎ Contains us v → (net.tail e ≡ net.root) ⊎ Contains us (net.tail e)
@@ -228,7 +228,7 @@ module _ (net : Network) (is : IsNetwork net) (w : World) where
       let same : tree.2.0 ≡ e = cc in
       subst (λ (i : ℕ). (net.tail i ≡ net.root) ⊎ Contains us (net.tail i)) same tree.2.1.from_earlier
 
-  -- the parent edge of a part of the tree comes from the root or from a part of it
+  -- the parent edge of a process of the tree comes from the root or from a process of it
   from_tree : (vs : List ℕ) → IsEngagementTree net w vs → (v e : ℕ) → Contains vs v → (w v).books.parent ≡ Some e
       → (net.tail e ≡ net.root) ⊎ Contains vs (net.tail e)
   from_tree [] tree v e has at = absurd (contains_nothing v has)

@@ -1,5 +1,5 @@
 -- Serves Ending.antt, Laws.antt. Once it is over, an acknowledgement or a settle is due until the root is closed, and
--- few of them are left.
+-- their number is bounded.
 use Rattle.std.proofs.Common.{◌≡◌, ◌⊎◌, ℕ, zero, suc, ◌+◌, ◌-◌, ◌<◌, ◌≤◌, Bool, true, false, [], ◌∷◌, ◌++◌}
 use Rattle.std.proofs.Common.{refl, ap, ◌∙◌, subst, arith, inl, inr, ⊎_elim, length, cond}
 use Rattle.std.proofs.lemmas.Bool.Decides.{nat_tests}
@@ -19,14 +19,14 @@ use Rattle.chip_diffusing.proofs.OrderLemmas.{detection_order}
 use Rattle.chip_diffusing.proofs.DepthLemmas.{depth_closes, depth_is_counted}
 use Rattle.chip_diffusing.proofs.SilentLemmas.{IsLater, one_later, later, go_on}
 
--- ---- nobody has to acknowledge or to hear
+-- ---- no process has to acknowledge or to settle
 
 module _ (net : Network) (is : IsNetwork net) where
   pub record Quiet (w : World) : Type 0 where
     pub heard : (e : ℕ) → e < net.edges → acked_on net w e ≤ settled_on net w e
     pub given : (e : ℕ) → e < net.edges → may_ack (w (net.head e)).books e (w (net.head e)).passive ≡ 0
 
-  -- each part has its turns where it stands, and so the root is closed
+  -- each process has its moment in this world, and so the root is closed
   module _ (w : World) (quiet : Quiet w) where
     stays : (n : ℕ) → HasMomentRounds net n w w
     stays zero = refl
@@ -92,7 +92,7 @@ module _ (net : Network) (is : IsNetwork net) where
       at_rest true z = refl
       at_rest false z = absurd (omega arith)
 
-  -- ---- few are left
+  -- ---- the number left is bounded
 
   module _ (old : World) (kept : IsKept net old) (silent : IsQuiescent net old) (new : World) where
     abbrev at_edge : World → ℕ → ℕ

@@ -1,5 +1,5 @@
 -- Serves Computation.antt, Ending.antt.
--- What an event makes of the counts of an edge, and sums over all edges.
+-- The effect of an event on the counts of an edge, and sums over all edges.
 use Rattle.std.proofs.Common.{◌≡◌, ◌≢◌, ◌⊎◌, ℕ, zero, suc, ◌+◌, ◌-◌, ◌<◌, ◌≤◌, cond, eqb, inl, inr, subst, arith}
 use Rattle.std.proofs.Common.{rules}
 use Rattle.std.proofs.lemmas.Bool.Decides.{nat_tests}
@@ -35,7 +35,7 @@ after (Settle e word) i k = record k { settled = cond (eqb e i) (k.settled + (wo
 after (Work p) i k = k
 
 module _ (net : Network) (old new : World) where
-  -- a part acts or stays as it was
+  -- a process acts or is unchanged
   acts_or_stays : (x : Event) → Happens net old x new → (p : ℕ) → (p ≡ process_of net x) ⊎ ((p ≢ process_of net x) × (new p ≡ old p))
   acts_or_stays x step p = dite (ℕ_discrete p (process_of net x)) (λ z. inl z) (λ n. inr (n, step.others p n))
 

@@ -1,5 +1,5 @@
 -- Serves Computation.antt, Laws.antt.
--- What every legal log keeps of the books, and that its events may be noted in them.
+-- Invariants of the books in every legal log, and that they may note its events.
 use Rattle.std.proofs.Common.{◌≡◌, ℕ, ◌-◌, ◌<◌, ◌≤◌, Bool, true, false, List, [], ◌∷◌, is_some}
 use Rattle.std.proofs.Common.{Option, Some, None, refl, sym, ap, ◌∙◌, subst, arith, ⊎_elim, true≢false, rules}
 use Rattle.std.specs.List.{Contains, sum_by}
@@ -29,14 +29,14 @@ got_some : (o : Option ℕ) (e : ℕ) → or_else o e ≡ None → ⊥
 got_some None e is = absurd (cc)
 got_some (Some q) e is = absurd (cc)
 
--- a passive part may acknowledge no less than an active one
+-- a passive process may acknowledge no less than an active one
 pub more_when_passive : (e : ℕ) (parent : Option ℕ) (here all waiting : ℕ) (passive : Bool)
     → acknowledgeable_count e parent here all waiting passive ≤ acknowledgeable_count e parent here all waiting true
 more_when_passive e None here all waiting passive = omega arith
 more_when_passive e (Some q) here all waiting true = omega arith
 more_when_passive e (Some q) here all waiting false = grind (arith, nat_tests)
 
--- a parent that is there still was there
+-- a parent after the step was the parent before
 still : (o : Option ℕ) (owes : ℕ → ℕ) (q : ℕ) → parent_while_owed o owes ≡ Some q → o ≡ Some q
 still None owes q at = at
 still (Some p) owes q at = grind (arith, nat_tests)
@@ -70,7 +70,7 @@ module _ (net : Network) where
     pub outs : (p : ℕ) → p < net.parts → AreAll (out_edges (w p).books) (IsOutOf net p)
     pub heard : (e : ℕ) → e < net.edges → settled_on net w e ≤ acked_on net w e
     pub got : (e : ℕ) → e < net.edges → got_on net w e ≤ sent_on net w e
-    -- a part without a parent is done
+    -- a process without a parent is done
     pub neutral : (p : ℕ) → p < net.parts → (p ≡ net.root → ⊥) → (w p).books.parent ≡ None
         → ((w p).passive ≡ true) × (deficit (w p).books ≡ 0)
     -- and the root has none
@@ -116,14 +116,14 @@ module _ (net : Network) where
       abbrev mine : World → Event → Books
       mine w x = (w (process_of net x)).books
 
-      -- what holds of the part that acts, and of a part that stays as it was, holds of each part
+      -- what holds of the process that acts, and of a process that is unchanged, holds of each process
       pub each : (P : PartState → PartState → Type 0) (x : Event) → Happens net old x new → ((s : PartState) → P s s)
           → P (old (process_of net x)) (new (process_of net x)) → (p : ℕ) → P (old p) (new p)
       each P x step same here p = dite (ℕ_discrete p (process_of net x))
           (λ z. subst (λ (q : ℕ). P (old q) (new q)) (sym z) here)
           (λ n. subst (P (old p)) (sym (step.others p n)) (same (old p)))
 
-      -- what the part that acts has as before, all parts have as before
+      -- what the process that acts keeps, all processes keep
       pub stays : {A : Type 0} (x : Event) → Happens net old x new → (f : PartState → A)
           → f (new (process_of net x)) ≡ f (old (process_of net x)) → (p : ℕ) → f (new p) ≡ f (old p)
       stays x step f same = each (λ s t. f t ≡ f s) x step (λ s. refl) same
@@ -132,7 +132,7 @@ module _ (net : Network) where
       grows x step = each (λ s t. Grows s.books t.books) x step (λ s. search (rules, arith))
           (books_grow (mine old x) (mine new x) x step.notes)
 
-      -- but for a message that is got, nothing engages a part
+      -- only a message that is got engages a process
       pub was_parent : (x : Event) → Happens net old x new → ((e : ℕ) → x ≡ Get e → ⊥) → (p q : ℕ)
           → (new p).books.parent ≡ Some q → (old p).books.parent ≡ Some q
       was_parent x step other = each (λ s t. (q : ℕ) → t.books.parent ≡ Some q → s.books.parent ≡ Some q) x step
@@ -146,7 +146,7 @@ module _ (net : Network) where
           was (Settle e word) n other q at = cc
           was (Work p) n other q at = cc
 
-      -- what a part keeps by its books alone
+      -- invariants of a process by its books alone
       pub record Own (p : ℕ) (b : Books) : Type 0 where
         pub sound : IsSound b
         pub ins : AreAll (in_edges b) (IsInto net p)
@@ -204,12 +204,12 @@ module _ (net : Network) where
           omega arith
       got_after (Work p) step e l = let k = counted net old new (Work p) step e in let was = kept.got e l in omega arith
 
-      -- ---- neutral parts
+      -- ---- neutral processes
 
       abbrev Rests : PartState → Type 0
       Rests s = (s.passive ≡ true) × (deficit s.books ≡ 0)
 
-      -- an engaged part that is none after the event made its last acknowledgement
+      -- an engaged process that isn't engaged after the event made its last acknowledgement
       last_ack : (e n : ℕ) → Happens net old (Ack e n) new → (q : ℕ) → (mine old (Ack e n)).parent ≡ Some q
           → (mine new (Ack e n)).parent ≡ None → Rests (new (net.head e))
       last_ack e n step q was gone =

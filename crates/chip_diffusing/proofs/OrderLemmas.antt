@@ -1,5 +1,5 @@
--- Serves Ending.antt, Laws.antt. The engaged parts form a tree below the root in every legal log, and what that says if
--- the root is closed.
+-- Serves Ending.antt, Laws.antt. The engaged processes form a tree below the root in every legal log, and what follows
+-- if the root is closed.
 use Rattle.std.proofs.Common.{◌≡◌, ◌≢◌, ◌⊎◌, ℕ, zero, suc, ◌<◌, ◌≤◌, cond, eqb, Bool, true, List, [], ◌∷◌}
 use Rattle.std.proofs.Common.{Option, Some, None, Contains, refl, sym, ap, ◌∙◌, subst, arith, inl, inr, ⊎_elim}
 use Rattle.std.proofs.lemmas.Bool.Decides.{nat_tests}
@@ -23,7 +23,7 @@ or_else_cases : (o : Option ℕ) (e : ℕ) → (o ≡ None × or_else o e ≡ So
 or_else_cases None e = inl (refl, refl)
 or_else_cases (Some q) e = inr refl
 
--- an edge on which something is owed is an edge into the part
+-- an edge on which something is owed is an edge into the process
 pub owes_on : (b : Books) (e : ℕ) → 0 < owed b e → Contains (in_edges b) e
 owes_on b e some = ⊎_elim
     (λ absent. let none = absent (λ t. t.messages) in absurd (omega arith))
@@ -41,7 +41,7 @@ module _ (net : Network) (is : IsNetwork net) where
       let b = kept.heard e l in
       absurd (omega arith))
 
-  -- what is known of the parent edge of a part
+  -- what is known of the parent edge of a process
   pub parent_edge : (w : World) → IsKept net w → (p e : ℕ) → p < net.parts → (w p).books.parent ≡ Some e
       → IsInto net p e × (0 < owed (w p).books e) × (acked_on net w e < sent_on net w e)
   parent_edge w kept p e l parent =
@@ -51,7 +51,7 @@ module _ (net : Network) (is : IsNetwork net) where
       let all = kept.got e into.0 in
       (into, owes, omega arith)
 
-  -- ---- ranks: each engaged part has a higher one than the tail of its parent edge
+  -- ---- ranks: each engaged process has a higher one than the tail of its parent edge
 
   abbrev parents : World → ℕ → Option ℕ
   parents w p = (w p).books.parent
@@ -66,7 +66,7 @@ module _ (net : Network) (is : IsNetwork net) where
     none_engaged : (x : Event) → Happens net old x new → ((e : ℕ) → x ≡ Get e → ⊥) → Ranked old → Ranked new
     none_engaged x step other r = (r.0, λ p e l at. r.1 p e l (was_parent net is old kept new x step other p e at))
 
-    -- a part that isn't engaged sent nothing that is not acknowledged
+    -- a process that isn't engaged has only sent messages that are acknowledged
     no_child : (h e q : ℕ) → h ≡ net.head e → e < net.edges → parents old h ≡ None → q < net.edges
         → acked_on net old q < sent_on net old q → net.tail q ≢ h
     no_child h e q at l none inside some z = is.none_to_root e l
@@ -124,7 +124,7 @@ module _ (net : Network) (is : IsNetwork net) where
       has : Contains list p
       more : (q : ℕ) → Contains ps q → Contains list q
 
-    -- an engaged part and all parts above it join a tree
+    -- an engaged process and all processes above it join a tree
     grown : (k p e : ℕ) → rank p < k → p < net.parts → parents w p ≡ Some e → (ps : List ℕ) → IsEngagementTree net w ps → Grown ps p
     grown zero p e low l at ps tree = absurd (omega arith)
     grown (suc k) p e low l at ps tree =
@@ -213,7 +213,7 @@ module _ (net : Network) (is : IsNetwork net) where
         absurd (omega arith))
         (cases_option (parents w p))
 
-    -- and nobody is engaged
+    -- and no process is engaged
     pub no_parents : (p : ℕ) → p < net.parts → parents w p ≡ None
     no_parents p l = none_below (suc ((ranks log w legal).0 p)) p l (omega arith)
 
@@ -236,7 +236,7 @@ module _ (net : Network) (is : IsNetwork net) where
           (λ other. (kept.neutral p l other (no_parents p l)).0);
     }
 
--- what the root's own books tell of all
+-- what the root's own books imply for all processes
 pub tells_over : (books : Books) (ended : Bool) → ended ≡ true → deficit books ≡ 0 → IsOver books ended
 tells_over books ended on none net is log w legal same also =
     closed_silent net is log w legal (record { ended = also ∙ on; settled = ap deficit same ∙ none })

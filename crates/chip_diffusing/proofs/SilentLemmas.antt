@@ -1,4 +1,4 @@
--- Serves Computation.antt, Laws.antt. What may still happen once nothing is on its way and every part is passive.
+-- Serves Computation.antt, Laws.antt. What may still happen once no message is in transit and every process is passive.
 use Rattle.std.proofs.Common.{◌≡◌, ℕ, ◌≤◌, true, [], ◌∷◌, ◌++◌}
 use Rattle.std.proofs.Common.{Some, refl, sym, ap, ◌∙◌, subst, arith, true≢false}
 use Rattle.chip_detect.specs.Tally.{messages_on}
@@ -12,7 +12,7 @@ use Rattle.chip_diffusing.proofs.KeptLemmas.{IsKept, grows, each, was_parent, ke
 use Rattle.chip_diffusing.proofs.OrderLemmas.{closed_silent}
 
 module _ (net : Network) (is : IsNetwork net) where
-  -- a later world: no part sent or got any more, and a parent may be gone
+  -- a later world: no process sent or got any more, and a parent may be gone
   pub record IsLater (old new : World) : Type 0 where
     pub kept : IsKept net new
     pub silent : IsQuiescent net new
@@ -95,7 +95,7 @@ module _ (net : Network) (is : IsNetwork net) where
       let first = later w kept silent xs v way in
       then_later w v new first (one_later v first.kept first.silent new x step)
 
-  -- a part that waits for nothing never does
+  -- a process that waits for nothing never does
   pub no_deficit_later : (old new : World) → IsLater old new → (p : ℕ) → deficit (old p).books ≡ 0
       → deficit (new p).books ≡ 0
   no_deficit_later old new l p none = sum_none (outstanding (new p).books) (out_edges (new p).books)

@@ -1,4 +1,4 @@
--- Serves Ending.antt, Laws.antt. Each event that advances makes a sum over all edges greater, which is at most three times
+-- Serves Ending.antt, Laws.antt. Each event that advances increases a sum over all edges, which is at most three times
 -- the number of messages.
 use Rattle.std.proofs.Common.{◌≡◌, ℕ, zero, suc, ◌+◌, ◌-◌, ◌*◌, ◌<◌, ◌≤◌, Bool, true, false, cond, eqb, [], ◌∷◌, ap}
 use Rattle.std.proofs.Common.{refl, sym, ◌∙◌, arith, ⊎_elim, true≢false, lt-ltb}
@@ -22,7 +22,7 @@ zero_sum zero f none = omega arith
 zero_sum (suc n) f none =
     let a = none n (omega arith) in let b = zero_sum n f (λ i l. none i (omega arith)) in omega arith
 
--- where one term has at most k more
+-- where one term increases by at most k
 sum_with : (n : ℕ) (f g : ℕ → ℕ) (e k : ℕ) → ((i : ℕ) → i < n → g i ≤ cond (eqb e i) (f i + k) (f i))
     → sum_to n g ≤ sum_to n f + k
 sum_with zero f g e k more = omega arith

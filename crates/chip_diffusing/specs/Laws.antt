@@ -17,7 +17,7 @@ ForEveryWorld P = (net : Network) → IsNetwork net → (log : Log) (w : World) 
 abbrev pub ClosedIsSilent : Type 0
 ClosedIsSilent = ForEveryWorld (λ net w. HasClosedRoot net w → IsQuiescent net w)
 
--- and so it stays, whatever is done
+-- and it stays over, whatever is done
 abbrev pub ClosedForGood : Type 0
 ClosedForGood = ForEveryWorld (λ net w. HasClosedRoot net w → (xs : Log) (later : World) → Leads net w xs later
     → HasClosedRoot net later × IsQuiescent net later)
@@ -26,7 +26,7 @@ ClosedForGood = ForEveryWorld (λ net w. HasClosedRoot net w → (xs : Log) (lat
 abbrev pub ClosedIsSettled : Type 0
 ClosedIsSettled = ForEveryWorld (λ net w. HasClosedRoot net w → (e : ℕ) → e < net.edges → IsSettledUp net w e)
 
--- what the root's books tell: whatever network they are of and whatever was done there, it is over
+-- the root's books suffice: for every network with them and every log there, it is over
 abbrev pub IsOver : Books → Bool → Type 0
 IsOver books ended = ForEveryWorld (λ net w. (w net.root).books ≡ books → (w net.root).passive ≡ ended → IsQuiescent net w)
 
@@ -38,35 +38,35 @@ EngagedIsATree = ForEveryWorld (λ net w. (ps : List ℕ) × IsEngagementOrder n
 abbrev pub NeverStuck : Type 0
 NeverStuck = ForEveryWorld (λ net w. IsQuiescent net w → (HasClosedRoot net w → ⊥) → (x : Event) × MayTell net w x)
 
--- until the root is closed a part is at work, a message is on its way, or something is due
+-- until the root is closed a process is at work, a message is in transit, or something is due
 abbrev pub NotOverYet : Type 0
 NotOverYet = ForEveryWorld (λ net w. (HasClosedRoot net w → ⊥)
     → ((p : ℕ) × (p < net.parts) × ((w p).passive ≡ false)) ⊎ ((e : ℕ) × May net w (Get e)) ⊎ ((x : Event) × MayTell net w x))
 
--- if it is over, few events that are due can be done, and if none is left the root is closed
+-- if it is over, the number of due events that can be made is bounded, and if none is left the root is closed
 abbrev pub FewAreLeft : Type 0
 FewAreLeft = ForEveryWorld (λ net w. IsQuiescent net w → (xs : Log) (later : World) → LeadsDue net w xs later
     → (length xs ≤ left net w) × (((x : Event) → MayTell net later x → ⊥) → HasClosedRoot net later))
 
--- at most three events advance for each message that is sent; and if all parts are passive and no event that may be done
--- advances, the root is closed
+-- at most three events advance for each message sent; and if all processes are passive and no enabled event advances,
+-- the root is closed
 abbrev pub NoWasteCloses : Type 0
 NoWasteCloses = (net : Network) → IsNetwork net → (log : Log) (w : World) (legal : IsLegalLog net log w)
     → (advancing net legal.first log w legal.leads ≤ 3 * count_by is_send log)
     × (((p : ℕ) → p < net.parts → (w p).passive ≡ true) → ((x : Event) → May net w x → advances net w x ≡ false)
     → HasClosedRoot net w)
 
--- one round more than the tree is deep closes the root, once it has heard what was acknowledged until then
+-- one round more than the tree is deep closes the root, once it has settled what was acknowledged by then
 abbrev pub DepthCloses : Type 0
 DepthCloses = ForEveryWorld (λ net w. IsQuiescent net w → (depth : ℕ) → IsAtMostDeep net w depth
     → (later end : World) → HasMomentRounds net (suc depth) w later → Goes net later end
     → ((e : ℕ) → IsOutOf net net.root e → acked_on net later e ≤ settled_on net end e) → HasClosedRoot net end)
 
--- no tree is deeper than it has parts
+-- no tree is deeper than its number of processes
 abbrev pub DepthIsCounted : Type 0
 DepthIsCounted = ForEveryWorld (λ net w. (ps : List ℕ) → IsEngagementOrder net w ps → IsAtMostDeep net w (length ps))
 
--- whoever does an event that may be done has sound books, and may make the call of `Detect` that notes it
+-- a process that makes an enabled event has sound books, and may make the call of `Detect` that notes it
 abbrev pub CallsMayBeMade : Type 0
 CallsMayBeMade = ForEveryWorld (λ net w. (x : Event) → May net w x → IsSound (w (process_of net x)).books
     × IfSome (call_of x) (MayBeMade (w (process_of net x)).books))

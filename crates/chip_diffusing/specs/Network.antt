@@ -1,7 +1,7 @@
--- A network of parts that send to one another, and one of them that starts.
+-- A network of processes that send to one another, and one of them that starts.
 use Rattle.std.specs.Prelude.{◌≡◌, ◌≢◌, ℕ, ◌<◌, List, Contains}
 
--- parts and edges are numbers, from 0 on. Each edge leads from its tail to its head
+-- processes and edges are numbers, from 0. Each edge leads from its tail to its head
 pub record Network : Type 0 where
   pub parts : ℕ
   pub edges : ℕ
@@ -9,7 +9,7 @@ pub record Network : Type 0 where
   pub head : ℕ → ℕ
   pub root : ℕ
 
--- both ends of each edge are parts, and no edge leads to the root
+-- both ends of each edge are processes, and no edge leads to the root
 pub record IsNetwork (net : Network) : Type 0 where
   pub root : net.root < net.parts
   pub tails : (e : ℕ) → e < net.edges → net.tail e < net.parts

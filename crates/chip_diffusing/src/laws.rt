@@ -1,4 +1,4 @@
-//! What holds of every diffusing computation, as the contracts of functions that do nothing.
+//! Theorems on every diffusing computation, as the contracts of functions that do nothing.
 
 ghost use Rattle.chip_diffusing.specs.Worked.{AtWork, ToTheEnd, ThreeAdvance, InTwoRounds};
 
@@ -13,12 +13,12 @@ pub fn worked()
 ghost use Rattle.chip_diffusing.specs.Laws.{ClosedIsSettled, DepthCloses, DepthIsCounted, NoWasteCloses};
 ghost use Rattle.chip_diffusing.specs.Laws.{CallsMayBeMade, ClosedIsSilent, ClosedForGood, EngagedIsATree, NeverStuck, NotOverYet, FewAreLeft};
 
-/// Whoever does an event may make the call of `Detect` that notes it.
+/// Whoever makes an event may make the call of `Detect` that notes it.
 pub fn calls()
     ensures { CallsMayBeMade }
 {}
 
-/// The theorem of Dijkstra and Scholten: if the root is closed, nothing is on its way and every part is passive,
+/// The theorem of Dijkstra and Scholten: if the root is closed, no message is in transit and every process is passive,
 /// now and ever after, and on each edge all is settled.
 pub fn closed_roots()
     ensures silent { ClosedIsSilent }
@@ -26,26 +26,26 @@ pub fn closed_roots()
     ensures settled { ClosedIsSettled }
 {}
 
-/// The engaged parts form a tree below the root, and all other parts are neutral.
+/// The engaged processes form a tree below the root, and all other processes are neutral.
 pub fn trees()
     ensures { EngagedIsATree }
 {}
 
-/// If it is over and the root is not closed something is due, and not much is left. Until the root is closed there is
-/// something to do at all times.
+/// If it is over and the root is not closed, some event is due and few are left. Until the root is closed, a process is
+/// at work, a message is in transit, or an event is due.
 pub fn endings()
     ensures never_stuck { NeverStuck }
     ensures not_over_yet { NotOverYet }
     ensures few_are_left { FewAreLeft }
 {}
 
-/// At most three events advance for each message that is sent: it is got, acknowledged and settled. Once none is left and
-/// all parts are passive, the root is closed.
+/// At most three events advance for each message sent: it is got, acknowledged and settled. Once none is left and all
+/// processes are passive, the root is closed.
 pub fn no_waste()
     ensures { NoWasteCloses }
 {}
 
-/// If it is over, as many rounds as the tree is deep and one more close the root, once it has heard what was
+/// If it is over, the root closes after as many rounds as the tree is deep and one more, once it has read what was
 /// acknowledged in them.
 pub fn soon_after_the_end()
     ensures depth { DepthCloses }

@@ -6,7 +6,7 @@ ghost use Rattle.chip_diffusing.specs.Laws.{IsOver};
 
 use chip_detect::Detect;
 
-/// Acknowledges all that a part may acknowledge on an edge now, and answers how many messages these are.
+/// Acknowledges all messages that a process may acknowledge on an edge now; returns their number.
 pub fn acknowledge(books: &mut Detect, edge: u64, passive: bool) -> u64
     requires { Contains (in_edges books.old) edge }
     ensures allowed { result ≡ may_ack books.old edge passive }
@@ -17,7 +17,7 @@ pub fn acknowledge(books: &mut Detect, edge: u64, passive: bool) -> u64
     count
 }
 
-/// Whether the root may say that the computation is over: it sends no more, and waits for no acknowledgement.
+/// Whether the root may report that the computation is over: it sends no more, and waits for no acknowledgement.
 pub fn is_over(books: &Detect, ended: bool) -> bool
     ensures closed { IsTrue result ↔ IsTrue ended × (deficit books.now ≡ 0) }
     ensures over { IsTrue result → IsOver books.now ended }

@@ -1,5 +1,5 @@
 -- Serves Flooding.antt.
--- What each event keeps of a flood, and that it ends with exactly the parts marked that can be reached.
+-- The invariant of a flood under each event, and that it ends with exactly the reachable processes marked.
 use Rattle.chip_flooding.proofs.Names.{◌≡◌, ◌≢◌, ℕ, ◌+◌, ◌<◌, ◌≤◌, Bool, true, false, cond, List, [], ◌∷◌, get_or, set}
 use Rattle.chip_flooding.proofs.Names.{replicate, sym, ap, ◌∙◌, arith, rules, length-set, nat_tests, length-replicate}
 use Rattle.chip_flooding.proofs.Names.{get_or-replicate, get_or_past, get_or_read, dite, dec_lt, ℕ_discrete}
@@ -8,7 +8,7 @@ use Rattle.chip_flooding.proofs.Names.{HasClosedRoot, Network, IsPath, is_marked
 use Rattle.chip_flooding.proofs.Names.{IsFlooded, due_on, net, world, State, IsTopology, AreOpeningProcesses, IsLegalState, allowed}
 use Rattle.chip_flooding.proofs.RunLemmas.{set_at}
 
--- p looks at an edge that is another part's
+-- p reads an edge that is another process's
 pub passes : (n : Network) (w : World) (marked : List Bool) (done : List ℕ) (p e : ℕ) → n.tail e ≢ p
     → IsFlooding n w marked done p e → IsFlooding n w marked done p (e + 1)
 passes n w marked done p e tail was = let same = λ (i : ℕ). ap n.tail {x = i} {y = e} in search (rules, arith, nat_tests)
@@ -37,7 +37,7 @@ module _ (net : Network) (old new : World) (marked : List Bool) (done : List ℕ
             let h = marks (net.head i) in let d = set_at done e i 1 0 (rw was.all_done l) in search (rules, arith, nat_tests);
       }
 
-  -- an acknowledgement, of which the tail hears at once
+  -- an acknowledgement, which the tail settles at once
   pub answers : (mid : World) (e n : ℕ) → e < net.edges → get_or done e 0 ≡ 1 → n ≡ 1
       → IsFlooding net old marked done net.parts net.edges → Happens net old (Ack e n) mid
       → Happens net mid (Settle e n) new → IsFlooding net new marked (set done e 2) net.parts net.edges
@@ -74,7 +74,7 @@ starts s is opening = let n = net s in let none = replicate n.parts false in
 
 -- ---- it goes on until the root is closed
 
--- what may be acknowledged is one message, which was not answered yet
+-- what may be acknowledged is one message, which is unanswered
 pub one_due : (m : Marking) (e d : ℕ) → e < (net m.run).edges → 0 < due_on m e → IsFlooded m → d ≡ get_or m.done.items e d
     → 0 < d → (allowed m.run e ≡ 1) × (get_or m.done.items e 0 ≡ 1)
 one_due m e d l some was done got = let b = was.edges e l in let all = was.all_done in

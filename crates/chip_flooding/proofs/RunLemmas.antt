@@ -1,5 +1,5 @@
 -- Serves Running.antt.
--- The parts before anything is sent, and an event of a run: the call that notes it may be made, and a run is left.
+-- The processes before the first message, and an event of a run: the call that notes it is allowed, and leads to a run.
 use Rattle.chip_flooding.proofs.Names.{◌≡◌, ◌<◌, ℕ, List, ◌∷◌, get_or, set, length, cond, eqb, refl, ap, ◌∙◌, arith}
 use Rattle.chip_flooding.proofs.Names.{get_or-set_same, get_or-set_other, length-set, ◌≢◌, ◌+◌, [], ◌++◌, rules}
 use Rattle.chip_flooding.proofs.Names.{cases_eq, nat_tests, get_or_read, length_push, get_or_push, get_or_append_left}
@@ -15,11 +15,11 @@ pub set_at : {A : Type 0} (xs : List A) (e i : ℕ) (x d : A) → e < length xs
 set_at xs e i x d l = let k = cases_eq i e in let a = get_or-set_same xs e x d l in let b = get_or-set_other xs e i x d in
     grind (arith, nat_tests)
 
--- an edge below n of which the part is this end
+-- an edge below n of which the process is this end
 abbrev pub IsEnd : List ℕ → ℕ → ℕ → ℕ → Type 0
 IsEnd ends part n e = (e < n) × (get_or ends e 0 ≡ part)
 
--- one more edge is looked at: it is listed
+-- one more edge is read: it is listed
 pub listed : (ends es : List ℕ) (part n : ℕ) → AreAll es (IsEnd ends part n) → get_or ends n 0 ≡ part
     → AreAll (es ++ n ∷ []) (IsEnd ends part (n + 1))
 listed ends es part n all here = record {
@@ -36,7 +36,7 @@ passed ends es part n all here = record {
   none_else = λ e m. let was = all.none_else e m in search (rules, arith);
 }
 
--- one more part opens
+-- one more process opens
 pub opened : (t : Topology) (n : ℕ) (ps : List Process) (s : Process) → AreOpeningProcesses t n ps → OpensProcess t n s
     → AreOpeningProcesses t (n + 1) (ps ++ s ∷ [])
 opened t n ps s was opens = let all = was.count_is in record {

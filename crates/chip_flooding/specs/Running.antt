@@ -1,4 +1,4 @@
--- A computation that runs, and the network and the world that it stands for.
+-- A running computation, and the network and the world that it represents.
 use Rattle.std.specs.Prelude.{◌≡◌, ℕ, ◌<◌, ◌≤◌, true, false, List, [], None, length, slice_index, slice_index_or}
 use Rattle.chip_detect.specs.Acknowledging.{may_ack}
 use Rattle.chip_detect.specs.Tally.{edge_limit}
@@ -7,7 +7,7 @@ use Rattle.chip_diffusing.specs.Computation.{PartState, World, Event, Log, Opens
 pub use Rattle.chip_flooding.specs.declared.process.Topology.{Topology}
 pub use Rattle.chip_flooding.specs.declared.process.Process.{Process}
 
--- the parts and edges as chip_diffusing sees them
+-- the processes and edges as a network of chip_diffusing
 abbrev pub flood_network : Topology → Network
 flood_network t = record {
   parts = t.parts;
@@ -17,21 +17,21 @@ flood_network t = record {
   root = t.root;
 }
 
--- both ends of each edge are parts, no edge leads to the root, and there are not too many edges
+-- both ends of each edge are processes, no edge leads to the root, and the number of edges is within the limit
 pub record IsTopology (t : Topology) : Type 0 where
   pub both_ends : length t.heads.items ≡ length t.tails.items
   pub few : length t.tails.items ≤ edge_limit
   pub network : IsNetwork (flood_network t)
 
--- a part as chip_diffusing sees it
+-- a process in terms of chip_diffusing
 abbrev pub shown : Process → PartState
 shown s = record { books = s.books; passive = s.passive }
 
--- what stands for numbers that are no parts
+-- the state of numbers that are no processes
 abbrev pub nobody : Process
 nobody = record { books = record { ins = []; outs = []; parent = None }; passive = true }
 
--- what a `Run` shows
+-- the view of a `Run`
 pub record State : Type 0 where
   pub topology : Topology
   pub processes : List Process
@@ -42,11 +42,11 @@ net s = flood_network s.topology
 abbrev pub world : State → World
 world s p = shown (slice_index_or s.processes p nobody)
 
--- how many messages of the edge may be acknowledged
+-- the number of messages of the edge that may be acknowledged
 abbrev pub allowed : State → ℕ → ℕ
 allowed s e = let head = world s ((net s).head e) in may_ack head.books e head.passive
 
--- a legal log leaves the processes
+-- the processes are those after a legal log
 pub record IsLegalState (s : State) : Type 0 where
   pub topology : IsTopology s.topology
   pub all_processes : length s.processes ≡ s.topology.parts
@@ -58,12 +58,12 @@ pub record OpensProcess (t : Topology) (p : ℕ) (s : Process) : Type 0 where
   pub part : OpensPart (flood_network t) p (shown s)
   pub at_work : p ≡ t.root → s.passive ≡ false
 
--- so are the first of them
+-- the same of the first of them
 pub record AreOpeningProcesses (t : Topology) (count : ℕ) (processes : List Process) : Type 0 where
   pub count_is : length processes ≡ count
   pub each : (p : ℕ) → p < count → OpensProcess t p (slice_index_or processes p nobody)
 
--- one event was done
+-- one event was made
 pub record Runs (old : State) (x : Event) (new : State) : Type 0 where
   pub topology : new.topology ≡ old.topology
   pub happens : Happens (net old) (world old) x (world new)

@@ -7,10 +7,10 @@ use crate::run::Run;
 use std::alloc::{AllocError, Global};
 use std::marker::Model;
 
-/// A flood before its first message, with all the memory that it takes.
+/// A flood before its first message, with all the memory it needs.
 ///
-/// The root sends a message on each of its edges. A part that gets its first message is marked, and does the same. When
-/// the root's books say that this is over, exactly the parts that can be reached are marked.
+/// The root sends a message on each of its edges. A process that gets its first message is marked, and does the same.
+/// When the root's books say that this is over, exactly the reachable processes are marked.
 #[derive(Drop)]
 pub struct Flood {
     marking: Marking,
@@ -28,7 +28,7 @@ impl Model for Flood {
 }
 
 impl Flood {
-    /// Takes the memory for a flood of these parts and edges.
+    /// Takes the memory for a flood of these processes and edges. Fails only without memory.
     pub fn opened(alloc: Global, topology: Topology) -> Result<Flood, AllocError>
         requires { IsTopology topology }
         ensures { IfOk result (λ flood. flood ≡ topology) }
@@ -40,7 +40,7 @@ impl Flood {
         Ok(Flood { marking })
     }
 
-    /// Floods, and says of each part whether it can be reached from the root over edges from tail to head.
+    /// Floods; returns for each process whether it can be reached from the root over edges from tail to head.
     pub fn finish(self) -> Vec<bool>
         ensures { MarksReached (flood_network self) result.items }
     {
@@ -62,17 +62,17 @@ fn all_false(alloc: Global, count: usize) -> Result<Vec<bool>, AllocError>
     vec![in alloc; false; count]
 }
 
-/// A computation that runs, and which parts are marked.
+/// A running computation, and which processes are marked.
 #[derive(Drop)]
 struct Marking {
     run: Run,
     marked: Vec<bool>,
-    /// Of each edge, how many of these are done: a message is got, and it is acknowledged.
+    /// The number of these done on each edge: getting a message and acknowledging it.
     done: Vec<u8>,
 }
 
 impl Marking {
-    /// Marks the part, which sends a message on each of its edges. Then it has nothing more to do.
+    /// Marks the process, which sends a message on each of its edges and then has nothing to do.
     fn start(&mut self, part: usize)
         requires part { part < (net self.old.run).parts }
         requires active { (world self.old.run part).passive ≡ false }
@@ -91,7 +91,8 @@ impl Marking {
         self.run.rest(part);
     }
 
-    /// The head gets the message on the edge, and starts if it is its first one. If it got it before it acknowledges it.
+    /// The head gets the message on the edge, and starts if it is its first. If it has got it before, it acknowledges
+    /// it.
     fn turn(&mut self, edge: usize)
         requires edge { edge < (net self.old.run).edges }
         requires due { 0 < due_on self.old edge }
@@ -116,7 +117,7 @@ impl Marking {
         self.start(head);
     }
 
-    /// An edge on which there is something to get or to acknowledge.
+    /// An edge with something to get or to acknowledge.
     fn due_edge(&self) -> Option<usize>
         requires { IsFlooded self.now }
         ensures edge { (e : ℕ) → result ≡ Some e → e < (net self.now.run).edges }

@@ -1,5 +1,5 @@
-//! Flooding, as an example of a computation that has a detector: every part that can be reached from the root is marked,
-//! and the root sees from its own books when that is so.
+//! Flooding, as an example of a computation with a detector: it marks every process that can be reached from the root,
+//! and the root learns from its own books when it is done.
 #![tactic(auto)]
 
 pub use flooding::Flood;

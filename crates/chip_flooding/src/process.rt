@@ -5,27 +5,27 @@ ghost use Rattle.chip_flooding.specs.Running.{IsTopology, OpensProcess};
 use chip_detect::Detect;
 use std::alloc::{AllocError, Global};
 
-/// Parts that send to one another over edges, and the one that starts. Parts and edges are numbers from 0 on.
+/// Processes that send to one another over edges, and the one that starts. Processes and edges are numbered from 0.
 #[derive(Drop)]
 pub struct Topology {
-    /// How many parts there are.
+    /// The number of processes.
     pub parts: usize,
-    /// The part that starts. No edge leads to it.
+    /// The process that starts. No edge leads to it.
     pub root: usize,
-    /// The part that sends on each edge.
+    /// The process that sends on each edge.
     pub tails: Vec<usize>,
-    /// The part that gets what is sent on each edge.
+    /// The process that receives from each edge.
     pub heads: Vec<usize>,
 }
 
-/// A part: its books, and whether it has nothing to do until a message comes.
+/// A process: its books, and whether it has nothing to do until a message comes.
 #[derive(Drop)]
 pub struct Process {
     pub books: Detect,
     pub passive: bool,
 }
 
-/// A part before anything is sent. Only the root is at work.
+/// A process before the first message. Only the root is at work.
 pub fn opening(alloc: Global, topology: &Topology, part: usize) -> Result<Process, AllocError>
     requires { IsTopology topology.now }
     ensures { IfOk result (OpensProcess topology.now part) }
@@ -38,7 +38,7 @@ pub fn opening(alloc: Global, topology: &Topology, part: usize) -> Result<Proces
     })
 }
 
-/// The edges of which the part is this end.
+/// The edges of which the process is this end.
 fn edges_at(alloc: Global, ends: &[usize], part: usize) -> Result<Vec<u64>, AllocError>
     ensures all { IfOk result (λ edges. AreAll edges.items (λ e. (e < length ends.now) × (slice_index ends.now e ≡ part))) }
     ensures no_more { IfOk result (λ edges. length edges.items ≤ length ends.now) }

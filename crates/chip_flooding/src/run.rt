@@ -5,9 +5,9 @@ use chip_diffusing::{acknowledge, is_over};
 use std::alloc::{AllocError, Global};
 use std::marker::Model;
 
-/// A diffusing computation on one thread: each part with its books. Each call is one event of a legal log
-/// (`crates/chip_diffusing/specs/Computation.antt`). What is under way, what messages say and what a part computes is up to
-/// the caller.
+/// A diffusing computation on one thread: each process with its books. Each call is one event of a legal log
+/// (`crates/chip_diffusing/specs/Computation.antt`). The caller keeps the messages in transit, their contents and the
+/// state of the processes.
 #[derive(Drop)]
 pub struct Run {
     topology: Topology,
@@ -28,7 +28,7 @@ impl Run {
     ghost use Rattle.chip_diffusing.specs.Computation.{Send, Get, Ack, Settle, Work, May, HasClosedRoot, IsQuiescent};
     ghost use Rattle.chip_flooding.specs.Running.{IsTopology, IsLegalState, AreOpeningProcesses, Runs, net, world, allowed};
 
-    /// A computation before anything is sent. Only the root is at work.
+    /// A computation before its first message. Only the root is at work.
     pub fn new(alloc: Global, topology: Topology) -> Result<Run, AllocError>
         requires { IsTopology topology }
         ensures same { IfOk result (λ run. run.topology ≡ topology) }
@@ -44,7 +44,7 @@ impl Run {
         })
     }
 
-    /// The parts and edges.
+    /// The processes and edges.
     pub fn topology(&self) -> &Topology
         ensures same { result.now ≡ self.now.topology }
         ensures topology { IsTopology result.now }
@@ -62,7 +62,7 @@ impl Run {
         self.processes[tail].books.sent(edge as u64);
     }
 
-    /// Takes a message from the edge: its head is at work from here on.
+    /// Takes a message from the edge: its head is at work from then on.
     pub fn get(&mut self, edge: usize)
         requires { May (net self.old) (world self.old) (Get edge) }
         ensures runs { Runs self.old (Get edge) self.new }
@@ -74,7 +74,7 @@ impl Run {
         process.passive = false;
     }
 
-    /// How many messages of the edge may be acknowledged now.
+    /// The number of messages of the edge that may be acknowledged now.
     pub fn acknowledgeable(&self, edge: usize) -> u64
         requires { edge < (net self.now).edges }
         ensures { result ≡ allowed self.now edge }
@@ -83,7 +83,7 @@ impl Run {
         head.books.may_ack(edge as u64, head.passive)
     }
 
-    /// Acknowledges all that may be acknowledged on the edge now, and answers how many messages these are.
+    /// Acknowledges all messages of the edge that may be acknowledged now; returns their number.
     pub fn acknowledge(&mut self, edge: usize) -> u64
         requires { edge < (net self.old).edges }
         ensures count { result ≡ allowed self.old edge }
@@ -94,7 +94,7 @@ impl Run {
         acknowledge(&mut process.books, edge as u64, process.passive)
     }
 
-    /// Lets the tail of the edge hear that `word` messages were acknowledged so far.
+    /// Notes at the tail of the edge that its head has acknowledged `word` messages in all.
     pub fn settle(&mut self, edge: usize, word: u64)
         requires { May (net self.old) (world self.old) (Settle edge word) }
         ensures { Runs self.old (Settle edge word) self.new }
@@ -103,7 +103,7 @@ impl Run {
         let _ = self.processes[tail].books.settled(edge as u64, word);
     }
 
-    /// The part has nothing more to do until a message comes.
+    /// Notes that the process has nothing to do until a message comes.
     pub fn rest(&mut self, part: usize)
         requires { part < (net self.old).parts }
         ensures runs { Runs self.old (Work part) self.new }
@@ -112,7 +112,7 @@ impl Run {
         self.processes[part].passive = true;
     }
 
-    /// Whether the root may say that the computation is over.
+    /// Whether the root may report that the computation is over.
     pub fn is_over(&self) -> bool
         ensures closed { IsTrue result ↔ HasClosedRoot (net self.now) (world self.now) }
         ensures silent { IsTrue result → IsQuiescent (net self.now) (world self.now) }

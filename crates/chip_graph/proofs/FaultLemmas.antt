@@ -1,5 +1,5 @@
 -- Serves Faults.antt, Multigraph.antt, Ends.antt.
--- What follows where no fault was found in the rows of a graph.
+-- What follows if the rows of a graph have no fault.
 use Rattle.chip_graph.proofs.Names.{◌≡◌, ℕ, zero, suc, ◌<◌, ◌≤◌, List, [], ◌∷◌, ◌+◌, length, drop, Option, Some, None}
 use Rattle.chip_graph.proofs.Names.{Ok, Err, ap, arith, add-one, rules, nat_tests, Edge, End, end_of, edge_of}
 use Rattle.chip_graph.proofs.Names.{SizeLimits, max_vertices, Multigraph, IsEdge, IsGraphWithin, ReachesSink, edge_at}
@@ -9,11 +9,11 @@ use Rattle.chip_graph.specs.Ends.{FitsWords}
 use Rattle.chip_graph.specs.Limits.{AreLimits}
 use Rattle.chip_graph.specs.Faults.{first_of_faults, refusal}
 
--- where the test of a fault is passed, there is none
+-- where the test of a fault passes, there is none
 pub accepted : {F : Type 0} (fault : Option F) → Ok tt ≡ refusal fault → fault ≡ None
 accepted fault is = grind arith
 
--- a fault that a test told is there
+-- a fault that a test returned exists
 pub told : {F : Type 0} (fault : Option F) (is : F) → Err is ≡ refusal fault → fault ≡ Some is
 told fault is e = grind arith
 
@@ -34,7 +34,7 @@ edges_ok vertices sink i (edge ∷ edges) is zero l = edge_ok vertices sink i ed
 edges_ok vertices sink i (edge ∷ edges) is (suc e) l =
     edges_ok vertices sink (suc i) edges (grind arith) e (omega arith)
 
--- no rows with no fault are more than the limit allows
+-- no rows without a fault are more than the limit allows
 pub rows_few : (limits : SizeLimits) (G : Multigraph) → fault_of_rows limits G ≡ None → length G.edges ≤ limits.edges
 rows_few limits G is = grind (arith, nat_tests)
 
@@ -49,7 +49,7 @@ module _ (limits : SizeLimits) (G : Multigraph)
   pub sizes_edges : length G.edges ≤ limits.edges
   sizes_edges = grind (arith, nat_tests)
 
-  -- what is wrong with the rows is then wrong with an edge
+  -- then a fault of the rows is a fault of an edge
   pub rows_as_edges : fault_of_rows limits G ≡ fault_of_edges G.vertices G.sink 0 G.edges
   rows_as_edges = ap (λ (f : Option GraphFault). first_of_faults f (fault_of_edges G.vertices G.sink 0 G.edges)) sizes
 

@@ -1,5 +1,5 @@
 -- Serves Multigraph.antt, Faults.antt, Distances.antt.
--- What a graph keeps beside its edges is what follows from them.
+-- What a graph stores besides its edges is computed from them.
 use Rattle.chip_graph.proofs.Names.{◌≡◌, ◌≢◌, ℕ, suc, ◌<◌, ◌⊎◌, List, [], ◌∷◌, length, map, get_or, Option, Some, None}
 use Rattle.chip_graph.proofs.Names.{Ok, Err, refl, ap, ◌∙◌, subst, arith, length-map, get_or-map, nat_tests, GraphFault}
 use Rattle.chip_graph.proofs.Names.{SizeLimits, Multigraph, ReachesSink, fault_of_rows, IsGraphFault, UNREACHED, noted}
@@ -40,7 +40,7 @@ module _ (G : Multigraph) (distances : List ℕ) (are : AreDistances G (map (λ 
   pub all_reach : ReachesSink G v
   all_reach = (distance_is.reached.0, distance_is.reached.1)
 
--- the first distance that is missing names the fault
+-- the first missing distance determines the fault
 pub unreached_fault : (G : Multigraph) (ds : List ℕ) → AreDistances G (map noted ds)
     → (v : ℕ) (fault : GraphFault) → fault ≡ graph_fault.Unreached v → v < length ds → get_or ds v 0 ≡ UNREACHED
     → ((u : ℕ) → u < v → get_or ds u 0 ≢ UNREACHED) → NamesUnreached G fault
@@ -58,7 +58,7 @@ unreached_fault G ds are v fault is l missing before =
       },
     )
 
--- a refusal for a reason that holds is an answer
+-- a refusal for a true reason is a valid result
 pub refused : (limits : SizeLimits) (G : Multigraph) (result : Result Multigraph GraphFault) (fault : GraphFault)
     → IsErrAnd result (λ e. e ≡ fault) → ((fault ≡ graph_fault.NoMemory) × (fault_of_rows limits G ≡ None))
     ⊎ IsGraphFault limits G fault → MakesGraph limits G result

@@ -1,5 +1,5 @@
 -- Serves Multigraph.antt, Found.antt, Distances.antt.
--- The search for distances: what holds of it after each vertex, and what it has found at its end.
+-- The search for distances: its invariant after each vertex, and its result.
 use Rattle.chip_graph.proofs.Names.{◌≡◌, ◌≢◌, ℕ, zero, suc, ◌+◌, ◌<◌, ◌≤◌, cond, List, [], ◌∷◌, ◌++◌, length, get_or}
 use Rattle.chip_graph.proofs.Names.{set, replicate, map, Option, Some, None, refl, sym, ap, ◌∙◌, inl, inr, ◌⊎◌, arith}
 use Rattle.chip_graph.proofs.Names.{length-set, eqb, eq-eqb, get_or-set_same, get_or-set_other, dite, ℕ_discrete, rules}
@@ -28,19 +28,19 @@ reached_at f i = get_or f.reached i (record { vertex = 0; distance = 0 })
 abbrev pub IsWithin : Found → ℕ → ℕ → Type 0
 IsWithin f v d = (k : ℕ) × (distance_at f v ≡ Some k) × (k ≤ d)
 
--- what was reached at a place has a walk as long as its distance, which is at most that place
+-- a vertex reached at a place has a walk of its distance, which is at most that place
 pub record IsReached (G : Multigraph) (place : ℕ) (r : Reached) : Type 0 where
   pub is_vertex : r.vertex < G.vertices
   pub walk : (es : List ℕ) × IsWalk G r.vertex es G.sink × (length es ≡ r.distance)
   pub early : r.distance ≤ place
 
--- where v stands among the reached, at distance d
+-- the place of v among the reached, at distance d
 pub record IsListed (f : Found) (v d : ℕ) : Type 0 where
   pub place : ℕ
   pub inside : place < length f.reached
   pub is : reached_at f place ≡ record { vertex = v; distance = d }
 
--- a search that `left` of the reached vertices have left: the edges into them have been looked at.
+-- a search that `left` of the reached vertices have left: the edges into them have been read.
 -- Walks are found nearest first, and no distance is more than one above that of the next vertex to leave.
 pub record IsSpread (G : Multigraph) (f : Found) (left : ℕ) : Type 0 where
   pub one_each : length f.distances ≡ G.vertices
@@ -55,7 +55,7 @@ pub record IsSpread (G : Multigraph) (f : Found) (left : ℕ) : Type 0 where
   pub spread : (i e : ℕ) → i < left → e < length G.edges → (edge_at G e).head ≡ (reached_at f i).vertex
       → IsWithin f (edge_at G e).tail ((reached_at f i).distance + 1)
 
--- what was found stays, in its place
+-- what was found stays, at its place
 pub record Grows (old new : Found) : Type 0 where
   pub keeps : (v d : ℕ) → distance_at old v ≡ Some d → distance_at new v ≡ Some d
   pub longer : length old.reached ≤ length new.reached
@@ -124,7 +124,7 @@ module _ (v d : ℕ) (f : Found) (inside : v < length f.distances) (new : distan
   pushed_counted =
       omega (arith, rw new at (sum_by-set (λ (o : Option ℕ). cond (is_some o) 1 0) f.distances v (Some d) None inside))
 
--- the last of the reached has what is asked of it, and so have all
+-- the last of the reached has the property, and so have all
 module _ (P : ℕ → Reached → Type 0) (v d : ℕ) (f : Found) (inside : v < length f.distances)
     (new : distance_at f v ≡ None) where
   pushed_each : ((i : ℕ) → i < length f.reached → P i (reached_at f i))
@@ -172,7 +172,7 @@ module _ (G : Multigraph) (f : Found) (left : ℕ) (kept : IsSpread G f left) (v
             rw same (within_grows grows _ _ (kept.spread i e l m (rw same at h)));
       }
 
--- what a step leaves: it has grown, and the search holds as before, with v reached within d
+-- the search after a step: it has grown, and its invariant holds, with v reached within d
 pub record IsStep (G : Multigraph) (old new : Found) (left v d : ℕ) : Type 0 where
   pub grows : Grows old new
   pub kept : IsSpread G new left
@@ -205,7 +205,7 @@ module _ (G : Multigraph) (f : Found) (left : ℕ) (kept : IsSpread G f left) (s
             rw known.1 (record { grows = grows_not f; kept = kept; within = (known.0, known.1, omega arith) })
       ]
 
--- what looking at the edges of a list leaves
+-- the search after reading the edges of a list
 pub record AreSteps (G : Multigraph) (old new : Found) (left d : ℕ) (es : List ℕ) : Type 0 where
   pub grows : Grows old new
   pub kept : IsSpread G new left
@@ -242,7 +242,7 @@ nothing_at zero v = refl
 nothing_at (suc n) zero = refl
 nothing_at (suc n) (suc v) = nothing_at n v
 
--- where the sink alone is reached, none has left
+-- where only the sink is reached, none has left
 pub begin_spread : (G : Multigraph) → G.sink < G.vertices → IsSpread G (with_vertex G.sink 0 (nothing G.vertices)) 0
 begin_spread G inside =
     let n : ℕ = G.vertices in
@@ -268,7 +268,7 @@ begin_spread G inside =
       spread = λ i e l. absurd (omega arith);
     })
 
--- ---- one vertex more has had its turn
+-- ---- one more vertex has had its turn
 
 -- where all the tails are reached, the next vertex may leave
 turn_over : (G : Multigraph) (f : Found) (left : ℕ) → IsSpread G f left → left < length f.reached
@@ -288,7 +288,7 @@ turn_over G f left kept some_left within = record {
       (λ n. kept.spread i e (omega arith) m h);
 }
 
--- so it may once the edges into it have been looked at
+-- so it may once the edges into it have been read
 pub turn_spread : (G : Multigraph) (f : Found) (left : ℕ)
     → ((e : ℕ) → e < length G.edges → (edge_at G e).tail < G.vertices) → IsSpread G f left → left < length f.reached
     → IsSpread G (with_tails G.edges ((reached_at f left).distance + 1) (edges_in G (reached_at f left).vertex) f)
@@ -309,7 +309,7 @@ turn_spread G f left tails kept some_left =
 -- ---- the end
 
 module _ (G : Multigraph) (f : Found) (left : ℕ) (kept : IsSpread G f left) where
-  -- there are no more reached than vertices, and a distance is below their number
+  -- there are at most as many reached as vertices, and a distance is below their number
   pub few_reached : length f.reached ≤ G.vertices
   few_reached = omega (arith, kept.counted, kept.one_each, count_by-le-length is_some f.distances)
 
@@ -323,7 +323,7 @@ module _ (G : Multigraph) (f : Found) (left : ℕ) (kept : IsSpread G f left) wh
       let far = ap (λ (r : Reached). r.distance) at.is in
       (within.0, ap (distance_at f) (sym walk.1) ∙ within.1, (let a = within.2 in let b = rest.2 in omega arith))
 
-  -- and what is noted is each vertex's distance
+  -- and each noted distance is the vertex's distance
   pub all_distances : length f.reached ≤ left → AreDistances G f.distances
   all_distances done = record { one_each = kept.one_each; each = λ v l. at_each (distance_at f v) v refl }
     where
@@ -342,14 +342,14 @@ module _ (G : Multigraph) (f : Found) (left : ℕ) (kept : IsSpread G f left) wh
 -- the vertex whose turn it is, as it is read
 module _ (G : Multigraph) (f : Found) (left : ℕ) (kept : IsSpread G f left) (r : Reached)
     (some_left : left < length f.reached) (read : r ≡ get_or f.reached left r) where
-  -- it is the one at that place, with what holds there
+  -- it is the one at that place, with its properties
   turn_is : r ≡ reached_at f left
   turn_is = get_or_read f.reached left r some_left read (record { vertex = 0; distance = 0 })
 
   pub turn_reached : IsReached G left r
   turn_reached = rw turn_is (kept.each left some_left)
 
-  -- its turn, where a row holds the edges into it
+  -- its turn, where a row has the edges into it
   pub turn_kept : ((e : ℕ) → e < length G.edges → (edge_at G e).tail < G.vertices) → (row : List ℕ)
       → row ≡ edges_in G r.vertex → IsSpread G (with_tails G.edges (r.distance + 1) row f) (left + 1)
   turn_kept tails row is = rw (is, turn_is) (turn_spread G f left tails kept some_left)

@@ -25,7 +25,7 @@ pub by_test : {P : Type 0} (b : Bool) → (b ≡ true → P) → (b ≡ false �
 by_test true yes' no' = yes' refl
 by_test false yes' no' = no' refl
 
--- a test counts one at most
+-- a test counts at most one
 pub one_at_most : (b : Bool) → cond b 1 0 ≤ 1
 one_at_most b = grind arith
 
@@ -91,7 +91,7 @@ pub sum_below_one : (n : ℕ) (f : ℕ → ℕ) (j : ℕ) → j < n → ((e : �
 sum_below_one n f j l p = let a = sum_below_move n f (λ e. 0) j l p in let b = sum_below_none n (λ e. 0) (λ e m. refl)
     in omega arith
 
--- each of m things goes to one place below n, so the sums by place add up to the sum over all
+-- each of m things is at one place below n, so the sums by place add up to the sum over all
 pub sum_below_by_place : (n m : ℕ) (h : ℕ → ℕ) (place : ℕ → ℕ) → ((e : ℕ) → e < m → place e < n)
     → sum_below n (λ u. sum_below m (λ e. cond (eqb (place e) u) (h e) 0)) ≡ sum_below m h
 sum_below_by_place n zero h place inside = sum_below_none n (λ u. 0) (λ u l. refl)

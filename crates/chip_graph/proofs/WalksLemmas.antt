@@ -5,7 +5,7 @@ use Rattle.std.proofs.lemmas.Bool.Decides.{nat_tests}
 use Rattle.chip_graph.specs.Multigraph.{Multigraph, edge_at, IsWalk, ReachesSink, degree}
 use Rattle.chip_graph.proofs.SumLemmas.{sum_below_term}
 
--- a vertex with a way to the sink has edges out of it, but for the sink itself
+-- every vertex with a walk to the sink has edges out of it, except the sink
 pub degree_positive : (G : Multigraph) (v : ℕ) → ReachesSink G v → v ≢ G.sink
     → ((e : ℕ) → e < length G.edges → 0 < (edge_at G e).mult) → 0 < degree G v
 degree_positive G v (es, walk) other mults = first es walk

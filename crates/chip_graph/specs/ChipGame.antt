@@ -3,7 +3,7 @@ use Rattle.std.specs.Prelude.{◌≡◌, ℕ, ◌≤◌, List, length, sum}
 use Rattle.chip_graph.specs.Limits.{max_total, max_limit}
 use Rattle.chip_graph.specs.Multigraph.{Multigraph, IsGraph}
 
--- what a `Game` shows: the graph, the chips at the start by vertex, and how often each vertex may fire
+-- the view of a `Game`: the graph, the chips at the start by vertex, and the most firings of each vertex
 pub record ChipGame : Type 0 where
   pub graph : Multigraph
   pub start : List ℕ

@@ -1,4 +1,4 @@
--- What a search for distances has found on its way.
+-- The state of a search for distances.
 use Rattle.std.specs.Prelude.{ℕ, ◌==◌, if◌then◌else◌, Option, Some, None, is_some}
 use Rattle.std.specs.Prelude.{List, [], ◌∷◌, ◌++◌, fold, map, slice_index_or, slice_set}
 use Rattle.chip_graph.specs.declared.edge.Edge.{Edge}
@@ -7,16 +7,16 @@ use Rattle.chip_graph.specs.declared.distance.Search.{Search}
 use Rattle.chip_graph.specs.declared.distance.TheConstants.{UNREACHED}
 use Rattle.chip_graph.specs.Ends.{edge_of}
 
--- the distances by vertex, and the vertices that have one, in the order in which they were reached
+-- the distances by vertex, and the vertices that have one, in order of reaching them
 pub record Found : Type 0 where
   pub distances : List (Option ℕ)
   pub reached : List Reached
 
--- a distance as it is kept
+-- a distance as it is stored
 abbrev pub noted : ℕ → Option ℕ
 noted d = if d == UNREACHED then None else Some d
 
--- what a `Search` shows
+-- the view of a `Search`
 abbrev pub findings : Search → Found
 findings s = record { distances = map noted s.distances.items; reached = s.reached.items }
 

@@ -1,4 +1,4 @@
--- What a game keeps beside its graph, start and limit.
+-- What a game stores besides its graph, start and limit.
 use Rattle.std.specs.Prelude.{◌≡◌, sum}
 use Rattle.chip_graph.specs.declared.game.Game.TheInside.{Inside}
 use Rattle.chip_graph.specs.ChipGame.{ChipGame, IsGame}

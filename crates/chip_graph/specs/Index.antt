@@ -1,4 +1,4 @@
--- What a graph keeps beside its edges, and that this is what follows from them.
+-- What a graph stores besides its edges, as computed from them.
 use Rattle.std.specs.Prelude.{◌≡◌, ℕ, ◌<◌, List, [], length, map, slice_index, slice_index_or, Some}
 use Rattle.chip_graph.specs.declared.graph.Rows.TheInside.{Inside}
 use Rattle.chip_graph.specs.declared.edge.Link.{Link}
@@ -6,7 +6,7 @@ use Rattle.chip_graph.specs.PackedLists.{flat}
 use Rattle.chip_graph.specs.Multigraph.{Multigraph, IsGraph, edge_at, link_of, edges_out, edges_in, degree}
 use Rattle.chip_graph.specs.Distances.{AreDistances}
 
--- the graph without what follows from its edges
+-- the graph without what is computed from its edges
 abbrev pub graph_inside : Inside → Multigraph
 graph_inside a = record { vertices = a.vertices; sink = a.sink; edges = a.edges.items }
 
@@ -23,6 +23,6 @@ pub record IsIndex (G : Multigraph) (degree_of : List ℕ) (distance_of : List �
   pub ins : (v : ℕ) → v < G.vertices → slice_index_or ins_of v [] ≡ edges_in G v
   pub linked : links ≡ map (λ e. link_of (edge_at G e)) (flat outs_of)
 
--- what stands beside the edges follows from them
+-- the stored data is that of the edges
 abbrev pub IsIndexed : Inside → Type 0
 IsIndexed a = IsIndex (graph_inside a) a.degrees.items a.distances.items a.outs a.ins a.links.items

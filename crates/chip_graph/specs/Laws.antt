@@ -1,4 +1,4 @@
--- What is true of every graph and fault.
+-- Theorems on every graph and fault.
 use Rattle.std.specs.Prelude.{◌≡◌}
 use Rattle.chip_graph.specs.declared.fault.GraphFault.{GraphFault}
 use Rattle.chip_graph.specs.Limits.{SizeLimits}

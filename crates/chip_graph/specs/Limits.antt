@@ -1,4 +1,4 @@
--- How large a game may be.
+-- The sizes of a game.
 use Rattle.std.specs.Prelude.{ℕ, ◌^◌, ◌≤◌, nat_le, ◌&&◌, if◌then◌else◌, Option, Some, None}
 
 -- the most vertices of any graph
@@ -25,13 +25,13 @@ max_total = 2 ^ 40
 abbrev pub max_limit : ℕ
 max_limit = 2 ^ 40
 
--- how many vertices and edges a graph may have, and how many bytes each text of its game
+-- the most vertices and edges of a graph, and the most bytes of each text of its game
 pub record SizeLimits : Type 0 where
   pub vertices : ℕ
   pub edges : ℕ
   pub bytes : ℕ
 
--- the limits of who asks for no others
+-- the default limits
 abbrev pub standard : SizeLimits
 standard = record { vertices = 4096; edges = 65536; bytes = 2 ^ 24 }
 

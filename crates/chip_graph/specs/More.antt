@@ -1,4 +1,4 @@
--- A game with more chips at the start. What is added is a list of pairs, of a vertex and a count of chips for it.
+-- A game with more chips at the start. They are given by pairs of a vertex and a number of chips.
 use Rattle.std.specs.Prelude.{◌≡◌, ℕ, ◌+◌, ◌<◌, ◌≤◌, ◌==◌, if◌then◌else◌, List, length, sum, sum_by, All}
 use Rattle.std.specs.Prelude.{slice_index, Result, Ok, Err}
 use Rattle.chip_graph.specs.Limits.{max_total}
@@ -8,7 +8,7 @@ use Rattle.chip_graph.specs.ChipGame.{ChipGame}
 abbrev pub brought_to : List (ℕ × ℕ) → ℕ → ℕ
 brought_to more v = sum_by (λ pair. if pair.0 == v then pair.1 else 0) more
 
--- all chips that they bring
+-- the number of chips of all pairs
 abbrev pub all_brought : List (ℕ × ℕ) → ℕ
 all_brought more = sum_by (λ pair. pair.1) more
 
@@ -20,7 +20,7 @@ AreOfVertices g more = All (λ pair. pair.0 < g.graph.vertices) more
 abbrev pub HasRoomForChips : ChipGame → List (ℕ × ℕ) → Type 0
 HasRoomForChips g more = sum g.start + all_brought more ≤ max_total
 
--- the game with these chips more at the start, and all else as it was
+-- the game with these chips more at the start, and all else unchanged
 pub record HasMore (old : ChipGame) (more : List (ℕ × ℕ)) (new : ChipGame) : Type 0 where
   pub same_graph : new.graph ≡ old.graph
   pub same_limit : new.limit ≡ old.limit
@@ -28,7 +28,7 @@ pub record HasMore (old : ChipGame) (more : List (ℕ × ℕ)) (new : ChipGame) 
   pub start : (v : ℕ) → v < length old.start → slice_index new.start v ≡ slice_index old.start v + brought_to more v
   pub total : sum new.start ≡ sum old.start + all_brought more
 
--- what adding chips answers: the game with more if the total stays within the limit, else the game as it was
+-- the result of adding chips: the game with more if the total stays within the limit, else the unchanged game
 abbrev pub AddsChips : ChipGame → List (ℕ × ℕ) → Result ChipGame ChipGame → Type 0
 AddsChips g more (Ok game) = HasRoomForChips g more × HasMore g more game
 AddsChips g more (Err game) = (max_total < sum g.start + all_brought more) × (game ≡ g)

@@ -6,17 +6,17 @@ use Rattle.chip_graph.specs.declared.edge.Link.{Link}
 use Rattle.chip_graph.specs.Limits.{SizeLimits, max_vertices, max_edges, max_mult}
 use Rattle.chip_graph.specs.Sums.{sum_below, filter_below}
 
--- what a `Graph` shows: vertices 0 to vertices - 1, the sink, and the edges, named by their numbers
+-- the view of a `Graph`: vertices 0 to vertices - 1, the sink, and the edges by number
 pub record Multigraph : Type 0 where
   pub vertices : ℕ
   pub sink : ℕ
   pub edges : List Edge
 
--- the edge that has this number
+-- the edge with this number
 abbrev pub edge_at : Multigraph → ℕ → Edge
 edge_at G e = slice_index_or G.edges e (record { tail = 0; head = 0; mult = 0 })
 
--- what a firing of its tail reads of an edge
+-- the part of an edge that a firing of its tail reads
 abbrev pub link_of : Edge → Link
 link_of edge = record { head = edge.head; mult = edge.mult }
 

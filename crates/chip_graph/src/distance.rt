@@ -11,27 +11,27 @@ use crate::index::edges_by;
 use crate::packed_lists::PackedLists;
 use std::alloc::{AllocError, Global};
 
-/// In place of the distance of a vertex that no search has reached.
+/// The distance of a vertex that no search has reached.
 pub(crate) const UNREACHED: u32 = u32::MAX;
 
-/// A vertex that a search has reached, and how far it is from the sink.
+/// A vertex that a search has reached, and its distance from the sink.
 #[derive(Clone, Copy)]
 struct Reached {
     vertex: u32,
     distance: u32,
 }
 
-/// What a search from the sink backwards has found so far.
+/// The state of a search from the sink backwards.
 #[derive(Drop)]
 struct Search {
-    /// By vertex.
+    /// The distances, by vertex.
     distances: Vec<u32>,
     /// The vertices that have a distance, nearest first.
     reached: Vec<Reached>,
 }
 
 impl Search {
-    /// Only the sink is reached.
+    /// A search that has reached only the sink.
     fn begin(alloc: Global, vertices: usize, sink: u32) -> Result<Self, AllocError>
         requires { sink < vertices }
         ensures { IfOk result (λ search.
@@ -58,7 +58,7 @@ impl Search {
         Ok(())
     }
 
-    /// Notes this distance of each of these vertices.
+    /// Notes this distance for each of these vertices.
     fn reach_all(&mut self, vertices: &[u32], distance: u32) -> Result<(), AllocError>
         requires vertices { All (λ v. v < vec_len self.old.distances) vertices.now }
         requires distance { distance < UNREACHED }
@@ -71,8 +71,8 @@ impl Search {
     }
 }
 
-/// The edges into each vertex, and how far each vertex is from the sink: the length of a shortest walk, or `UNREACHED`
-/// if no walk leads there. Into vertex v go `counts[v + 1]` edges.
+/// The edges into each vertex, and each vertex's distance from the sink: the length of a shortest walk, or `UNREACHED`
+/// without a walk. Vertex v has `counts[v + 1]` edges into it.
 pub(crate) fn ins_and_distances(
     alloc: Global,
     vertices: u64,
@@ -90,7 +90,7 @@ pub(crate) fn ins_and_distances(
         AreDistances (record { vertices = vertices; sink = sink; edges = edges.now }) (map noted r.1.items)) }
 {
     let mut search = Search::begin(alloc, vertices as usize, sink as u32)?;
-    // The tails side by side, so that the search reads no edge.
+    // The tails are in one list, so that the search reads no edge.
     let (ins, tails): (PackedLists<u64>, Vec<u32>) = edges_by(
         alloc,
         vertices,

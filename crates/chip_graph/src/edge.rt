@@ -2,23 +2,24 @@ ghost use Rattle.std.specs.Prelude.{◌≡◌};
 
 /// One row of a graph: `mult` parallel edges from `tail` to `head`.
 ///
-/// Rows may join the same two vertices: each is an edge of its own. Its number is its index in the list, from 0.
+/// Several rows may join the same two vertices: each is an edge of its own. Its number is its index in the list, from
+/// 0.
 #[derive(Clone, Copy, PartialEq, Eq)]
 pub struct Edge {
     /// The vertex that it leaves.
     pub tail: u64,
     /// The vertex that it goes into.
     pub head: u64,
-    /// How many chips one firing of the tail sends along it, 1 to 2^20 in a graph.
+    /// The number of chips that one firing of the tail sends along it, 1 to 2^20 in a graph.
     pub mult: u64,
 }
 
-/// An edge out of a vertex, as what fires the vertex reads it: a third of an `Edge`.
+/// An edge out of a vertex, as stored for firing: a third of an `Edge`'s size.
 #[derive(Clone, Copy)]
 pub struct Link {
     /// The vertex that it goes into.
     pub head: u32,
-    /// How many chips one firing sends along it, 1 to 2^20 in a graph.
+    /// The number of chips that one firing sends along it, 1 to 2^20 in a graph.
     pub mult: u32,
 }
 
@@ -57,7 +58,7 @@ impl Edge {
     }
 }
 
-/// What of an edge lies beside its number, in a list of edges.
+/// The part of an edge that a list of edges keeps beside its number.
 pub(crate) trait Part: Copy {
     ghost use Rattle.chip_graph.specs.declared.edge.Edge.{Edge};
     ghost use Rattle.chip_graph.specs.Ends.{FitsWords};

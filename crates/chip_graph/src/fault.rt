@@ -1,7 +1,7 @@
 use std::alloc::{AllocError, AllocFailed};
 use thiserror::Error;
 
-/// Why rows of edges are no graph: the first reason in this order.
+/// Why rows of edges are no graph: the first of these that applies.
 #[derive(Clone, Copy, Debug, PartialEq, Eq, Error)]
 pub enum GraphFault {
     /// There are no vertices, or more than the limits allow.
@@ -19,13 +19,13 @@ pub enum GraphFault {
     /// This edge sends no chips, or more than 1,048,576.
     #[error("edge {0} must send 1 to 1048576 chips")]
     Mult(u64),
-    /// This edge goes back into its tail.
+    /// This edge leads back to its tail.
     #[error("edge {0} is a loop")]
     Loop(u64),
     /// This edge leaves the sink.
     #[error("edge {0} leaves the sink")]
     FromSink(u64),
-    /// No walk leads from this vertex to the sink, and it is the least such vertex.
+    /// This vertex, the least such one, has no walk to the sink.
     #[error("no walk leads from vertex {0} to the sink")]
     Unreached(u64),
     /// Memory ran out.
@@ -37,7 +37,7 @@ impl GraphFault {
     ghost use Rattle.std.specs.Prelude.{◌≡◌};
     ghost use Rattle.chip_graph.specs.FaultNumbers.{graph_fault_number, graph_fault_place};
 
-    /// The number of this fault in the table of faults.
+    /// The fault's number in the table of faults.
     pub fn number(&self) -> u64
         ensures { result ≡ graph_fault_number self.now }
     {
@@ -54,7 +54,7 @@ impl GraphFault {
         }
     }
 
-    /// The edge or the vertex that it names, if it names one.
+    /// The edge or the vertex of the fault, if it has one.
     pub fn place(&self) -> Option<u64>
         ensures { result ≡ graph_fault_place self.now }
     {
@@ -91,10 +91,10 @@ impl From<AllocError> for GraphFault {
     }
 }
 
-/// Why a graph, a start and a limit are no game: the first reason in this order.
+/// Why a graph, a start and a limit are no game: the first of these that applies.
 #[derive(Clone, Copy, Debug, PartialEq, Eq, Error)]
 pub enum GameFault {
-    /// The start has not one number for each vertex.
+    /// The start does not have one number for each vertex.
     #[error("the start must have one number for each vertex")]
     StartLength,
     /// There are more than 1,099,511,627,776 chips in all.
@@ -109,7 +109,7 @@ impl GameFault {
     ghost use Rattle.std.specs.Prelude.{◌≡◌};
     ghost use Rattle.chip_graph.specs.FaultNumbers.{game_fault_number};
 
-    /// The number of this fault in the table of faults.
+    /// The fault's number in the table of faults.
     pub fn number(&self) -> u64
         ensures { result ≡ game_fault_number self.now }
     {

@@ -11,12 +11,12 @@ pub const MAX_TOTAL: u64 = 1 << 40;
 /// The greatest firing limit: 2^40.
 pub const MAX_LIMIT: u64 = 1 << 40;
 
-/// A chip-firing game (a sandpile): a graph, the chips at the start (the configuration), and how often each vertex may
-/// fire (topple).
+/// A chip-firing game (a sandpile): a graph, the chips at the start (the configuration), and the most firings of each
+/// vertex (topplings).
 #[derive(Drop)]
 pub struct Game {
     graph: Graph,
-    /// By vertex.
+    /// The chips at the start, by vertex.
     start: Vec<u64>,
     limit: u64,
     /// The sum of `start`.
@@ -41,7 +41,7 @@ impl Game {
     ghost use Rattle.chip_graph.specs.Faults.{MakesGame};
     ghost use Rattle.chip_graph.specs.More.{AreOfVertices, HasRoomForChips, AddsChips};
 
-    /// A game, or the first reason why it is none. `start` has the chips of each vertex.
+    /// A game, or the first fault. `start` has the chips of each vertex.
     pub fn new(graph: Graph, start: Vec<u64>, limit: u64) -> Result<Game, GameFault>
         ensures { MakesGame (record { graph = graph; start = start.items; limit = limit }) result }
     {
@@ -74,8 +74,8 @@ impl Game {
         })
     }
 
-    /// The game with more chips at the start. Each pair is a vertex and how many chips it gets; a vertex may stand in
-    /// several. If there would be more chips than `MAX_TOTAL`, the error is the game as it was. This takes no memory.
+    /// Adds chips to the start. Each pair is a vertex and its number of chips; a vertex may be in several pairs. If the
+    /// total would be above `MAX_TOTAL`, returns the unchanged game as the error. Allocates nothing.
     pub fn with_more(self, more: &[(u64, u64)]) -> Result<Game, Game>
         requires { AreOfVertices self more.now }
         ensures { AddsChips self more.now result }
@@ -98,15 +98,15 @@ impl Game {
         })
     }
 
-    /// Whether these chips and those of the start are at most `MAX_TOTAL`. Each pair is a vertex and how many chips it
-    /// would get.
+    /// Whether these chips and those of the start are at most `MAX_TOTAL`. Each pair is a vertex and its number of
+    /// chips.
     pub fn has_room(&self, more: &[(u64, u64)]) -> bool
         ensures { IsTrue result ↔ HasRoomForChips self.now more.now }
     {
         total_with(self.total, more).is_some()
     }
 
-    /// The graph that is played on.
+    /// The graph of the game.
     pub fn graph(&self) -> &Graph
         ensures value { result.now ≡ self.now.graph }
         ensures game { IsGame self.now }
@@ -114,7 +114,7 @@ impl Game {
         &self.graph
     }
 
-    /// The graph that was played on, for another game.
+    /// The graph of the game, for another game.
     pub fn into_graph(self) -> Graph
         ensures value { result ≡ self.graph }
         ensures game { IsGame self }
@@ -130,7 +130,7 @@ impl Game {
         &self.start
     }
 
-    /// How often each vertex may fire, 0 to `MAX_LIMIT`.
+    /// The most firings of each vertex, 0 to `MAX_LIMIT`.
     pub fn limit(&self) -> u64
         ensures value { result ≡ self.now.limit }
         ensures game { IsGame self.now }
@@ -138,7 +138,7 @@ impl Game {
         self.limit
     }
 
-    /// How many chips there are in all, 0 to `MAX_TOTAL`.
+    /// The number of chips in all, 0 to `MAX_TOTAL`.
     pub fn total(&self) -> u64
         ensures value { result ≡ sum self.now.start }
         ensures game { IsGame self.now }
@@ -165,7 +165,7 @@ pub fn total_of(chips: &[u64]) -> Option<u64>
 ghost use Rattle.std.specs.Prelude.{ℕ, ◌+◌, length, slice_index, All};
 ghost use Rattle.chip_graph.specs.More.{brought_to, all_brought};
 
-/// The total with what the pairs bring, or `None` if it is above `MAX_TOTAL`.
+/// The total with the chips of the pairs, or `None` if it is above `MAX_TOTAL`.
 fn total_with(total: u64, more: &[(u64, u64)]) -> Option<u64>
     requires { total ≤ max_total }
     ensures some { IfSome result (λ all. (all ≡ total + all_brought more.now) × (all ≤ max_total)) }
@@ -181,7 +181,7 @@ fn total_with(total: u64, more: &[(u64, u64)]) -> Option<u64>
     Some(all)
 }
 
-/// Adds what each pair brings to its vertex.
+/// Adds the chips of each pair to its vertex.
 fn add_each(start: &mut [u64], more: &[(u64, u64)])
     requires vertices { All (λ pair. pair.0 < length start.old) more.now }
     requires few { sum start.old + all_brought more.now ≤ max_total }

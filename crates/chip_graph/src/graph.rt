@@ -17,10 +17,10 @@ use std::marker::Model;
 /// The most chips that one firing sends along one edge.
 pub const MAX_MULT: u64 = 1_048_576;
 
-/// A directed multigraph with a global sink: a vertex with no edge out, which every vertex reaches.
+/// A directed multigraph with a global sink: a vertex without edges out, which every vertex reaches.
 ///
-/// Vertices are the numbers below `vertices()`. The number of an edge is its index in `edges()`. Every question about a
-/// vertex is answered in constant time.
+/// Vertices are the numbers below `vertices()`. The number of an edge is its index in `edges()`. Every call on one
+/// vertex takes constant time.
 #[derive(Drop)]
 pub struct Graph {
     rows: Box<Rows>,
@@ -34,16 +34,16 @@ impl Model for Graph {
     ghost view = { λ a. a.rows.value };
 }
 
-/// The edges of a graph, and what follows from them.
+/// The edges of a graph, and the data computed from them.
 #[derive(Drop)]
 struct Rows {
     vertices: u64,
     sink: u64,
-    /// By number.
+    /// The edges, by number.
     edges: Vec<Edge>,
     /// The out-degrees, by vertex.
     degrees: Vec<u64>,
-    /// How far each vertex is from the sink, by vertex: each reaches it.
+    /// The distance of each vertex from the sink, by vertex: each reaches it.
     distances: Vec<u32>,
     /// The edges out of each vertex, ascending.
     outs: PackedLists<u64>,
@@ -73,8 +73,7 @@ impl Graph {
     ghost use Rattle.chip_graph.specs.Edges.{edges_and_roots, root_edge_to, IsNumbered};
     ghost use Rattle.chip_graph.specs.Faults.{MakesGraph};
 
-    /// A graph of these edges within the standard limits, or the first reason why they are none, in time linear in
-    /// vertices and edges.
+    /// A graph of these edges within the standard limits, or the first fault; in time linear in vertices and edges.
     pub fn new(
         alloc: Global,
         vertices: u64,
@@ -86,8 +85,7 @@ impl Graph {
         Graph::within(alloc, Limits::standard(), vertices, sink, edges)
     }
 
-    /// A graph of these edges within these limits, or the first reason why they are none, in time linear in vertices
-    /// and edges.
+    /// A graph of these edges within these limits, or the first fault; in time linear in vertices and edges.
     pub fn within(
         alloc: Global,
         limits: Limits,
@@ -129,7 +127,7 @@ impl Graph {
         }
     }
 
-    /// How many vertices there are, 1 to 2^21.
+    /// The number of vertices, 1 to 2^21.
     pub fn vertices(&self) -> u64
         ensures value { result ≡ self.now.vertices }
         ensures graph { IsGraph self.now }
@@ -156,7 +154,7 @@ impl Graph {
         &rows.edges
     }
 
-    /// How many edges a running game has: the graph's own, and then a root edge for each vertex.
+    /// The number of edges of a running game: the graph's own, and then a root edge for each vertex.
     pub fn all_edges(&self) -> u64
         ensures value { result ≡ edges_and_roots self.now }
         ensures graph { IsGraph self.now }
@@ -193,7 +191,7 @@ impl Graph {
         }
     }
 
-    /// How many chips one firing of this vertex takes: the sum of `mult` over the edges out of it, 0 to 2^43.
+    /// The number of chips that one firing of this vertex takes: the sum of `mult` over the edges out of it, 0 to 2^43.
     pub fn out_degree(&self, vertex: u64) -> u64
         requires { vertex < self.now.vertices }
         ensures { result ≡ degree self.now vertex }
@@ -220,7 +218,7 @@ impl Graph {
         rows.ins.list(vertex as usize)
     }
 
-    /// The edges out of this vertex, in the order of `outs`, side by side in memory.
+    /// The edges out of this vertex, in the order of `outs`, contiguous in memory.
     pub fn links(&self, vertex: u64) -> &[Link]
         requires { vertex < self.now.vertices }
         ensures { result.now ≡ map (λ e. link_of (edge_at self.now e)) (edges_out self.now vertex) }
@@ -229,7 +227,7 @@ impl Graph {
         rows.outs.beside(vertex as usize, &rows.links)
     }
 
-    /// How many edges a shortest walk from this vertex to the sink has; 0 at the sink.
+    /// The number of edges of a shortest walk from this vertex to the sink; 0 at the sink.
     pub fn distance(&self, vertex: u64) -> u64
         requires { vertex < self.now.vertices }
         ensures { IsDistance self.now vertex result }
@@ -258,7 +256,7 @@ fn check_edge(vertices: u64, sink: u64, i: u64, edge: &Edge) -> Result<(), Graph
     Ok(())
 }
 
-/// The first fault of these sizes by these limits.
+/// The first fault of these sizes within these limits.
 fn check_sizes(limits: Limits, vertices: u64, sink: u64, edges: usize) -> Result<(), GraphFault>
     ensures first { result ≡ refusal (fault_of_sizes limits vertices sink edges) }
     ensures limits { IfOk result (λ _. AreLimits limits) }
@@ -285,7 +283,7 @@ fn check_edges(vertices: u64, sink: u64, edges: &[Edge]) -> Result<(), GraphFaul
     Ok(())
 }
 
-/// What is counted of edges without a fault, or the first fault. Memory runs out only if there is none.
+/// The counts of edges without a fault, or the first fault. Memory can run out only without a fault.
 fn count(alloc: Global, vertices: u64, sink: u64, edges: &[Edge]) -> Result<Counts, GraphFault>
     requires few_vertices { vertices ≤ max_vertices }
     requires few_edges { length edges.now ≤ max_edges }
@@ -309,7 +307,7 @@ fn count(alloc: Global, vertices: u64, sink: u64, edges: &[Edge]) -> Result<Coun
     Ok(counts)
 }
 
-/// The least vertex whose distance was not found is the fault.
+/// Finds the fault: the least vertex without a distance.
 fn check_reached(distances: &[u32]) -> Result<(), GraphFault>
     ensures all { OnOk result ((v : ℕ) → v < length distances.now → slice_index distances.now v ≢ UNREACHED) }
     ensures least { IfErr result (λ fault. (v : ℕ) × (fault ≡ Unreached v)

@@ -1,4 +1,4 @@
-//! How large a graph and the texts of its game may be.
+//! The sizes of a graph and of the texts of its game.
 
 ghost use Rattle.std.specs.Prelude.{◌≡◌};
 
@@ -11,7 +11,7 @@ pub const MAX_EDGES: u64 = 1 << 23;
 /// The most bytes of any text of a game: 2^28.
 pub const MAX_TEXT: u64 = 1 << 28;
 
-/// How many vertices and edges a graph may have, and how many bytes each text of its game.
+/// The most vertices and edges of a graph, and the most bytes of each text of its game.
 #[derive(Clone, Copy)]
 pub struct Limits {
     vertices: u64,

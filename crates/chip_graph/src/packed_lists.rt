@@ -3,10 +3,10 @@ ghost use Rattle.chip_graph.specs.PackedLists.{flat, lists_of, AreStarts};
 
 use std::marker::Model;
 
-/// Lists that lie side by side in one vector.
+/// Lists stored one after another in one vector.
 #[derive(Drop)]
 pub(crate) struct PackedLists<T> {
-    /// Where each list begins, and then where the last one ends.
+    /// The start of each list, and then the end of the last one.
     starts: Vec<u32>,
     members: Vec<T>,
 }
@@ -24,7 +24,7 @@ impl<T> Model for PackedLists<T> {
 }
 
 impl<T: Copy> PackedLists<T> {
-    /// The members, cut into lists at these starts.
+    /// The lists that `starts` cuts `members` into.
     pub(crate) fn new(starts: Vec<u32>, members: Vec<T>) -> Self
         requires { AreStarts starts.items (length members.items) }
         ensures { result ≡ lists_of starts.items members.items }
@@ -47,7 +47,7 @@ impl<T: Copy> PackedLists<T> {
         self.beside(i, self.members())
     }
 
-    /// What stands beside the list with this index, if `things` has one for each member.
+    /// The elements of `things` for the list with this index, if `things` has one for each member.
     pub(crate) fn beside<'a, U>(&self, i: usize, things: &'a [U]) -> &'a [U]
         requires inside { i < length self.now }
         requires one_each { length things.now ≡ length (flat self.now) }

@@ -1,5 +1,5 @@
 -- Serves Laws.antt.
--- What is answered of rows whose claims are right.
+-- The judge's results for rows whose claims are right.
 use Rattle.std.proofs.Common.{◌≡◌, ℕ, ◌<◌, Bool, true, cond, List, length, get_or, map, refl, arith}
 use Rattle.std.specs.Prelude.{All}
 use Rattle.std.proofs.lemmas.Bool.Decides.{nat_tests}

@@ -1,5 +1,5 @@
 -- Serves Rows.antt.
--- What a part logs of its events is a run of its states.
+-- The rows that a part logs of its events are a run of its states.
 use Rattle.std.proofs.Common.{◌≡◌, ◌≢◌, ℕ, zero, suc, ◌+◌, ◌-◌, ◌<◌, ◌≤◌, Bool, true, false, List, [], ◌∷◌, length, get_or}
 use Rattle.std.proofs.Common.{refl, sym, ap, ◌∙◌, subst, arith, set, replicate, Option, Some, None, eq-eqb}
 use Rattle.std.specs.Prelude.{if◌then◌else◌, not, ◌&&◌}
@@ -85,7 +85,7 @@ owed_twice : (o : Option ℕ) (f g : ℕ → ℕ) → ((q : ℕ) → g q ≤ f q
 owed_twice None f g less = refl
 owed_twice (Some q) f g less = let a = less q in grind (arith, nat_tests)
 
--- who may acknowledge so many may acknowledge one fewer after one
+-- a part that may acknowledge a number may, after one of them, acknowledge one fewer
 may_next : (e : ℕ) (o : Option ℕ) (owes : ℕ → ℕ) (here all waiting : ℕ) (passive : Bool) → 0 < here → here ≤ all
     → acknowledgeable_count e o here all waiting passive
     ≤ 1 + acknowledgeable_count e (parent_while_owed o owes) (here - 1) (all - 1) waiting passive
@@ -210,7 +210,7 @@ module _ (net : Network) (p e : ℕ) (l : e < net.edges) (passive : Bool) where
 
 -- ---- one event
 
--- it becomes passive, or stays what it is
+-- it becomes passive, or is unchanged
 rests : (net : Network) (p : ℕ) → p < net.parts → (b : Books) (was now : Bool) → (was ≡ true → now ≡ true)
     → Run net p (record { books = b; passive = was }) (if now && not was then Passive ∷ [] else [])
     (record { books = b; passive = now })

@@ -1,5 +1,5 @@
 -- Serves Laws.antt.
--- Rows in any order in which each is met are a legal log of the computation again.
+-- Rows in any order in which each is enabled are a legal log of the computation again.
 use Rattle.std.proofs.Common.{◌≡◌, ◌≢◌, ℕ, ◌<◌, ◌≤◌, Bool, true, false, cond, eqb, List, [], ◌∷◌, ◌++◌, refl, sym, ap, ◌∙◌}
 use Rattle.std.proofs.Common.{subst, arith, eq-eqb, append-nil, append_assoc}
 use Rattle.std.specs.Prelude.{not, All}
@@ -30,7 +30,7 @@ use Rattle.chip_log.proofs.PastLemmas.{are_met_first}
 use Rattle.chip_judged.proofs.RunLemmas.{Run, Does, MayOwn, event_of, sender_of, receiver_of, run_counted, run_on, run_active}
 use Rattle.chip_judged.proofs.RunLemmas.{run_sends, run_gets, run_of, inside}
 
--- no step of a channel that is none
+-- no step is of a channel that is none
 out_beyond : (n : ℕ) (s : Stream) (step : Step) → IsOf n step → n ≤ s.channel → ◌≡◌ {A = ℕ} (cond (is_out s step) 1 0) 0
 out_beyond n s (Out t) of past = grind (arith, nat_tests)
 out_beyond n s _ of past = refl
@@ -119,7 +119,7 @@ module _ (net : Network) (is : IsNetwork net) (first end : World) (rows : List L
 
   module _ (opens : (p : ℕ) → p < net.parts → OpensPart net p (first p))
       (starts : (p : ℕ) → p < net.parts → begins_active (steps_of p rows) ≡ not (first p).passive) where
-    -- behind rows that led each part here
+    -- after rows that led each part here
     module _ (before : List LogRow) (now : World) (past : (q : ℕ) → Run net q (first q) (steps_of q before) (now q)) where
       outs_are : (s : Stream) → outs s before ≡ sends s (steps_of (sender_of net s) before)
       outs_are s = all_own (is_out s) (sender_of net s) before (λ p other.
@@ -175,7 +175,7 @@ module _ (net : Network) (is : IsNetwork net) (first end : World) (rows : List L
           let a = none_outside p beyond in
           let b = inside net p is (first p) (steps_of p before) (now p) (past p) beyond in rw (a, b)
 
-      -- what is met may be done
+      -- what is enabled may be done
       reaches : (p : ℕ) (step : Step) (new : PartState) → Does net p (now p) step new → is_enabled rows before p step ≡ true
           → Reaches net now (event_of p (now p) step)
       reaches p (Out t) new d met = by t.channel t.is_control
@@ -251,7 +251,7 @@ module _ (net : Network) (is : IsNetwork net) (first end : World) (rows : List L
     reach before (y ∷ ys) zs met r = subst (λ (xs : List LogRow). Reached xs zs) (append_assoc before (y ∷ []) ys)
         (reach (before ++ y ∷ []) ys zs met.1 (step_on before y (ys ++ zs) r met.0))
 
-    -- a claim is made by the closed root, so all is silent before it
+    -- the closed root makes a claim, so everything is quiescent before it
     module _ (p : ℕ) (before after : List LogRow)
         (whole : IsInterleaving rows (before ++ record { process = p; step = Over } ∷ after)) where
       abbrev claim : LogRow

@@ -1,5 +1,5 @@
 -- Serves Rows.antt.
--- What one part logs, step by step, and the states that it goes through.
+-- The rows that one part logs, step by step, and its states in between.
 use Rattle.std.proofs.Common.{◌≡◌, ◌≢◌, ℕ, ◌+◌, ◌<◌, ◌≤◌, Bool, true, false, cond, List, [], ◌∷◌, ◌++◌, refl, sym, ap}
 use Rattle.std.proofs.Common.{subst, arith, rules}
 use Rattle.std.specs.Prelude.{if◌then◌else◌, not, All}
@@ -20,13 +20,13 @@ use Rattle.chip_log.specs.declared.row.Step.{Step}
 use Rattle.chip_log.specs.declared.row.Step.TheVariants.{Out, In, Passive, Active, Over}
 use Rattle.chip_log.proofs.CountLemmas.{active_after-append, same_stream_is}
 
--- the event that a step is, of a part in the state s
+-- the event of a step, of a part in the state s
 abbrev pub event_of : ℕ → PartState → Step → Event
 event_of p s (Out t) = if t.is_control then Ack t.channel 1 else Send t.channel
 event_of p s (In t) = if t.is_control then Settle t.channel (settled_of s.books t.channel + 1) else Get t.channel
 event_of p s _ = Work p
 
--- when its part may do it, by what that knows
+-- when its part may do it, by its own state
 abbrev pub MayOwn : Network → PartState → Event → Type 0
 MayOwn net s (Send e) = (e < net.edges) × (s.passive ≡ false) × (sent_of s.books e < message_limit)
 MayOwn net s (Get e) = e < net.edges
@@ -34,7 +34,7 @@ MayOwn net s (Ack e n) = (e < net.edges) × (n ≤ may_ack s.books e s.passive)
 MayOwn net s (Settle e word) = e < net.edges
 MayOwn net s (Work p) = p < net.parts
 
--- only an active part says that it begins so, and only the closed root that all is over
+-- only an active part logs that it begins active, and only the closed root that all is over
 abbrev pub MaySay : Network → ℕ → PartState → Step → Type 0
 MaySay net p s Active = s.passive ≡ false
 MaySay net p s Over = (p ≡ net.root) × (s.passive ≡ true) × (deficit s.books ≡ 0)
@@ -139,7 +139,7 @@ module _ (net : Network) (p : ℕ) (old : PartState) where
         by c false d = d.may
     does_of _ d = tt
 
--- ---- steps, one after another
+-- ---- steps, in order
 
 -- the counts of an edge after these steps
 pub record AreCounted (steps : List Step) (old new : Books) (e : ℕ) : Type 0 where

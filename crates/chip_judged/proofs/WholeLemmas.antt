@@ -1,5 +1,5 @@
 -- Serves Laws.antt.
--- The rows of a whole log, and what the judge says of them.
+-- The rows of a whole log, and the judge's verdicts on them.
 use Rattle.std.proofs.Common.{◌≡◌, ℕ, zero, suc, ◌+◌, ◌-◌, ◌<◌, ◌≤◌, Bool, true, false, List, [], ◌∷◌, ◌++◌, length}
 use Rattle.std.proofs.Common.{refl, sym, ap, subst, arith, replicate, append_assoc}
 use Rattle.std.specs.Prelude.{not, All, if◌then◌else◌}
@@ -31,7 +31,7 @@ use Rattle.chip_judged.proofs.RunLemmas.{Run, run_on, run_sent, run_of}
 use Rattle.chip_judged.proofs.EventLemmas.{rows_own, rows_other, between_run}
 use Rattle.chip_judged.proofs.ReachLemmas.{ends, none_outside, sent_is, got_is, acked_is, settled_is, active_is, silent_before}
 
--- ---- where a claim stands among all rows
+-- ---- the place of a claim among all rows
 
 abbrev claim : ℕ → LogRow
 claim p = record { process = p; step = Over }
@@ -85,7 +85,7 @@ module _ (net : Network) where
           let a = ap length (none x.process (omega arith)) in let b = ap length (steps_own x.process x xs refl) in
           absurd (omega arith))
 
--- ---- rows of one part that are met
+-- ---- enabled rows of one part
 
 module _ (rows : List LogRow) (p : ℕ) where
   passive_met : (before : List LogRow) (b : Bool) → AreEnabled rows before (rows_by p (if b then Passive ∷ [] else []))
@@ -106,7 +106,7 @@ module _ (rows : List LogRow) (p : ℕ) where
         let b = push_no (is_out (control e)) before x refl in omega arith),
   )
 
--- only an active part begins so
+-- only an active part begins active
 not_begun : (net : Network) (p : ℕ) (old : PartState) (steps : List Step) (new : PartState) → Run net p old steps new → old.passive ≡ true
     → begins_active steps ≡ false
 not_begun net p old [] new run passive = refl
@@ -129,7 +129,7 @@ module _ (net : Network) (is : IsNetwork net) (log : Log) (w : World) (legal : I
   abbrev closing : List LogRow
   closing = rows_by net.root (Over ∷ [])
 
-  -- what the root says at the ends is of no other part
+  -- what the root logs at the ends is of no other part
   root_run : (now : World) (steps : List Step) → Run net net.root (now net.root) steps (now net.root) → (q : ℕ)
       → Run net q (now q) (steps_of q (rows_by net.root steps)) (now q)
   root_run now steps run q = dite (ℕ_discrete net.root q)
@@ -185,7 +185,7 @@ module _ (net : Network) (is : IsNetwork net) (log : Log) (w : World) (legal : I
           (subst (λ (q : ℕ). (first q).passive ≡ false) z active)))
           (λ other. let a = (legal.opens p l).passive other in absurd (cc))
 
-  -- ---- in the order of the log each row is met
+  -- ---- in the order of the log each row is enabled
 
   module _ (before : List LogRow) (now : World) (past : (q : ℕ) → Run net q (first q) (steps_of q before) (now q)) where
     met_then : (p : ℕ) (steps : List Step) (b : Bool) → AreEnabled rows before (rows_by p steps)

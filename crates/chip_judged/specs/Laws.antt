@@ -1,4 +1,4 @@
--- What the judge says of the rows of a diffusing computation.
+-- The judge's results for the rows of a diffusing computation.
 use Rattle.std.specs.Prelude.{◌≡◌, ℕ, Bool, List, All, None}
 use Rattle.chip_diffusing.specs.Network.{Network, IsNetwork}
 use Rattle.chip_diffusing.specs.Computation.{World, Log, IsLegalLog, HasClosedRoot}
@@ -18,20 +18,21 @@ use Rattle.chip_judged.specs.Rows.{rows_of_run}
 abbrev pub network_sizes : Network → Sizes
 network_sizes net = record { processes = net.parts; channels = net.edges }
 
--- rows that the judge takes and can order, and no claim in them is early: the computation was claimed to be over, and it was
+-- rows that the judge accepts and can order, and no claim in them is early: the computation was claimed to be over, and
+-- it was
 pub record AreJudgedRight (net : Network) (rows : List LogRow) : Type 0 where
   pub well_formed : IsWellFormed (network_sizes net) rows
   pub ordered : (order : List LogRow) × IsInterleaving rows order
   pub none_early : (with_past : Bool) → IsFirstEarly with_past rows None
   pub claimed : IsEnd rows end.Claimed
 
--- so it is of every legal log whose root is closed, in every order that keeps the rows of each part in theirs
+-- it holds of every legal log whose root is closed, and every order that keeps each part's rows in their order
 abbrev pub EveryLogIsJudgedRight : Type 0
 EveryLogIsJudgedRight = (net : Network) → IsNetwork net → (log : Log) (w : World) (legal : IsLegalLog net log w)
     → HasClosedRoot net w → (rows : List LogRow) → ((p : ℕ) → steps_of p rows ≡ steps_of p (rows_of_run net log w legal))
     → AreJudgedRight net rows
 
--- and so the judge answers: its verdict on each claim is that it is right, and the log ends with a claim
+-- so the judge's verdict on each claim is that it is right, and the log ends with a claim
 abbrev pub EveryAnswerIsRight : Type 0
 EveryAnswerIsRight = (net : Network) → IsNetwork net → (log : Log) (w : World) (legal : IsLegalLog net log w)
     → HasClosedRoot net w → (rows : List LogRow) → ((p : ℕ) → steps_of p rows ≡ steps_of p (rows_of_run net log w legal))

@@ -12,7 +12,7 @@ use Rattle.chip_judged.specs.Rows.{steps_by, rows_of_run}
 abbrev pub log_row : ℕ → Step → LogRow
 log_row p step = record { process = p; step = step }
 
--- the root begins active, sends and rests; part 0 gets the message, rests and acknowledges; the root hears and claims
+-- the root begins active, sends and rests; part 0 gets the message, rests and acknowledges; the root settles and claims
 abbrev pub WholeRows : Type 0
 WholeRows = (legal : IsLegalLog pair whole closed) × (rows_of_run pair whole closed legal
     ≡ log_row 1 Active ∷ log_row 1 (Out (basic 0)) ∷ log_row 1 Passive ∷ log_row 0 (In (basic 0)) ∷ log_row 0 Passive

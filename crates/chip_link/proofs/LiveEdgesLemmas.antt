@@ -1,6 +1,5 @@
 -- Serves Link.antt, Ends.antt, Edge.antt.
--- One edge end to end: behind every list of steps there are the lists of counts that `Link` speaks of, and so its laws
--- hold.
+-- One edge end to end: every list of steps has lists of counts as in `Link`, and so its laws hold.
 use Rattle.std.proofs.Common.{◌≡◌, ◌≢◌, ◌⊎◌, inl, inr, ⊎_elim, option_map, ℕ, ◌+◌, ◌-◌, ◌%◌, ◌^◌, ◌<◌, ◌≤◌, Bool, true}
 use Rattle.std.proofs.Common.{false, ◌&&◌, cond, ltb, List, [], ◌∷◌, ◌++◌, length, take, drop, get_or, set, replicate}
 use Rattle.std.proofs.Common.{Option, Some, None, option_to_list, is_none, is_some, refl, sym, ap, ◌∙◌, subst, arith}
@@ -30,7 +29,7 @@ use Rattle.chip_link.proofs.StatesLemmas.{tail_clears, tail_claims, tail_puts, p
 use Rattle.chip_link.proofs.NumberingLemmas.{numbered, numbered-append, length-numbered, numbered_in_order}
 use Rattle.chip_link.proofs.NumberingLemmas.{numbered_prefix}
 
--- the running edge s has these lists behind it
+-- the running edge s has these lists
 pub record Follows (edge ring : ℕ) (s : LiveEdge) (t : Tail) (got : List ℕ) : Type 0 where
   pub tail_is : s.tail ≡ tail_state edge ring t
   pub head_is : s.head ≡ head_state edge ring got
@@ -42,7 +41,7 @@ pub record Follows (edge ring : ℕ) (s : LiveEdge) (t : Tail) (got : List ℕ) 
   pub few : claims_of t ≤ 2 ^ 62
   pub fewer : t.clear ≡ true → claims_of t < 2 ^ 62
 
--- some lists stand behind it
+-- it has some lists
 abbrev pub HasLists : ℕ → ℕ → LiveEdge → Type 0
 HasLists edge ring s = (t : Tail) × (got : List ℕ) × Follows edge ring s t got
 
@@ -190,7 +189,7 @@ module _ (edge ring : ℕ) (some_ring : 0 < ring) (s : LiveEdge) (t : Tail) (got
       ))
       (held_cases t.held)
 
-  -- a take that is allowed
+  -- an allowed take
   taken_on : HasLists edge ring (take_on (get_or s.cells (head_cell s.head) 0) s)
   taken_on =
       let seen : ℕ = get_or s.cells (head_cell s.head) 0 in
@@ -237,7 +236,7 @@ module _ (edge ring : ℕ) (some_ring : 0 < ring) (s : LiveEdge) (t : Tail) (got
         let kept = seal_sound ring t got s.stop s.word f.shows.word_is f.sound in search (rules, arith, nat_tests)),
   )
 
-  -- a sealed edge takes no claim, and stays sealed
+  -- a sealed edge accepts no claim, and stays sealed
   unclaimed : (first : ℕ) → s.stop ≡ Some first → (x : EdgeStep) → ((edge_step x s).claimed ≡ s.claimed)
       × ((edge_step x s).stop ≡ Some first)
   unclaimed first stop Clear = (refl, stop)
@@ -254,7 +253,7 @@ module _ (edge ring : ℕ) (some_ring : 0 < ring) (s : LiveEdge) (t : Tail) (got
 get_or-zeros : (zeros : List ℕ) (n i : ℕ) → zeros ≡ replicate n 0 → get_or zeros i 0 ≡ 0
 get_or-zeros zeros n i is = grind (arith, get_or-replicate, get_or_past, length-replicate)
 
--- a new edge has empty lists behind it
+-- a new edge has empty lists
 new_edge_follows : (edge ring : ℕ) → 0 < ring → Follows edge ring (new_edge edge ring) fresh_tail []
 new_edge_follows edge ring some_ring =
     let cells : length (replicate {A = ℕ} ring 0) ≡ ring = length-replicate ring 0 in
@@ -275,7 +274,7 @@ after_steps edge ring some_ring [] s h = h
 after_steps edge ring some_ring (x ∷ xs) s h = after_steps edge ring some_ring xs (edge_step x s)
     (after_step edge ring some_ring s h x)
 
--- every edge that runs has its lists
+-- every running edge has lists
 pub has_lists : (edge ring : ℕ) → 0 < ring → (xs : List EdgeStep) → HasLists edge ring (steps xs (new_edge edge ring))
 has_lists edge ring some_ring xs = after_steps edge ring some_ring xs (new_edge edge ring)
     (fresh_tail, [], new_edge_follows edge ring some_ring)

@@ -1,5 +1,5 @@
 -- Serves Laws.antt.
--- Counts as messages of one edge, with the places one after another.
+-- Counts as messages of one edge, with consecutive places.
 use Rattle.std.proofs.Common.{◌≡◌, ℕ, zero, suc, ◌+◌, List, [], ◌∷◌, ◌++◌, length, Some, refl, sym, ap, ◌∙◌, arith}
 use Rattle.std.specs.List.{slice_get}
 use Rattle.std.proofs.lemmas.Option.{get_or_from_slice_get}
@@ -39,7 +39,7 @@ numbered_at edge n (x ∷ xs) (suc p) m e = let rest = numbered_at edge (n + 1) 
 pub numbered_in_order : (edge : ℕ) (xs : List ℕ) → AreInOrder edge (numbered edge 0 xs)
 numbered_in_order edge xs p m e = let at = numbered_at edge 0 xs p m e in (at.0, omega arith)
 
--- what is a prefix as counts is one as messages
+-- a prefix as counts is a prefix as messages
 pub numbered_prefix : (edge : ℕ) (xs ys rest : List ℕ) → xs ++ rest ≡ ys
     → IsPrefix (numbered edge 0 xs) (numbered edge 0 ys)
 numbered_prefix edge xs ys rest e = (

@@ -1,6 +1,6 @@
 -- Serves Link.antt.
 -- One edge, by what its words show: each step sees what the lists say, and leaves words that show the lists after it.
--- The edge word and the cells are any number and any function, so that a table of words may stand behind them.
+-- The edge word and the cells are any number and any function, so that they can be a table of words.
 use Rattle.std.proofs.Common.{◌≡◌, ℕ, suc, ◌+◌, ◌*◌, ◌/◌, ◌%◌, ◌<◌, ◌≤◌, sym, ap, ◌∙◌, arith, mul-le-mul_right, suc-mul}
 use Rattle.std.proofs.Common.{lt_of_not-le, div-add-mod', ◌≢◌, zero, ◌^◌, true, false, List, [], ◌∷◌, ◌++◌, length}
 use Rattle.std.proofs.Common.{get_or, Option, Some, None, is_some, refl, subst, length-append, bit_or, eq-eqb, ne_eqb}
@@ -61,7 +61,7 @@ module _ (ring : ℕ) (some_ring : 0 < ring) (word : ℕ) (cell : ℕ → ℕ) (
   pub clear_shows : (seen : ℕ) → WordsShow ring word cell (after_clear seen t) got stop
   clear_shows seen = record { word_is = is.word_is; ring_is = is.ring_is }
 
-  -- what the exchange of a claim leaves, by its two cases
+  -- the effect of the exchange of a claim, by its two cases
   pub claim_shows : (count word' : ℕ) → t.held ≡ None → (word ≡ claims_of t → word' ≡ claims_of t + 1)
       → (word ≢ claims_of t → word' ≡ word) → WordsShow ring word' cell (after_claim count word t) got stop
   claim_shows count word' none hit miss =
@@ -75,7 +75,7 @@ module _ (ring : ℕ) (some_ring : 0 < ring) (word : ℕ) (cell : ℕ → ℕ) (
       subst (λ (u : Tail). WordsShow ring word' cell u got stop)
       (sym (cond-false _ _ _ (ne_eqb word (claims_of t) other))) record { word_is = kept ∙ is.word_is; ring_is = is.ring_is })
 
-  -- the store of a put changes the cell of the last claim, and no other
+  -- the store of a put changes only the cell of the last claim
   pub put_shows : (count : ℕ) (cell' : ℕ → ℕ) → t.held ≡ Some count → cell' (length t.put % ring) ≡ count
       → ((i : ℕ) → i < ring → i ≢ length t.put % ring → cell' i ≡ cell i)
       → WordsShow ring word cell' (after_put t) got stop
@@ -97,7 +97,7 @@ module _ (ring : ℕ) (some_ring : 0 < ring) (word : ℕ) (cell : ℕ → ℕ) (
   pub take_sees : cell (length got % ring) ≡ cell_at_head t got
   take_sees = is.ring_is (length got) (omega arith) (omega arith)
 
-  -- the swap of a take leaves 0 in the head's cell, and no other changes
+  -- the swap of a take leaves 0 in the head's cell, and changes no other
   pub take_shows : (cell' : ℕ → ℕ) → cell' (length got % ring) ≡ 0
       → ((i : ℕ) → i < ring → i ≢ length got % ring → cell' i ≡ cell i)
       → WordsShow ring word cell' t (after_take (cell (length got % ring)) got) stop

@@ -1,6 +1,5 @@
 -- Serves Link.antt.
--- One edge by its lists, with no word: each step that is allowed keeps it sound. What a step sees is taken by an
--- equation.
+-- One edge by its lists, without words: each allowed step keeps it sound. What a step sees is given by an equation.
 use Rattle.std.proofs.Common.{◌≡◌, ◌≢◌, ℕ, ◌+◌, ◌<◌, Bool, true, false, cond, eqb, List, [], ◌∷◌, ◌++◌, length}
 use Rattle.std.proofs.Common.{get_or, Option, Some, None, option_to_list, is_some, refl, sym, subst}
 use Rattle.std.proofs.Common.{arith, length-append, eq-eqb, ne_eqb, rules}
@@ -30,7 +29,7 @@ none-some count e = cc
 some-injective : (a b : ℕ) → Some a ≡ Some b → a ≡ b
 some-injective a b e = cc
 
--- as many counts were sent as were claimed
+-- the numbers of sent and claimed messages are equal
 pub length-sent_counts : (t : Tail) → length (sent_counts t) ≡ claims_of t
 length-sent_counts t = length-append t.put (option_to_list t.held)
 
@@ -39,7 +38,7 @@ unsealed : (n : ℕ) (stop : Option ℕ) → top_bit (is_some stop) ≡ 0 → Is
 unsealed n None e = tt
 unsealed n (Some first) e = absurd (omega arith)
 
--- a push changes one place alone
+-- a push changes only one place
 pub pushed_same : (xs : List ℕ) (x p : ℕ) → p ≢ length xs → get_or (xs ++ x ∷ []) p 0 ≡ get_or xs p 0
 pushed_same xs x p ne = grind (arith, get_or_append_left, get_or_past, length-append)
 

@@ -1,5 +1,5 @@
 -- Serves WordLaws.antt, Words.antt.
--- What the words of an edge and of a vertex stand for, and what the operations on them make of that.
+-- The contents of the words of an edge and of a vertex, and the effect of the operations on them.
 use Rattle.std.proofs.Common.{subst, rules, ◌≡◌, ◌≢◌, ℕ, ◌+◌, ◌*◌, ◌%◌, ◌^◌, ◌<◌, Bool, true, false, eqb, refl, sym, ap}
 use Rattle.std.proofs.Common.{◌∙◌, arith, eq-eqb, ne_eqb, bit_or, bit_and, not, ◌/◌, le-leb}
 use Rattle.std.proofs.lemmas.Nat.{or_block}
@@ -15,7 +15,7 @@ use Rattle.chip_link.specs.WordLaws.{SealsWord, SealedReads, ExchangesWord, Expe
 use Rattle.chip_link.specs.WordLaws.{FiredWordStands, AddsFirings, AddedFiringsRead, HaltsWord, HaltReads, HaltsByLimit}
 use Rattle.chip_link.specs.WordLaws.{HaltByLimitReads}
 
--- bits set above the lowest k leave what is below
+-- bits set above the lowest k leave the others
 or_above : (k a b r : ℕ) → r < 2 ^ k → bit_or (a * 2 ^ k + r) (b * 2 ^ k + 0) ≡ bit_or a b * 2 ^ k + r
 or_above k a b r l = or_block k a b r 0 l (omega arith) ∙ ap (λ (n : ℕ). bit_or a b * 2 ^ k + n) (or_zero_r r)
 
@@ -41,7 +41,7 @@ pub edge_word_reads : EdgeWordReads
 edge_word_reads claims sealed l = let r = claims_read claims sealed l in
     (r.0, record { claims_are = r.1; seal_is = r.2 })
 
--- a word that is made of a value is read as it
+-- a word of given contents is read as them
 pub read_edge : (word claims : ℕ) (sealed : Bool) → claims < 2 ^ 63 → word ≡ edge_word claims sealed
     → ReadsAs word claims sealed
 read_edge word claims sealed l e = subst (λ (w : ℕ). ReadsAs w claims sealed) (sym e)
@@ -86,7 +86,7 @@ pub fired_word_reads : FiredWordReads
 fired_word_reads fired halted by_limit l = let r = fired_read fired halted by_limit l in
     (r.0, record { fired_is = r.1; halt_is = r.2; cause_is = r.3 })
 
--- a word that is made of a value is read as it
+-- a word of given contents is read as them
 pub read_fired : (word fired : ℕ) (halted by_limit : Bool) → fired < 2 ^ 62 → word ≡ fired_word fired halted by_limit
     → ReadsAsFired word fired halted by_limit
 read_fired word fired halted by_limit l e = subst (λ (w : ℕ). ReadsAsFired w fired halted by_limit) (sym e)
@@ -95,7 +95,7 @@ read_fired word fired halted by_limit l e = subst (λ (w : ℕ). ReadsAsFired w 
 pub fired_word_stands : FiredWordStands
 fired_word_stands = search rules
 
--- a word is made of what is read from it, however that was read
+-- a word is the one of its contents as read, however they were read
 pub fired_word_back : (word fired : ℕ) (halted by_limit : Bool) → word < 2 ^ 64 → fired ≡ fired_in word
     → halted ≡ is_halted_in word → by_limit ≡ is_by_limit_in word → fired_word fired halted by_limit ≡ word
 fired_word_back word fired halted by_limit fits f h l =

@@ -1,5 +1,5 @@
--- One edge as it runs: its shared words, its two ends, and the messages that went in and came out.
--- What an end makes of a step is what `Ends` says of the call that `TailLink` or `HeadLink` has for it.
+-- One edge as it runs: its shared words, its two ends, and the messages that went in and came out. The effect of a step
+-- on an end is that of its call in `Ends`.
 use Rattle.std.specs.Prelude.{ℕ, ◌+◌, ◌^◌, ◌&&◌, List, [], ◌∷◌, ◌++◌, replicate, slice_index, slice_set, if◌then◌else◌}
 use Rattle.std.specs.Prelude.{nat_lt, Option, Some, None, option_to_list, bit_or}
 use Rattle.chip_link.specs.declared.message.Message.{Message}
@@ -32,7 +32,7 @@ new_edge edge ring = record {
   taken = [];
 }
 
--- the steps: the tail looks at its cell (`cleared`), claims for a count (`claim_next`, `claimed`) and puts what it
+-- the steps: the tail reads its cell (`cleared`), claims for a count (`claim_next`, `claimed`) and puts what it
 -- claimed (`put_value`), the head takes (`taken`), and a stopper seals
 pub data EdgeStep : Type 0 where
   Clear : EdgeStep
@@ -46,7 +46,7 @@ abbrev pub cells_after_store : Option (ℕ × ℕ) → List ℕ → List ℕ
 cells_after_store None cells = cells
 cells_after_store (Some at) cells = slice_set cells at.0 at.1
 
--- a claim is one compare-and-exchange of the edge word, and the tail learns the word that it saw
+-- a claim is one compare-and-exchange of the edge word; the tail gets the word that it found
 abbrev pub claim_on : ℕ → LiveEdge → LiveEdge
 claim_on count s = record s {
   word = word_after_exchange s.tail.claims (s.tail.claims + 1) s.word;
@@ -54,7 +54,7 @@ claim_on count s = record s {
   claimed = s.claimed ++ option_to_list (message_claimed s.word count s.tail);
 }
 
--- a take swaps the head's cell with 0, and the head learns what was there
+-- a take swaps the head's cell with 0; the head gets the old value
 abbrev pub take_on : ℕ → LiveEdge → LiveEdge
 take_on cell s = record s {
   cells = slice_set s.cells (head_cell s.head) 0;
@@ -62,8 +62,9 @@ take_on cell s = record s {
   taken = s.taken ++ option_to_list (message_taken cell s.head);
 }
 
--- one step. What its call does not allow changes nothing: a claim before the cell was seen empty or for a count out of
--- range, and a take after 2 ^ 62 of them. Of a look and a put the tail itself says so (`may_clear`, `put_of`)
+-- one step. A step that its call does not allow changes nothing: a claim before the cell was seen empty or for a count
+-- out of range, and a take after 2 ^ 62 of them. For a look and a put the tail's own tests do that (`may_clear`,
+-- `put_of`)
 abbrev pub edge_step : EdgeStep → LiveEdge → LiveEdge
 edge_step Clear s = record s { tail = tail_after_clear (slice_index s.cells (tail_cell s.tail)) s.tail }
 edge_step (Claim count) s = if s.tail.clear && is_count count then claim_on count s else s
@@ -71,7 +72,7 @@ edge_step Put s = record s { cells = cells_after_store (put_of s.tail) s.cells; 
 edge_step Take s = if nat_lt s.head.taken (2 ^ 62) then take_on (slice_index s.cells (head_cell s.head)) s else s
 edge_step Seal s = record s { word = bit_or s.word (2 ^ 63); stop = after_seal s.word s.stop }
 
--- a list of steps, the first one first
+-- a list of steps, in order
 abbrev pub steps : List EdgeStep → LiveEdge → LiveEdge
 steps [] s = s
 steps (x ∷ xs) s = steps xs (edge_step x s)

@@ -1,12 +1,11 @@
--- What the two ends of one edge know, as plain data, and what each call makes of it.
--- `TailLink` and `HeadLink` are seen as these records, and the model of one edge in `Edge` takes its steps by the same
--- definitions.
+-- The state of the two ends of one edge, as plain data, and the effect of each call on it. `TailLink` and `HeadLink`
+-- are seen as these records, and the model of one edge in `Edge` takes its steps by the same definitions.
 use Rattle.std.specs.Prelude.{ℕ, ◌+◌, ◌-◌, ◌%◌, ◌^◌, Bool, true, false, not, ◌&&◌, ◌==◌, nat_lt, nat_le, if◌then◌else◌}
 use Rattle.std.specs.Prelude.{Option, Some, None, option_map, is_none}
 use Rattle.chip_link.specs.declared.message.Message.{Message}
 
--- the tail of an edge with a ring of `ring` cells: how many messages it claimed, the count of the one that is claimed
--- and not put, whether it saw the cell of the next place empty, and whether a claim was refused by a seal
+-- the tail of an edge with a ring of `ring` cells: the number of messages it claimed, the count of the one claimed and
+-- not put, whether it saw the cell of the next place empty, and whether a seal refused a claim
 pub record TailState : Type 0 where
   pub edge : ℕ
   pub ring : ℕ
@@ -23,7 +22,7 @@ new_tail edge ring = record { edge = edge; ring = ring; claims = 0; held = None;
 abbrev pub tail_cell : TailState → ℕ
 tail_cell t = t.claims % t.ring
 
--- a look at that cell counts: nothing waits to be put, no claim was refused, and a place is left
+-- a look at that cell counts: no message waits to be put, no claim was refused, and a place is left
 abbrev pub may_clear : TailState → Bool
 may_clear t = (is_none t.held && not t.refused) && nat_lt t.claims (2 ^ 62)
 
@@ -31,7 +30,7 @@ may_clear t = (is_none t.held && not t.refused) && nat_lt t.claims (2 ^ 62)
 abbrev pub tail_after_clear : ℕ → TailState → TailState
 tail_after_clear cell t = if may_clear t then record t { clear = cell == 0 } else t
 
--- the place that may be claimed next if this is in its cell
+-- the next place to claim if its cell has these contents
 abbrev pub place_for : ℕ → TailState → Option ℕ
 place_for cell t = if may_clear t && cell == 0 then Some t.claims else None
 
@@ -39,7 +38,7 @@ place_for cell t = if may_clear t && cell == 0 then Some t.claims else None
 abbrev pub claim_words : TailState → Option (ℕ × ℕ)
 claim_words t = if t.clear then Some (t.claims, t.claims + 1) else None
 
--- after a claim for this count that saw this word: it is taken if the word was the expected one, else the edge is
+-- after a claim for this count that saw this word: it is accepted if the word was the expected one, else the edge is
 -- sealed
 abbrev pub tail_after_claim : ℕ → ℕ → TailState → TailState
 tail_after_claim word count t = if word == t.claims
@@ -51,7 +50,7 @@ abbrev pub message_claimed : ℕ → ℕ → TailState → Option Message
 message_claimed word count t = if word == t.claims then Some (record { edge = t.edge; place = t.claims; count = count })
     else None
 
--- the cell and the value to store: the message that is claimed and not put has the last place
+-- the cell and the value to store: the message claimed and not put has the last place
 abbrev pub put_of : TailState → Option (ℕ × ℕ)
 put_of t = option_map (λ count. ((t.claims - 1) % t.ring, count)) t.held
 
@@ -59,15 +58,15 @@ put_of t = option_map (λ count. ((t.claims - 1) % t.ring, count)) t.held
 abbrev pub tail_after_put : TailState → TailState
 tail_after_put t = record t { held = None }
 
--- the most chips that one message carries
+-- the most chips of one message
 abbrev pub max_count : ℕ
 max_count = 2 ^ 40
 
--- a count of chips that one message may carry
+-- a valid count of chips of one message
 abbrev pub is_count : ℕ → Bool
 is_count count = nat_lt 0 count && nat_le count max_count
 
--- the head of an edge with a ring of `ring` cells, and how many messages it took
+-- the head of an edge with a ring of `ring` cells, and the number of messages it took
 pub record HeadState : Type 0 where
   pub edge : ℕ
   pub ring : ℕ
@@ -85,6 +84,6 @@ head_cell h = h.taken % h.ring
 abbrev pub head_after_take : ℕ → HeadState → HeadState
 head_after_take cell h = if cell == 0 then h else record h { taken = h.taken + 1 }
 
--- the message that such a take brings
+-- the message of such a take
 abbrev pub message_taken : ℕ → HeadState → Option Message
 message_taken cell h = if cell == 0 then None else Some (record { edge = h.edge; place = h.taken; count = cell })

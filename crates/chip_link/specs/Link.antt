@@ -1,14 +1,14 @@
--- One edge by the lists of counts that went over it: what its tail claimed and put, what its head took, how it was
--- sealed. Whoever knows all events of an edge speaks of these lists; a running tail or head keeps only numbers
--- (`Ends`). `tail_state` and `head_state` say which numbers go with which lists, and each step here is the step of that
+-- One edge by the lists of counts that went over it: what its tail claimed and put, what its head took, and how it was
+-- sealed. Models that know all events of an edge use these lists; a running tail or head keeps only numbers (`Ends`).
+-- `tail_state` and `head_state` say which numbers belong to which lists, and each step here is the step of the same
 -- name there.
 use Rattle.std.specs.Prelude.{◌≡◌, ℕ, ◌+◌, ◌%◌, ◌<◌, ◌≤◌, Bool, true, false, ◌==◌, if◌then◌else◌, List, [], ◌∷◌, ◌++◌}
 use Rattle.std.specs.Prelude.{length, take, slice_index, Option, Some, None, is_some, option_to_list}
 use Rattle.chip_link.specs.Words.{edge_word}
 use Rattle.chip_link.specs.Ends.{TailState, HeadState}
 
--- what the tail did on an edge: the counts of the messages that were put, in order; the count of the one that is
--- claimed and not put; the notes that the next cell was seen empty and that a claim was refused
+-- the tail's steps on an edge: the counts of the messages that were put, in order; the count of the one claimed and not
+-- put; the notes that the next cell was seen empty and that a claim was refused
 pub record Tail : Type 0 where
   pub put : List ℕ
   pub held : Option ℕ
@@ -27,7 +27,7 @@ first_tail count = record { put = count ∷ []; held = None; clear = false; refu
 abbrev pub sent_counts : Tail → List ℕ
 sent_counts t = t.put ++ option_to_list t.held
 
--- how many these are
+-- their number
 abbrev pub claims_of : Tail → ℕ
 claims_of t = length t.put + length (option_to_list t.held)
 
@@ -44,7 +44,7 @@ after_claim count word t = if word == claims_of t then record t { held = Some co
 abbrev pub after_put : Tail → Tail
 after_put t = record t { put = sent_counts t; held = None }
 
--- the counts that the head took, after one more look at its cell
+-- the counts that the head took, after one more take from its cell
 abbrev pub after_take : ℕ → List ℕ → List ℕ
 after_take cell got = if cell == 0 then got else got ++ cell ∷ []
 
@@ -57,8 +57,7 @@ after_seal word (Some first) = Some first
 abbrev pub word_of : Tail → Option ℕ → ℕ
 word_of t stop = edge_word (claims_of t) (is_some stop)
 
--- what the tail sees in the cell of the next place to claim: with a full ring the oldest message that was not taken,
--- else 0
+-- what the tail sees in the cell of the next place to claim: with a full ring the oldest message not taken, else 0
 abbrev pub cell_at_tail : ℕ → Tail → List ℕ → ℕ
 cell_at_tail ring t got = if claims_of t == length got + ring then slice_index t.put (length got) else 0
 
@@ -71,11 +70,11 @@ abbrev pub IsSealedAt : ℕ → Option ℕ → Type 0
 IsSealedAt n None = Unit {0}
 IsSealedAt n (Some first) = first ≡ n
 
--- what holds of an edge after every list of steps that are allowed. No word is read
+-- the invariant of an edge after every list of allowed steps. No word is read
 pub record Sound (ring : ℕ) (t : Tail) (got : List ℕ) (stop : Option ℕ) : Type 0 where
   -- nothing was claimed since the first seal
   pub sealed_at : IsSealedAt (claims_of t) stop
-  -- what was taken is what was put, up to there
+  -- what was taken is a prefix of what was put
   pub prefix : got ≡ take (length got) t.put
   pub behind : length got ≤ length t.put
   -- the ring holds what is put and not taken
@@ -90,12 +89,12 @@ pub record Sound (ring : ℕ) (t : Tail) (got : List ℕ) (stop : Option ℕ) : 
   pub quiet : t.clear ≡ true → t.held ≡ None
 
 -- what the shared words show of it. The cells are given by places, from the next one to take on, as many as the ring
--- has cells: each cell stands for one place, and holds its count if that message was put, else 0
+-- has cells: each cell is one place, and holds its count if that message was put, else 0
 pub record WordsShow (ring word : ℕ) (cell : ℕ → ℕ) (t : Tail) (got : List ℕ) (stop : Option ℕ) : Type 0 where
   pub word_is : word ≡ word_of t stop
   pub ring_is : (p : ℕ) → length got ≤ p → p < length got + ring → cell (p % ring) ≡ slice_index t.put p
 
--- what a running tail knows of these lists
+-- the state of a running tail with these lists
 abbrev pub tail_state : ℕ → ℕ → Tail → TailState
 tail_state edge ring t = record {
   edge = edge;
@@ -106,6 +105,6 @@ tail_state edge ring t = record {
   refused = t.refused;
 }
 
--- what a running head knows of them
+-- the state of a running head with them
 abbrev pub head_state : ℕ → ℕ → List ℕ → HeadState
 head_state edge ring got = record { edge = edge; ring = ring; taken = length got }

@@ -1,7 +1,7 @@
--- How many cells the ring of an edge has.
+-- The number of cells in the ring of an edge.
 use Rattle.std.specs.Prelude.{ℕ, ◌<◌, ◌≤◌, ◌&&◌, nat_lt, nat_le, if◌then◌else◌, Option, Some, None}
 
--- the most that it has
+-- the most cells of a ring
 abbrev pub max_ring : ℕ
 max_ring = 64
 

@@ -1,4 +1,4 @@
--- How the fields of a running tail are seen.
+-- The view of the fields of a running tail.
 use Rattle.std.specs.Prelude.{ℕ, ◌^◌, ◌<◌, ◌≤◌, Bool, true, false, Option, Some, None}
 use Rattle.chip_link.specs.declared.tail.Stage.{Stage}
 use Rattle.chip_link.specs.declared.tail.Stage.TheVariants as At
@@ -24,7 +24,7 @@ is_refused At.Idle = false
 is_refused At.Clear = false
 is_refused At.Held = false
 
--- how many claims go with a stage: a place is left if the cell was seen empty, and what is held was claimed
+-- the numbers of claims for a stage: a place is left if the cell was seen empty, and what is held was claimed
 abbrev pub HasClaims : Stage → ℕ → Type 0
 HasClaims At.Clear claims = claims < 2 ^ 62
 HasClaims At.Held claims = (0 < claims) × (claims ≤ 2 ^ 62)

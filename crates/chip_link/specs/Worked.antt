@@ -10,7 +10,7 @@ use Rattle.chip_link.specs.Edge.{LiveEdge, EdgeStep, Clear, Claim, Put, Take, Se
 abbrev pub worked_message : ℕ → ℕ → ℕ → Message
 worked_message edge place count = record { edge = edge; place = place; count = count }
 
--- a message over a ring of one cell, and a second one that a seal refuses: what the tail answers at each call
+-- a message over a ring of one cell, and a second one that a seal refuses: what the tail returns at each call
 abbrev pub OneCellTail : Type 0
 OneCellTail =
     let fresh : TailState = new_tail 0 1 in
@@ -27,7 +27,7 @@ OneCellTail =
     × (claim_words free ≡ Some (1, 2)) × (message_claimed (2 ^ 63 + 1) 5 free ≡ None) × (claim_words refused ≡ None)
     × (may_clear refused ≡ false)
 
--- what the head answers: an empty cell, then two messages
+-- what the head returns: an empty cell, then two messages
 abbrev pub OneCellHead : Type 0
 OneCellHead =
     let fresh : HeadState = new_head 0 1 in

@@ -6,14 +6,14 @@ use crate::message::Message;
 use crate::ring::Ring;
 use std::marker::Model;
 
-/// The end of an edge that receives. It swaps the cell of the next place (`cell`) with 0 and notes what it found
-/// there (`taken`).
+/// The end of an edge that receives. It swaps the cell of the next place (`cell`) with 0 and notes the old value
+/// (`taken`).
 #[derive(Drop)]
 pub struct HeadLink {
     edge: u64,
     taken: u64,
     ring: Ring,
-    // The cell of the next place: it is counted round, since a division takes long.
+    // The cell of the next place: counted cyclically, since a division is slow.
     cell: u8,
 }
 
@@ -57,7 +57,7 @@ impl HeadLink {
         u64::from(self.cell)
     }
 
-    /// The message that was found in that cell, or `None` if it was empty. At most 2^62 messages are taken.
+    /// The message found in that cell, or `None` if it was empty. At most 2^62 messages are taken.
     pub fn taken(&mut self, old_cell: u64) -> Option<Message>
         requires { self.old.taken < 2 ^ 62 }
         ensures message { result ≡ message_taken old_cell self.old }

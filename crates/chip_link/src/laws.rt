@@ -1,4 +1,4 @@
-//! What holds for every edge and every word, as the contracts of functions that do nothing.
+//! Theorems on every edge and every word, as the contracts of functions that do nothing.
 
 ghost use Rattle.chip_link.specs.Laws.{TakesPrefix, ClaimsInOrder, NothingAfterSeal, WordTells, SealsAllClaims};
 ghost use Rattle.chip_link.specs.WordLaws.{EdgeWordReads, EdgeWordStands, AddsClaims, AddedReads, SealsWord};
@@ -16,7 +16,7 @@ pub fn one_edge()
     ensures all_claims { SealsAllClaims }
 {}
 
-/// What a word of an edge stands for, and what an atomic operation makes of that.
+/// The contents of an edge's word, and the effect of the atomic operations on them.
 pub fn edge_words()
     ensures reads { EdgeWordReads }
     ensures stands { EdgeWordStands }
@@ -28,7 +28,7 @@ pub fn edge_words()
     ensures expected { ExpectsUnsealed }
 {}
 
-/// What a word of a vertex stands for, and what an atomic operation makes of that.
+/// The contents of a vertex's word, and the effect of the atomic operations on them.
 pub fn fired_words()
     ensures reads { FiredWordReads }
     ensures stands { FiredWordStands }

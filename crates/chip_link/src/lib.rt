@@ -1,9 +1,9 @@
-//! One edge: the messages that go over it, the words that its two ends share, and the two ends themselves.
+//! One edge: its messages, the words that its two ends share, and the two ends themselves.
 //!
-//! An edge has a *word* (how many messages were claimed, and whether it is sealed) and a ring of *cells*, each 0 or
-//! the count of chips of one message. The tail looks for an empty cell, claims a place by one compare-and-exchange
-//! of the word, and puts the count into the cell. The head swaps its next cell with 0. A seal sets the top bit of
-//! the word: every later claim is refused. `laws` says what follows, whatever the order of the steps.
+//! An edge has a *word* (the number of claimed messages, and whether it is sealed) and a ring of *cells*, each 0 or the
+//! number of chips of one message. The tail reads the next cell; once it is empty it claims a place by one
+//! compare-and-exchange of the word, and puts the count into the cell. The head swaps its next cell with 0. A seal sets
+//! the top bit of the word: every later claim is refused. `laws` states what follows, for every order of the steps.
 #![tactic(auto)]
 
 mod event;

@@ -2,8 +2,8 @@
 #[derive(Clone, Copy, PartialEq, Eq)]
 pub struct Message {
     pub edge: u64,
-    /// How many messages were sent on this edge before it.
+    /// The number of messages sent on this edge before it.
     pub place: u64,
-    /// How many chips it has, at least 1.
+    /// The number of its chips, 1 or more.
     pub count: u64,
 }

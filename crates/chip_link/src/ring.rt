@@ -5,7 +5,7 @@ use std::marker::Model;
 /// The most cells that the ring of an edge has.
 pub const MAX_RING: u64 = 64;
 
-/// How many cells the ring of an edge has, 1 to `MAX_RING`. Contracts see it as that number.
+/// The number of cells in the ring of an edge, 1 to `MAX_RING`. Contracts see it as that number.
 #[derive(Clone, Copy)]
 pub struct Ring {
     cells: u8,
@@ -45,7 +45,7 @@ impl Ring {
         Ring { cells: cells as u8 }
     }
 
-    /// How many cells it has.
+    /// The number of cells.
     pub fn cells(self) -> u64
         ensures number { result ≡ self }
         ensures range { IsRing result }
@@ -53,7 +53,7 @@ impl Ring {
         u64::from(self.cells)
     }
 
-    /// The cell after this one, round the ring.
+    /// The cell after this one, cyclically.
     pub(crate) fn after(self, cell: u8) -> u8
         requires { cell < self }
         ensures place { (place : ℕ) → cell ≡ place % self → result ≡ (place + 1) % self }
@@ -63,7 +63,7 @@ impl Ring {
         if next == self.cells { 0 } else { next }
     }
 
-    /// The cell before this one, round the ring.
+    /// The cell before this one, cyclically.
     pub(crate) fn before(self, cell: u8) -> u8
         requires { cell < self }
         ensures place { (place : ℕ) → cell ≡ (place + 1) % self → result ≡ place % self }

@@ -8,14 +8,14 @@ use crate::message::Message;
 use crate::ring::Ring;
 use std::marker::Model;
 
-/// The end of an edge that sends. For each message it looks at the cell of the next place (`cell`, `cleared`),
-/// claims that place (`claim_next`, `claimed`) and stores the count in the cell (`put_value`).
+/// The end of an edge that sends. For each message it reads the cell of the next place (`cell`, `cleared`), claims that
+/// place (`claim_next`, `claimed`) and stores the count in the cell (`put_value`).
 #[derive(Drop)]
 pub struct TailLink {
     edge: u64,
     claims: u64,
-    // How many chips the message carries that is claimed and not put, if one is. It stands beside the stage, so that
-    // the stage is a byte.
+    // The chips of the message claimed and not put, if there is one. They are next to the stage, so that the stage is a
+    // byte.
     count: u64,
     stage: Stage,
     ring: Ring,
@@ -23,7 +23,7 @@ pub struct TailLink {
     cell: u8,
 }
 
-/// How far the tail is with the next message.
+/// The stage of the next message at the tail.
 #[derive(Drop)]
 enum Stage {
     /// Nothing is under way.
@@ -36,7 +36,7 @@ enum Stage {
     Refused,
 }
 
-/// No place from here on is claimed, so a count of claims stays far below the seal's bit.
+/// No place from this number on is claimed, so a count of claims never reaches the seal's bit.
 const MOST_CLAIMS: u64 = 1 << 62;
 
 impl Model for TailLink {
@@ -90,7 +90,7 @@ impl TailLink {
         u64::from(self.cell)
     }
 
-    /// Notes what was found in that cell, and says whether a claim may follow. It may not, and nothing changes, while a
+    /// Notes the contents of that cell; returns whether a claim may follow. It may not, and nothing changes, while a
     /// message is claimed and not put, after a refusal, and after 2^62 claims.
     pub fn cleared(&mut self, old_cell: u64) -> bool
         ensures answer { result ≡ (may_clear self.old && old_cell == 0) }
@@ -117,8 +117,8 @@ impl TailLink {
         }
     }
 
-    /// Notes the word that the claim's exchange saw, for a message of `count` chips, 1 to 2^40.
-    /// If that was the expected word, the message is sent. Else the edge is sealed, and the refusal is noted.
+    /// Notes the word that the claim's exchange found, for a message of `count` chips, 1 to 2^40. If it was the
+    /// expected word, the message is sent. Else the edge is sealed, and the tail notes the refusal.
     pub fn claimed(&mut self, old_word: u64, count: u64) -> Option<Message>
         requires clear { IsTrue self.old.clear }
         requires word { claims_in old_word ≡ self.old.claims }
@@ -143,7 +143,7 @@ impl TailLink {
         })
     }
 
-    /// The place that may be claimed next if this is in its cell, or `None` if no claim may follow. Nothing is noted.
+    /// The next place to claim if its cell has these contents, or `None` if no claim may follow. Changes nothing.
     pub fn place_for(&self, old_cell: u64) -> Option<u64>
         ensures place { result ≡ place_for old_cell self.now }
         ensures small { IfSome result (λ place. place < 2 ^ 62) }
@@ -156,8 +156,8 @@ impl TailLink {
         }
     }
 
-    /// Notes a whole send at once: the cell of the next place was seen empty, the place is claimed, and the message is
-    /// put into the cell.
+    /// Notes a whole send at once: the cell of the next place was seen empty, the place claimed, and the message put
+    /// into the cell.
     pub fn sent(&mut self)
         requires { IsSome (place_for 0 self.old) }
         ensures { (count : ℕ)
@@ -168,7 +168,7 @@ impl TailLink {
         self.stage = Stage::Idle;
     }
 
-    /// The cell and the value of the message that is claimed and not put, if there is one.
+    /// The cell and the value of the message claimed and not put, if there is one.
     pub fn held(&self) -> Option<(u64, u64)>
         ensures value { result ≡ put_of self.now }
         ensures inside { IfSome result (λ stored. stored.0 < self.now.ring) }
@@ -179,7 +179,7 @@ impl TailLink {
         }
     }
 
-    /// The cell and the value to store in it, and notes that they are stored. `None` unless a message is claimed
+    /// Returns the cell and the value to store in it, and notes that it is stored. `None` unless a message is claimed
     /// and not put.
     pub fn put_value(&mut self) -> Option<(u64, u64)>
         ensures value { result ≡ put_of self.old }

@@ -1,4 +1,4 @@
-/// A row of what a vertex records of its own run, in order.
+/// A row of a vertex's record of its own run, in order.
 #[derive(Clone, Copy, PartialEq, Eq)]
 pub enum TraceRow {
     /// It took a message of `count` chips from `edge`.

@@ -2,10 +2,10 @@ ghost use Rattle.std.specs.Prelude.{◌≡◌, ◌^◌, ◌<◌, IsTrue, IfSome,
 ghost use Rattle.chip_link.specs.Words.{edge_word, claims_in, is_sealed_in, fired_word, fired_in, is_halted_in};
 ghost use Rattle.chip_link.specs.Words.{is_by_limit_in, is_fired_word, halt_bits};
 
-/// What the word of an edge stands for.
+/// The contents of an edge's word.
 #[derive(Clone, Copy)]
 pub struct EdgeWord {
-    /// How many messages were claimed on the edge.
+    /// The number of messages claimed on the edge.
     pub claims: u64,
     /// Whether the edge is sealed: every later claim is refused.
     pub sealed: bool,
@@ -13,10 +13,10 @@ pub struct EdgeWord {
 }
 
 impl EdgeWord {
-    /// What a seal sets in the word, by a `fetch_or`.
+    /// The bit that a seal sets in the word, by a `fetch_or`.
     pub const SEAL: u64 = 1 << 63;
 
-    /// The word that stands for this value.
+    /// The word with these contents.
     pub fn to_word(self) -> u64
         ensures word { result ≡ edge_word self.claims self.sealed }
         ensures claims { claims_in result ≡ self.claims }
@@ -29,7 +29,7 @@ impl EdgeWord {
         }
     }
 
-    /// The value that a word stands for: every word is one of some edge.
+    /// The contents of a word. Every word is one of some edge.
     pub fn from_word(word: u64) -> EdgeWord
         ensures claims { result.claims ≡ claims_in word }
         ensures sealed { result.sealed ≡ is_sealed_in word }
@@ -42,29 +42,29 @@ impl EdgeWord {
     }
 }
 
-/// What the word of a vertex stands for.
+/// The contents of a vertex's word.
 #[derive(Clone, Copy)]
 pub struct FiredWord {
-    /// How often the vertex fired.
+    /// The number of times the vertex fired.
     pub fired: u64,
-    /// Whether it never fires again.
+    /// Whether it has stopped firing for good.
     pub halted: bool,
-    /// Whether its firing limit was the cause of that. The other cause is a seal.
+    /// Whether it halted by its firing limit. The other cause is a seal.
     pub by_limit: bool,
     pub ghost in_range: { fired < 2 ^ 62 },
     pub ghost has_cause: { IsTrue by_limit → IsTrue halted },
 }
 
 impl FiredWord {
-    /// What a halt after a refused claim sets in the word, by a `fetch_or`.
+    /// The bits that a halt after a refused claim sets in the word, by a `fetch_or`.
     pub const HALT: u64 = 1 << 63;
 
-    /// What a halt by the limit sets in the word, by a `fetch_or`.
+    /// The bits that a halt by the limit sets in the word, by a `fetch_or`.
     pub const HALT_BY_LIMIT: u64 = Self::HALT | Self::LIMIT;
 
     const LIMIT: u64 = 1 << 62;
 
-    /// What a halt sets in the word, by a `fetch_or`: more bits if the limit is its cause.
+    /// The bits that a halt sets in the word, by a `fetch_or`: more if the limit is its cause.
     pub fn halt_bits(by_limit: bool) -> u64
         ensures { result ≡ halt_bits by_limit }
     {
@@ -75,7 +75,7 @@ impl FiredWord {
         }
     }
 
-    /// The word that stands for this value.
+    /// The word with these contents.
     pub fn to_word(self) -> u64
         ensures word { result ≡ fired_word self.fired self.halted self.by_limit }
         ensures fired { fired_in result ≡ self.fired }
@@ -91,7 +91,7 @@ impl FiredWord {
         }
     }
 
-    /// The value that a word stands for, or `None` if it has the limit's bit and no halt.
+    /// The contents of a word, or `None` if it has the limit's bit and no halt.
     #[tactic(auto, using(crate::proofs::WordLawsLemmas::limit_stands))]
     pub fn from_word(word: u64) -> Option<FiredWord>
         ensures some { is_some result ≡ is_fired_word word }

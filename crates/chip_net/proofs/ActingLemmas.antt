@@ -1,5 +1,5 @@
 -- Serves Tokens.antt, Rule.antt.
--- One operation of a turn: it may be made, and the medium holds it then.
+-- One operation of a turn: it is enabled, and the medium keeps its invariant.
 use Rattle.chip_net.proofs.Names.{◌≡◌, ℕ, ◌<◌, List, [], ◌∷◌, ◌++◌, append_assoc, append-nil, refl, sym, ◌∙◌}
 use Rattle.chip_net.proofs.Names.{reverse-append, TableId, Allows, TraceRow, Setting, Act, event_of, FitsSeen, IsDueBy}
 use Rattle.chip_net.proofs.Names.{MayServe, Serves, IsLonger, Step, Event, Part, part_of, IsWord}
@@ -43,7 +43,7 @@ module _ {setup now : TurnSetup} {key : Setting} {table : TableId} {me : Mine} {
   due : Due h me w x
   due = record { mine = by'.mine; has = alone_there w me.0 held.seated.alone; met = by'.met }
 
-  -- its word is there
+  -- its word exists
   word_there : IsWord h (word_of w act)
   word_there = act_word words due (vertex_acts h x inside) act by'.needed
 
@@ -54,7 +54,7 @@ module _ {setup now : TurnSetup} {key : Setting} {table : TableId} {me : Mine} {
   asked word at kind of_kind = act_asked words due (vertex_acts h x inside) act by'.needed word at kind of_kind table
       held.table_is
 
-  -- ---- what it told
+  -- ---- what it shows
 
   module _ (n : ℕ) {me' : Mine} (told : Grows h x me n me') where
     m : Made h me w x n me'
@@ -89,7 +89,7 @@ module _ {setup now : TurnSetup} {key : Setting} {table : TableId} {me : Mine} {
       };
     }
 
--- ---- the same, as a call of the medium asks for it
+-- ---- the same, as a call of the medium requires it
 
 module _ {setup now : TurnSetup} {key : Setting} {table : TableId} {me : Mine} {trace : TraceState} {act : Act} where
   pub may_word : MayServe (Holds setup now key table me trace) act → IsWord now.net.setting (word_of now.vertex act)

@@ -1,5 +1,5 @@
 -- Serves Tokens.antt.
--- What a turn answers.
+-- The result of a turn.
 use Rattle.chip_net.proofs.Names.{◌≡◌, ℕ, ◌<◌, Bool, true, false, List, [], ◌∷◌, refl, sym, ap, ◌∙◌, arith}
 use Rattle.chip_net.proofs.Names.{TableId, Setting, Actor, StandsFor, is_passive, work_of, idle_turn_rests}
 use Rattle.chip_net.proofs.Names.{Turn, Worked, Waiting, Idle, History, IsAlone, NetId, ActorKnown, part_known, known}
@@ -22,7 +22,7 @@ module _ (own after : ActorKnown) (work : ℕ) (made : MakesTurnBy own after wor
 
   module _ (none : work ≡ 0) (a : Actor) (vertex : a.vertex ≡ own.vertex)
       (stands : StandsFor own.net.setting (part_known after) a) where
-    -- what the actor says of its state is said of the part after the turn
+    -- what the actor reports of its state holds of the part after the turn
     passive_is : (b : Bool) → b ≡ is_passive own.net.setting a.vertex (part_known after)
         → is_passive own.net.setting own.vertex (part_known after) ≡ b
     passive_is b said = rw (said, vertex)

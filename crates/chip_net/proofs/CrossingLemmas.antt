@@ -1,6 +1,6 @@
--- Serves no definition, but what the kit asks of values that go to other threads.
--- The tokens of a net may go to other threads, and threads may share the net. Of a struct each of whose fields has it
--- so this is found by itself; a `Snapshot` has it by a lemma of std's alone, so of what holds one it is said here.
+-- Serves no definition, but a requirement of the kit on values that go to other threads.
+-- The tokens of a net may go to other threads, and threads may share the net. The kit derives this for a struct from
+-- its fields; a `Snapshot` has it only by a lemma of std, so structs that hold one need it stated here.
 use Rattle.chip_net.proofs.Names.{Lifetime, Lft, ShrRef, IsSend, sendable, shr_send, crosses}
 use Rattle.std.proofs.sync.atomic.AtomicBool.TheSendSync as flag
 use Rattle.std.specs.contracts.sync.atomic.AtomicBool as flag_at
@@ -39,5 +39,5 @@ net_ref_send ℓ κ = shr_send ℓ κ net.the_row shared.the_sync
 pub flag_ref_send : (ℓ : Lifetime) (κ : Lft) → IsSend (ShrRef ℓ κ flag_at.the_row)
 flag_ref_send ℓ κ = shr_send ℓ κ flag_at.the_row flag.the_sync
 
--- for `search`, if what is sent holds tokens
+-- for `search`, if the value sent holds tokens
 pub ruleset net_crosses = (actor_send, stopper_send, root_send, net_ref_send, flag_ref_send)

@@ -8,7 +8,7 @@ use Rattle.chip_net.proofs.Names.{NotCleared, Act, verdict, Root, fed_in, root_g
 use Rattle.chip_net.proofs.Names.{played_has_more, by_history, FeedFault, View, did_in, part_of_view, RootKnown}
 use Rattle.chip_net.proofs.Names.{root_part, has_ended, all_given, IsRoot, feed_fault, AllowsFeed}
 
--- what the root was given is what it has fed, by a log in which it did that
+-- what the root was given is what it has fed, by a log with its steps
 pub given_is_fed : {g : Setting} {view : View} {state : Root} → IsRoot g view state
     → all_fed g (part_of_view g (root g) view) ≡ sum g.game.start + all_brought (fed_in g (did_in (root g) view))
 given_is_fed {g = g} keeps =

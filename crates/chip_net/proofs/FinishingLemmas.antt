@@ -1,5 +1,5 @@
 -- Serves Finish.antt, Roots.antt.
--- What the root makes of its reads.
+-- The outcome that the root makes of its reads.
 use Rattle.chip_net.proofs.Names.{nat_tests, ◌≡◌, ℕ, ◌<◌, ◌≤◌, sum, ◌&&◌, Bool, not, true, List, [], length, map}
 use Rattle.chip_net.proofs.Names.{get_or, slice_index, Option, Some, None, is_some, refl, sym, ap}
 use Rattle.chip_net.proofs.Names.{◌∙◌, subst, arith, range_with_len, get_or-map, length-map, ChipGame, max_total}
@@ -22,13 +22,13 @@ none_picked test n empty v l on = contains_nothing v (rw empty at (picked_has te
 
 -- ---- at the end
 
--- if the stopper did nothing, no seal halts a vertex
+-- if the stopper did nothing, no seal halted a vertex
 never_sealed : (g : Setting) (log : Log) → IsLegalLog g log → done_by g (stopper g) log ≡ [] → (v : ℕ)
     → is_by_seal (part_in g log v).halt ≡ false
 never_sealed g log legal none = (unsealed_refuses g log legal (λ e. ap (λ (s : Part). s.stop e)
     (by_history g log (stopper g) ∙ ap (part_by g (opening_part g)) none))).1
 
--- a word of a vertex is one
+-- every word of a vertex is a fired word
 pub fired_word_is : (g : Setting) → IsSetting g → (log : Log) → IsLegalLog g log → (v word : ℕ)
     → word ≡ word_of_part (part_in g log v) → is_fired_word word ≡ true
 fired_word_is g setting log legal v word is =
@@ -38,7 +38,7 @@ fired_word_is g setting log legal v word is =
 seal_is : (h : Option Cause) → (is_some h && not (is_by_limit h)) ≡ is_by_seal h
 seal_is h = grind (arith, nat_tests)
 
--- what the words of all vertices say of a log is its outcome, if the chips are those by the counts
+-- the outcome of a log is what the words of all vertices show, if the chips are those by the counts
 module _ (g : Setting) (setting : IsSetting g) (log : Log) (legal : IsLegalLog g log) (words : List ℕ)
     (count_is : length words ≡ g.game.graph.vertices)
     (word_at : (v : ℕ) → v < g.game.graph.vertices → get_or words v 0 ≡ word_of_part (part_in g log v)) where
@@ -73,11 +73,11 @@ module _ {old now : RootKnown} (setting : IsSetting old.net.setting) {readings :
   out = rw reading.record_is at
       (reading.told (let a = setting.game.graph_fits.some_vertex in let c = reading.count_is in omega arith))
 
-  -- the reads feed nothing: what was fed is in that log
+  -- the reads feed nothing: all feeds are in that log
   recorded : fed_in h (done_by h (root h) out.log) ≡ fed_by old
   recorded = rw (← out.has.0.root_did) (reads_feed_none h old.did 0 reading.words)
 
-  -- what was given is the start of the game that was played
+  -- what was given is the start of the game played
   start_is : given ≡ (played_game h out.log).start
   start_is = given_start h out.log given
       (rw (by_history h out.log (root h), ← out.has.0.root_did, reads_part old reading.words) are)
@@ -132,7 +132,7 @@ module _ {old now : RootKnown} (setting : IsSetting old.net.setting) {readings :
     no_seals empty v l seal = none_picked (λ u. is_by_seal (part_in h out.log u).halt) h.game.graph.vertices
         (rw outcome_is.sealed at empty) v l (rw seal)
 
-    -- and if the limit's list is empty too, none halted at all
+    -- and if the limit's list is empty too, no vertex halted
     no_halts : o.over.items ≡ [] → o.sealed.items ≡ [] → NoneHalted h out.log
     no_halts over sealed v l = by_cause (part_in h out.log v).halt refl
       where
@@ -153,7 +153,7 @@ module _ {old now : RootKnown} (setting : IsSetting old.net.setting) {readings :
         ok ended in
         ((λ v. all_come.counted v ∙ same.0 v), (λ v. all_come.position v ∙ same.1 v))
 
-    -- the stopper's part stands in the root's view, and did nothing
+    -- the root's view has the stopper's part, which did nothing
     unsealed : old.stopper_did ≡ Some [] → o.sealed.items ≡ []
     unsealed none = rw outcome_is.sealed (picked_none (λ v. is_by_seal (part_in h out.log v).halt)
         h.game.graph.vertices
@@ -181,7 +181,7 @@ module _ {old now : RootKnown} (setting : IsSetting old.net.setting) {readings :
 
 -- ---- one log of all tokens
 
--- what the root did says which game was played
+-- the root's steps determine the game played
 same_played : (g : Setting) (log other : Log) → part_in g log (root g) ≡ part_in g other (root g)
     → played_game g other ≡ played_game g log
 same_played g log other same =
@@ -207,7 +207,7 @@ module _ (old receipt : RootKnown) (o : Outcome) (actors : List ActorKnown) (fin
   vertices_is : length finishes.words ≡ k.game.graph.vertices
   vertices_is = rw net_is finishes.one_each
 
-  -- the reads are in the log, and each tells the word of its vertex there
+  -- the reads are in the log, and each has the word of its vertex there
   tells : (v : ℕ) → v < k.game.graph.vertices → (v < k.game.graph.vertices) × IsClosed k met.1.log
       × (get_or finishes.words v 0 ≡ word_of_part (part_in k met.1.log v))
   tells v l = reads_say k met.0 met.1.log met.1.legal old.did finishes.words

@@ -1,12 +1,12 @@
 -- Serves Layout.antt.
--- Each word has a number of its own, which tells the word.
+-- Each word has an index of its own, which determines the word.
 use Rattle.chip_net.proofs.Names.{◌≡◌, ◌≢◌, ℕ, ◌+◌, ◌-◌, ◌*◌, ◌/◌, ◌%◌, ◌<◌, List, length, set, arith}
 use Rattle.chip_net.proofs.Names.{cond, ltb, lt-ltb, le-ltb, get_or-set_same, get_or-set_other, div-add-mod'}
 use Rattle.chip_net.proofs.Names.{mul-add-lt, div-mul-add, Setting, IsSetting, all_edges, Word, of_edge, of_acks}
 use Rattle.chip_net.proofs.Names.{of_cell, of_vertex, IsWord, Event, Mine, Grows, first_cell, first_fired, index_of}
 use Rattle.chip_net.proofs.Names.{word_count, value_in}
 
--- the word with this number
+-- the word with this index
 abbrev word_at : Setting → ℕ → Word
 word_at g n = cond (ltb n (all_edges g)) (of_edge n) (cond (ltb n (first_cell g)) (of_acks (n - all_edges g))
     (cond (ltb n (first_fired g)) (of_cell ((n - first_cell g) / g.ring) ((n - first_cell g) % g.ring))
@@ -19,11 +19,11 @@ owner_of (of_acks e) = e
 owner_of (of_cell e i) = e
 owner_of (of_vertex v) = v
 
--- and so by the number of the word
+-- and so by the index of the word
 abbrev pub owner_at : Setting → ℕ → ℕ
 owner_at g n = owner_of (word_at g n)
 
--- what a step tells on the word with this number, whose event is of that kind
+-- the effect of a step on the word with this index, whose event is of that kind
 abbrev pub by_word : (ℕ → Event) → Setting → ℕ → Mine → ℕ → Mine → Type 0
 by_word kind g n = Grows g (kind (owner_at g n))
 

@@ -1,5 +1,5 @@
 -- Serves Meeting.antt, Rule.antt.
--- A look changes nothing, and actors lend their parts one after another.
+-- A look changes nothing, and actors lend their parts in turn.
 use Rattle.chip_net.proofs.Names.{◌≡◌, ℕ, zero, suc, ◌+◌, ◌-◌, ◌<◌, List, [], ◌∷◌, ◌++◌, length, map, take, drop, set}
 use Rattle.chip_net.proofs.Names.{get_or, Some, refl, sym, arith, append-nil, length-append, slice_get}
 use Rattle.chip_net.proofs.Names.{take-length, drop-length, set-get_or, length-map, length-take-le, take-append-drop}
@@ -27,7 +27,7 @@ may_look g slots id word me table kept homes at few = (
   ),
 )
 
--- ---- actors one after another, in their places
+-- ---- actors in order, in their places
 
 -- of these actors the first n are by f
 module _ (f : ActorKnown → ActorKnown) (xs items : List ActorKnown) (n : ℕ)
@@ -63,7 +63,7 @@ map_at f [] n b e = absurd (cc)
 map_at f (x ∷ xs) zero b e = (x, refl, sym (some_is (f x) b e))
 map_at f (x ∷ xs) (suc n) b e = map_at f xs n b e
 
--- actors whose parts were taken and given back are as they were
+-- actors whose parts were taken and given back are unchanged
 pub all_back : (net : NetId) (xs : List ActorKnown) → ((n : ℕ) (a : ActorKnown) → slice_get xs n ≡ Some a → a.net ≡ net)
     → map (at_net net) (map seatless xs) ≡ xs
 all_back net [] are = refl

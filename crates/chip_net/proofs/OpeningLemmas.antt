@@ -1,5 +1,5 @@
 -- Serves Layout.antt, Views.antt, Opening.antt.
--- The table at the opening meets the rule.
+-- The table at the opening satisfies the rule.
 use Rattle.chip_net.proofs.Names.{◌≡◌, ◌≢◌, ℕ, zero, suc, ◌+◌, ◌<◌, cond, ltb, List, [], ◌∷◌, length, set}
 use Rattle.chip_net.proofs.Names.{length-set, Some, refl, sym, ◌∙◌, arith, lt-ltb, le-ltb, get_or_past}
 use Rattle.chip_net.proofs.Names.{mod-eq_of_lt, dite, ℕ_discrete, get_elem?, opening, cond_no, Setting}
@@ -10,7 +10,7 @@ use Rattle.chip_net.proofs.Names.{nat_tests}
 use Rattle.chip_net.proofs.LayingLemmas.{written_here, written_else}
 use Rattle.chip_net.proofs.ViewingLemmas.{none_some, part_there, part_empty}
 
--- of a count of edges, one more only matters at that edge
+-- one more edge changes a count only at that edge
 same_test : (e n : ℕ) → e ≢ n → ltb e n ≡ ltb e (n + 1)
 same_test e n other = grind (arith, nat_tests)
 
@@ -48,7 +48,7 @@ module _ (g : Setting) where
           put : first_put g edge ≡ start_of g v ∷ []
           put = first_is g v ∙ cond_no (start_of g v) 0 _ _ some_chips
 
-          -- every word but these two is as it was
+          -- every word but these two is unchanged
           still : (q : Word) → IsWord g q → q ≢ of_edge edge → q ≢ of_cell edge 0 → value_in g words'' q
               ≡ first_value g edge q
           still q l one two = written_else g words' wide' (of_cell edge 0) cell_there (start_of g v) q l two
@@ -80,7 +80,7 @@ module _ (g : Setting) where
               ) (sym (get_or_past (start_of g v ∷ []) i 0 (omega arith)))))
               (λ other. rw (← same_test e edge other) (still (of_cell e i) l (λ z. absurd (cc)) (λ z. grind arith)))
 
-  -- all words laid out
+  -- all words written
   pub opens : IsSetting g → (words : List ℕ) → AreOpening g (all_edges g) words
       → Kept g (opening words [] (opening_view g))
   opens setting words opening = record {

@@ -1,12 +1,12 @@
 -- Serves Laws.antt, Layout.antt.
--- The rule of the table says that the world is reached.
+-- By the rule of the table the world is reached.
 use Rattle.chip_net.proofs.Names.{◌≡◌, ℕ, List, length, take, drop, take-append-drop, IsPrefix}
 use Rattle.chip_net.proofs.Names.{Step, part_in, done_by, parts_by, never_sealed}
 use Rattle.chip_net.proofs.Names.{counts_of_edges, edge_sound, by_history, reached_by_legal_logs}
 use Rattle.chip_net.proofs.Names.{EveryMomentIsReached, EveryMomentDiffuses, Part, core_diffuses, subst}
 use Rattle.chip_core.specs.Instance.{Shows}
 
--- the front of a list is a prefix of it
+-- `take` is a prefix
 front : (got put : List ℕ) → got ≡ take (length got) put → IsPrefix got put
 front got put is = (
   drop (length got) put,

@@ -1,5 +1,5 @@
 -- Serves Finish.antt, Roots.antt.
--- The reads of a closed root: each is in the log, and what they tell.
+-- The reads of a closed root: each is in the log, with its word.
 use Rattle.chip_net.proofs.Names.{◌≡◌, ℕ, zero, suc, ◌+◌, ◌<◌, ◌&&◌, Bool, not, cond, List, [], ◌∷◌, ◌++◌, length}
 use Rattle.chip_net.proofs.Names.{get_or, Contains, refl, sym, ap, ◌∙◌, arith, length-append, get_or_push}
 use Rattle.chip_net.proofs.Names.{get_or_append_left, map-append, length-map, Contains-append_right, filter_below}
@@ -15,7 +15,7 @@ use Rattle.chip_net.proofs.Names.{append_assoc}
 abbrev read : ℕ → ℕ → Step
 read v seen = saw (Read v) seen
 
--- ---- what a record of reads says
+-- ---- a record of reads
 
 reads_at : (v : ℕ) (ws : List ℕ) (k : ℕ) → k < length ws → (u : ℕ) → u ≡ v + k
     → Contains (reads_from v ws) (read u (get_or ws k 0))
@@ -44,7 +44,7 @@ reads_feed_none g [] v [] = refl
 reads_feed_none g [] v (w ∷ ws) = reads_feed_none g [] (suc v) ws
 reads_feed_none g (x ∷ xs) v ws = rw (reads_feed_none g xs v ws)
 
--- if the log has them, each tells the word of its vertex
+-- if the log has them, each has the word of its vertex
 pub reads_say : (g : Setting) → IsSetting g → (log : Log) → IsLegalLog g log → (did : List Step) (ws : List ℕ)
     → did ++ reads_from 0 ws ≡ done_by g (root g) log → (v : ℕ) → v < length ws
     → (v < g.game.graph.vertices) × IsClosed g log × (get_or ws v 0 ≡ word_of_part (part_in g log v))

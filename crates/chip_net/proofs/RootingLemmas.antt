@@ -1,5 +1,5 @@
 -- Serves Roots.antt, Views.antt.
--- The root: an event of its own over the net, and a poll of settles.
+-- The root: an event of its own on the net, and a poll of settles.
 use Rattle.chip_net.proofs.Names.{◌≡◌, ℕ, suc, ◌+◌, ◌-◌, ◌<◌, ◌≤◌, true, List, [], ◌∷◌, ◌++◌, None, refl, sym, ap}
 use Rattle.chip_net.proofs.Names.{◌∙◌, arith, append_assoc, append-nil, map-append, le-leb, TableId, Allows}
 use Rattle.chip_net.proofs.Names.{Tail, after_clear, Setting, root, stopper, root_edge, graph_edges, act_of}
@@ -21,7 +21,7 @@ use Rattle.chip_part.specs.declared.act.Act.TheVariants as Do
 noted_twice : (x : Event) (n : ℕ) → word_to_note x n ≡ word_to_note x (word_to_note x n)
 noted_twice x n = grind (arith, nat_tests)
 
--- what the root knows after an event of its own
+-- the root after an event of its own
 pub known_after : {g : Setting} {me : Mine} {x : Event} {n : ℕ} {after : Mine} → Made g me (root g) x n after
     → {old : RootKnown} {table : TableId} → known_root table g me.0 ≡ old → {now : TableId} → now ≡ table
     → known_root now g after.0 ≡ root_after old (step_of x n ∷ [])
@@ -131,7 +131,7 @@ module _ {net : NetId} {id : TableId} {key : Setting} (words : AreWordsOf net id
       (feeding_acts g x due.feeding) act due.needed word
       (rw set_is at at) (λ _. x) refl table table_is seat
 
-  -- a store tells the same, whatever it found
+  -- a store notes the same, whatever it found
   pub store_asked : (value : ℕ) → ((n : ℕ) → noted_over act n ≡ 0) → (table ≡ id) × (word < id.words)
       × Allows (Kept key) id.slots seat me word (left_over act) (λ n. Grows key x me value)
   store_asked value zero =
@@ -165,7 +165,7 @@ does_all first rest = record {
 pub does_net : {old now : RootKnown} {events : List Event} → DoesMore old now events → now.net ≡ old.net
 does_net more = rw more.record_is
 
--- the next settle of some in a row
+-- the next settle of a run of them
 pub settles_more : {old now after : RootKnown} {seen : ℕ} (first v : ℕ) → first ≤ v
     → DoesMore old now (settles_from old.net.setting first (v - first))
     → RootMakesEvent now after (Settle (root_edge now.net.setting v)) seen
@@ -182,7 +182,7 @@ pub root_step : (r : RootKnown) (y : Step)
     → root_part (root_after r (y ∷ [])) ≡ does r.net.setting y (root_part r)
 root_step r y = part_append r.net.setting (opening_part r.net.setting) r.did (y ∷ [])
 
--- it holds as little as before if the event leaves what is held
+-- it holds nothing still if the event leaves what is held
 pub holds_by : {old now : RootKnown} {x : Event} {seen : ℕ} → RootMakesEvent old now x seen
     → ((e : ℕ) (o : Out) → (link_after x seen e o).held ≡ o.link.held) → HoldsNothing old → HoldsNothing now
 holds_by {old = old} {x = x} {seen = seen} event same none =
@@ -193,7 +193,7 @@ pub by_look : {A : Type 0} (f : Tail → A) (seen : ℕ) → ((t : Tail) → f (
     → f (link_after (Clear e) seen i o) ≡ f o.link
 by_look f seen same e i o = let here = same o.link in grind (arith, nat_tests)
 
--- once the end is noted it stays so
+-- once noted, the end stays noted
 pub stays_over : {old now : RootKnown} {events : List Event} → DoesMore old now events → has_ended old ≡ true
     → has_ended now ≡ true
 stays_over {old = old} more on = ap has_ended more.record_is

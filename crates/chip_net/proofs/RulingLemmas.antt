@@ -1,5 +1,5 @@
 -- Serves Views.antt, Layout.antt, Rule.antt.
--- Each event keeps the rule of the table, and tells that its part did it.
+-- Each event keeps the rule of the table, and shows that its part made it.
 use Rattle.chip_net.proofs.Names.{nat_tests, ◌≡◌, ◌≢◌, ℕ, ◌+◌, ◌%◌, ◌^◌, ◌<◌, ◌==◌, List, [], ◌∷◌, ◌++◌, get_or, set}
 use Rattle.chip_net.proofs.Names.{length-set, Some, None, refl, sym, ◌∙◌, arith, bit_or, get_elem?, either}
 use Rattle.chip_net.proofs.Names.{TableId, keeps, stepped, Allows, set_else}
@@ -16,13 +16,13 @@ use Rattle.chip_net.proofs.SplittingLemmas.{set_finds, nowhere_else, moved}
 use Rattle.chip_part.specs.declared.act.Act as operation
 use Rattle.chip_part.specs.declared.act.Act.TheVariants as Do
 
--- an event of the part p, which stands in the view: its rules are met
+-- an event of the part p, which the view has: it is enabled
 pub record Due (g : Setting) (me : Mine) (p : ℕ) (x : Event) : Type 0 where
   pub mine : part_of g x ≡ p
   pub has : HasPart p me.0
   pub met : unmet_rule g x (part_of_view g p me.0) ≡ None
 
--- such an event was made, and its operation found n: the view after it, and the part in the log that it goes on
+-- such an event was made, and its operation found n: the view after it, and the part in the log that it extends
 pub record Made (g : Setting) (me : Mine) (p : ℕ) (x : Event) (n : ℕ) (after : Mine) : Type 0 where
   pub stepped : Stepped g (step_of x n) me.0
   pub in_log : part_of_view g p me.0 ≡ part_in g stepped.log p
@@ -37,7 +37,7 @@ module _ {g : Setting} {me : Mine} {p : ℕ} {x : Event} (due : Due g me p x) wh
   abbrev s : Part
   s = part_of_view g p me.0
 
-  -- the rule of the table is kept, and the part did it
+  -- the rule of the table is kept, and the part made it
   allowed : (slots id : ℕ) → Allows (Kept g) slots id me (index_of g (word_of_event g x s)) (left_by g x s)
       (Grows g x me)
   allowed slots id table kept homes at few =
@@ -105,7 +105,7 @@ module _ {g : Setting} {me : Mine} {p : ℕ} {x : Event} (due : Due g me p x) wh
 
 -- ---- the same by the operation
 
--- the word that an operation of the vertex v is on, and what it leaves there if n was found
+-- the word of an operation of the vertex v, and what it leaves there if n was found
 abbrev pub word_of : ℕ → operation.Act → Word
 word_of v (Do.Take e cell) = of_cell e cell
 word_of v (Do.Settle e) = of_acks e
@@ -139,7 +139,7 @@ vertex_acts g (Seal e) l = absurd (omega arith)
 vertex_acts g (Read v) l = absurd (omega arith)
 vertex_acts g x l = tt
 
--- it is on the word of the event, and leaves there what the event does
+-- it is on the word of the event, and has the event's effect there
 over_word : (g : Setting) (s : Part) (x : Event) → HasAct x → word_of (part_of g x) (act_of g x s) ≡ word_of_event g x s
 over_word g s x z = grind (arith, nat_tests)
 

@@ -10,7 +10,7 @@ use Rattle.chip_net.proofs.Names.{nat_tests, eq-eqb, append_assoc}
 use Rattle.chip_net.proofs.ViewingLemmas.{part_append}
 use Rattle.chip_net.proofs.RootingLemmas.{root_step, holds_by, by_look}
 
--- what a look replies
+-- the reply to a look
 pub look_done : (seen claims place : ℕ) → Done place ≡ cond (eqb seen 0) (Done claims) Full → (seen ≡ 0) × (place ≡ claims)
 look_done seen claims place is = grind (arith, nat_tests)
 
@@ -77,7 +77,7 @@ module _ {r : RootKnown} {vertex e count : ℕ} (f : MayFeed r vertex e count) w
       abbrev feed : Step
       feed = saw (Feed e count) seen2
 
-      -- it saw how many were sent before
+      -- it saw the number of messages sent before
       place2 : seen2 ≡ claims_of (s.out e).link
       place2 = rw (first, root_step r look, same_claims) at made2.fits
 

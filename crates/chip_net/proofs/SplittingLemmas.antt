@@ -1,5 +1,5 @@
--- Serves Views.antt, Rule.antt. The rule if one part alone moved or did more: as it acts, as it is taken out, and as it
--- is taken in.
+-- Serves Views.antt, Rule.antt. The rule if only one part moved or made a step: as it acts, as it is taken out, and as
+-- it is taken in.
 use Rattle.chip_net.proofs.Names.{◌≡◌, ◌≢◌, ℕ, zero, suc, ◌+◌, ◌<◌, cond, eqb, List, [], ◌∷◌, ◌++◌, length, set, Option}
 use Rattle.chip_net.proofs.Names.{Some, None, refl, sym, ap, ◌∙◌, dite, some, ℕ_discrete, get_elem?, State, Splits}
 use Rattle.chip_net.proofs.Names.{Joins, Enters, at_last, set_else, Setting, at_other, Log, Step, IsLegalLog, done_by}
@@ -14,13 +14,13 @@ none_but : (o : Option (List Step)) → ((d : List Step) → o ≡ Some d → �
 none_but None never = refl
 none_but (Some d) never = absurd (never d refl)
 
--- another view in the place of one, with the same of the part
+-- another view in place of one, with the same steps of the part
 pub set_finds : (q : ℕ) (l : List View) (i : ℕ) (v w : View) → get_elem? l i ≡ some v
     → find q w.parts ≡ find q v.parts → (j : ℕ) → find_in q (get_elem? (set l i w) j) ≡ find_in q (get_elem? l j)
 set_finds q l i v w at same j = dite (ℕ_discrete j i)
     (λ e. rw (e, set_there l i v w at, at) same) (λ other. rw (set_else l i j w other))
 
--- one view more, with nothing of the part
+-- one view more, without the part
 longer_finds : (q : ℕ) (l : List View) (w : View) → find q w.parts ≡ None → (j : ℕ)
     → find_in q (get_elem? (l ++ w ∷ []) j) ≡ find_in q (get_elem? l j)
 longer_finds q [] w none zero = none
@@ -35,7 +35,7 @@ longer_else (x ∷ xs) w zero ne = refl
 longer_else (x ∷ xs) w (suc j) ne = longer_else xs w j (λ e. ne (ap suc e))
 
 module _ (g : Setting) (s : State (Unit {0}) View) (kept : Kept g s) (p : ℕ) where
-  -- the part stands in one view alone
+  -- only one view has the part
   pub nowhere_else : (i : ℕ) (did : List Step) → find_in p (get_elem? s.views i) ≡ Some did → (j : ℕ) → j ≢ i
       → find_in p (get_elem? s.views j) ≡ None
   nowhere_else i did at j ne = none_but (find_in p (get_elem? s.views j))

@@ -14,7 +14,7 @@ use Rattle.chip_net.proofs.RulingLemmas.{Due, Made, made}
 not_some : (o : Option ℕ) → not (is_some o) ≡ is_none o
 not_some o = grind (arith, nat_tests)
 
--- the number of claims stands, whether this seal was the first or not
+-- the number of claims is unchanged, whether this seal was the first or not
 first_word : (n word : ℕ) (stop : Option ℕ) → IsSealedAt n stop → word ≡ edge_word n (is_some stop) → claims_in word ≡ n
     → after_seal word stop ≡ Some (claims_in word)
 first_word n word None at is claims = ap Some (let z : word ≡ claims_in word = omega arith in z)
@@ -59,7 +59,7 @@ module _ {g : Setting} (setting : IsSetting g) {me : Mine} {edge : ℕ} (due : D
         word_is reads.claims_are);
   })
 
--- ---- what a seal told stands
+-- ---- the result of a seal stays valid
 
 pub seal_stays : (x : Event) (seen e n : ℕ) (stop : Option ℕ) → stop ≡ Some n → stop_after x seen e stop ≡ Some n
 seal_stays x seen e n stop is = grind (arith, nat_tests)

@@ -1,5 +1,5 @@
 -- Serves Tokens.antt.
--- A turn over the net's words: it may begin, and what it leaves.
+-- A turn over the net's words: its start, and its end.
 use Rattle.chip_net.proofs.Names.{◌≡◌, ℕ, List, ◌++◌, reverse, refl, sym, ap, ◌∙◌, subst, reverse-append}
 use Rattle.chip_net.proofs.Names.{reverse-reverse, TableId, Setting, Actor, StandsFor, Meets, MakesTurnOver, IsTurnMade}
 use Rattle.chip_net.proofs.Names.{turn, turns_bounded, Step, Part, TraceState, did_in, part_of_view, Mine, TurnSetup}
@@ -48,7 +48,7 @@ module _ {setup now : TurnSetup} {key : Setting} {table : TableId} {me : Mine} {
     abbrev over : IsTurnMade (Holds setup now' key' table' me' trace') g a.vertex (reverse did) part b work more then
     over = (makes g (reverse did) part begins actor.1).2
 
-    -- it is still set up so
+    -- the setup is unchanged
     pub still : now' ≡ now
     still = over.held.same ∙ sym same
 

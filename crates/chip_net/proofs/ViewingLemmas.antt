@@ -25,12 +25,12 @@ pub find_here : (p : ℕ) (x : Step) (ys : List History) (did : List Step) → f
 find_here p x [] did e = absurd (cc)
 find_here p x (y ∷ ys) did e = let rest = find_here p x ys did in grind (arith, nat_tests)
 
--- and another part is what it was
+-- and another part is unchanged
 pub find_else : (p q : ℕ) (x : Step) (ys : List History) → p ≢ q → find q (grow p x ys) ≡ find q ys
 find_else p q x [] ne = refl
 find_else p q x (y ∷ ys) ne = let rest = find_else p q x ys ne in grind (arith, nat_tests)
 
--- what a view has of the part that stepped
+-- the steps that a view has of the part that acted
 pub grown_has : (p : ℕ) (x : Step) (v w : View) → HasPart p v → w ≡ grow_view p x v → (did_in p w ≡ did_in p v ++ x ∷ [])
     × HasPart p w
 grown_has p x v w has is = rw (is, find_here p x v.parts (did_in p v) has) (refl, refl)
@@ -39,12 +39,12 @@ grown_has p x v w has is = rw (is, find_here p x v.parts (did_in p v) has) (refl
 pub part_append : (g : Setting) (s : Part) (xs ys : List Step) → part_by g s (xs ++ ys) ≡ part_by g (part_by g s xs) ys
 part_append g s xs ys = part-append g xs ys s
 
--- if no chips are fed the end of feeding is noted, whatever a part did
+-- without feeding the end of feeding is noted, whatever a part did
 pub ended_by : (g : Setting) (xs : List Step) (s : Part) → s.ended ≡ true → (part_by g s xs).ended ≡ true
 ended_by g [] s on = on
 ended_by g (x ∷ xs) s on = ended_by g xs (does g x s) (stays_ended g x.event s.ended on)
 
--- what a part did in a log that goes on with a step of its own, or of another
+-- the steps of a part in a log extended by a step of its own, or of another
 pub done_more : (g : Setting) (p : ℕ) (x : Step) (log : Log) → part_of g x.event ≡ p
     → done_by g p (x ∷ log) ≡ done_by g p log ++ x ∷ []
 done_more g p x log mine = rw (eq-eqb (part_of g x.event) p mine)
@@ -71,7 +71,7 @@ pub alone_has : (p : ℕ) (v : View) (did : List Step) → find p v.parts ≡ So
     → find p (view_of_one p v).parts ≡ Some did
 alone_has p v did has = rw (has, eq-eqb p p refl)
 
--- ---- a part that stands alone
+-- ---- the view of one part alone
 
 pub alone_there : (p : ℕ) (v : View) → IsAlone p v → HasPart p v
 alone_there p v is = rw (is, eq-eqb p p refl)
@@ -91,7 +91,7 @@ taken_alone p v did has = alone_by p (view_of_one p v) did (ap (one_part p) has)
 pub grown_alone : (p : ℕ) (x : Step) (v w : View) → IsAlone p v → w ≡ grow_view p x v → IsAlone p w
 grown_alone p x v w alone is = alone_by p w (did_in p v ++ x ∷ []) (rw (is, alone, eq-eqb p p refl))
 
--- what a view finds that took in such a part
+-- what a view has after it took in such a part
 pub joined_here : (p : ℕ) (v w : View) → IsAlone p w → find p (join_views v w).parts ≡ Some (did_in p w)
 joined_here p v w is = rw (is, eq-eqb p p refl)
 
@@ -108,7 +108,7 @@ pub part_empty : (n p : ℕ) (did : List Step) → find p (parts_below n) ≡ So
 part_empty zero p did e = absurd (none_some did e)
 part_empty (suc n) p did e = let rest = part_empty n p did in grind (arith, nat_tests)
 
--- one more element of a list of which each is told
+-- one more element of a list with a property of each
 pub pushed_each : {X : Type 0} (at : ℕ → X) (xs : List X) (y : X) (n : ℕ) → length xs ≡ n
     → ((p : ℕ) → p < n → slice_get xs p ≡ Some (at p)) → y ≡ at n → (p : ℕ) → p < n + 1
     → slice_get (xs ++ y ∷ []) p ≡ Some (at p)

@@ -1,4 +1,4 @@
--- What the rule of the table says without a log: the world of a net is reached, as `Reached` of the core tells worlds.
+-- The rule of the table without a log: the world of a net is reached, in the sense of the core's `Reached`.
 use Rattle.std.specs.Prelude.{◌≡◌, ℕ, ◌+◌, ◌%◌, ◌<◌, ◌≤◌, List, length, slice_index, Some, None}
 use lib.ListN.{get_elem?}
 use Rattle.atomic_table.specs.Table.{State}
@@ -16,17 +16,17 @@ use Rattle.chip_core.specs.Instance.{network_of, Shows}
 use Rattle.chip_diffusing.specs.Computation as diffusing
 use Rattle.chip_net.specs.Rule.{Kept}
 
--- the words of an edge are what the parts have made of them, and what was sent on it arrives in order
+-- the words of an edge follow from the parts, and what was sent on it arrives in order
 pub record EdgeShows (g : Setting) (words : List ℕ) (parts : ℕ → Part) (e : ℕ) : Type 0 where
   -- the edge word has the number of claims of its tail, and the seal
   pub word : value_in g words (of_edge e) ≡ word_of (out_by g parts e).link (stop_by g parts e)
-  -- from the next place to take on, as many places as the ring has cells: a cell holds the count of the message that
-  -- was put, else 0
+  -- from the next place to take on, for as many places as the ring has cells: a cell holds the count of the message put
+  -- there, else 0
   pub cells : (p : ℕ) → length (into_by g parts e).got ≤ p → p < length (into_by g parts e).got + g.ring
       → value_in g words (of_cell e (p % g.ring)) ≡ slice_index (out_by g parts e).link.put p
   -- a root edge is never sealed
   pub unsealed : graph_edges g ≤ e → stop_by g parts e ≡ None
-  -- the word of acknowledgements is what its head acknowledged, and its tail settled at most that
+  -- the word of acknowledgements is the number that its head acknowledged, and its tail settled at most that
   pub acks : value_in g words (of_acks e) ≡ (into_by g parts e).acked
   pub settled : (out_by g parts e).settled ≤ (into_by g parts e).acked
   -- what its head has got is a prefix of what its tail put, each message once and in order: both lists go by places
@@ -34,8 +34,8 @@ pub record EdgeShows (g : Setting) (words : List ℕ) (parts : ℕ → Part) (e 
   -- since its first seal nothing was claimed, so nothing is sent after it
   pub sealed : IsSealedAt (claims_of (out_by g parts e).link) (stop_by g parts e)
 
--- words and views are a reached world: what each part did, which stands in exactly one view, and the words that the
--- parts have made
+-- words and views are a reached world: the steps of each part, which exactly one view has, and the words that follow
+-- from the parts
 pub record IsReachedTable (g : Setting) (s : State (Unit {0}) View) : Type 0 where
   pub setting : IsSetting g
   pub did : ℕ → List Step
@@ -48,17 +48,17 @@ pub record IsReachedTable (g : Setting) (s : State (Unit {0}) View) : Type 0 whe
   -- the fired word of a vertex has its firings, its halt and the cause
   pub fired : (v : ℕ) → v < g.game.graph.vertices → value_in g s.words (of_vertex v) ≡ word_of_part (parts_by g did v)
 
--- so it is at every moment of a net
+-- this holds at every moment of a net
 abbrev pub EveryMomentIsReached : Type 0
 EveryMomentIsReached = (g : Setting) (s : State (Unit {0}) View) → Kept g s → IsReachedTable g s
 
--- in every state that the rule of the table allows, once the end of feeding is noted and until the root is closed, some part
--- has an event that advances
+-- in every state that the rule of the table allows, from the end of feeding until the root is closed, some part has an
+-- event that advances
 abbrev pub AlwaysDue : Type 0
 AlwaysDue = (g : Setting) (s : State (Unit {0}) View) → (kept : Kept g s) → HasEnd g kept.log
     → (IsClosed g kept.log → ⊥) → (x : Event) × Advances g kept.log x
 
--- in every such state some legal log of a diffusing computation shows what the parts did
+-- in every such state some legal log of a diffusing computation has the steps of the parts
 abbrev pub EveryMomentDiffuses : Type 0
 EveryMomentDiffuses = (g : Setting) (s : State (Unit {0}) View) → Kept g s → (table : IsReachedTable g s)
     × (events : diffusing.Log) × (w : diffusing.World) × diffusing.IsLegalLog (network_of g) events w

@@ -1,4 +1,4 @@
--- What all tokens of a net did, in one log.
+-- The steps of all tokens of a net, in one log.
 use Rattle.std.specs.Prelude.{◌≡◌, ℕ, ◌≤◌, List, ◌++◌, length, slice_get, Some}
 use Rattle.chip_sequence.specs.declared.outcome.Outcome.{Outcome}
 use Rattle.chip_link.specs.Link.{claims_of}
@@ -17,18 +17,18 @@ use Rattle.chip_net.specs.Finish.{HasDoneIn, Finishes}
 abbrev pub AreInPlace : NetId → List ActorKnown → Type 0
 AreInPlace net actors = (v : ℕ) (a : ActorKnown) → slice_get actors v ≡ Some a → (a.net ≡ net) × (a.vertex ≡ v)
 
--- each of these actors did in the log what it did
+-- each of these actors made its steps in the log
 abbrev pub DidTheirs : Setting → Log → List ActorKnown → Type 0
 DidTheirs g log actors =
     (v : ℕ) (a : ActorKnown) → slice_get actors v ≡ Some a → a.did ≡ done_by g a.vertex log
 
--- in one legal log the root did what it did, the stopper, if the root has that part, and each of these actors
+-- one legal log has the steps of the root, of the stopper, if the root has that part, and of each of these actors
 abbrev pub Together : RootKnown → List ActorKnown → Type 0
 Together root actors = IsSetting root.net.setting
     × SomeLog root.net.setting (λ log. HasDoneIn root log × DidTheirs root.net.setting log actors)
 
--- some legal closed log has all that the root did, the stopper, if the root has that part, and each of these actors; and
--- it has this outcome
+-- some legal closed log has all steps of the root, of the stopper, if the root has that part, and of each of these
+-- actors; and this is its outcome
 pub record IsRun (receipt : RootKnown) (actors : List ActorKnown) (o : Outcome) : Type 0 where
   pub log : Log
   pub legal : IsLegalLog receipt.net.setting log
@@ -37,17 +37,17 @@ pub record IsRun (receipt : RootKnown) (actors : List ActorKnown) (o : Outcome) 
   pub closed : IsClosed receipt.net.setting log
   pub outcome : IsOutcomeOf receipt.net.setting log o
 
--- in one legal log these actors did what they did, and so did the parts of the view that come behind them
+-- one legal log has the steps of these actors and of the view's parts from this number on
 abbrev pub HaveMet : Setting → View → List ActorKnown → Type 0
 HaveMet g view actors = SomeLog g (λ log. DidTheirs g log actors
     × ((p : ℕ) (did : List Step) → length actors ≤ p → find p view.parts ≡ Some did → did ≡ done_by g p log))
 
--- if a root finished and then met the actors, all of that is one run with the outcome that it read
+-- if a root finished and then met the actors, all of this is one run with the outcome that it read
 abbrev pub OneRun : Type 0
 OneRun = (old receipt : RootKnown) (o : Outcome) (actors : List ActorKnown) → Finishes old receipt o
     → Together receipt actors → IsRun receipt actors o
 
--- what a seal answers is the number of all messages that are ever sent on the edge, whatever the stopper did then
+-- a seal returns the number of all messages ever sent on the edge, whatever the stopper did after it
 abbrev pub SealsTellAll : Type 0
 SealsTellAll = (receipt : RootKnown) (actors : List ActorKnown) (o : Outcome) → IsSetting receipt.net.setting
     → (run : IsRun receipt actors o) (old new : StopperKnown) (edge : ℕ) (answer : SealedAt) → Seals old new edge answer

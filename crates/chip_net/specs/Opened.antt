@@ -1,4 +1,4 @@
--- What opening a net answers.
+-- What opening a net returns.
 use Rattle.std.specs.Prelude.{◌≡◌, ℕ, ◌<◌, Bool, if◌then◌else◌, [], length, slice_get, All, Some, None}
 use Rattle.chip_part.specs.Setting.{Setting}
 use Rattle.chip_net.specs.Tokens.{newcomer}

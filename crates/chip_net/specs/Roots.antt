@@ -1,4 +1,4 @@
--- What the clauses of a net's calls know of its root and its stopper.
+-- What the contracts of a net's calls know of its root and its stopper.
 use Rattle.std.specs.Prelude.{◌≡◌, ◌≢◌, ℕ, zero, suc, ◌+◌, ◌-◌, ◌<◌, ◌≤◌, Bool, true, false, List, [], ◌∷◌, ◌++◌, map}
 use Rattle.std.specs.Prelude.{sum, Option, Some, None, is_none, Result, Ok, Err}
 use Rattle.atomic_table.specs.Seated.{TableId}
@@ -28,13 +28,13 @@ use Rattle.chip_net.specs.declared.poll.RootState.{RootState}
 use Rattle.chip_net.specs.declared.poll.RootState.TheVariants.{Closed, Running}
 use Rattle.chip_net.specs.declared.stopper.SealedAt.{SealedAt}
 
--- the root: its net, all that it did, and what the stopper did, if the root holds that part too
+-- the root: its net, all its steps, and the stopper's steps, if the root holds that part too
 pub record RootKnown : Type 0 where
   pub net : NetId
   pub did : List Step
   pub stopper_did : Option (List Step)
 
--- what the root knows whose seat is at this table and has this view
+-- the root whose seat is at this table and has this view
 abbrev pub known_root : TableId → Setting → View → RootKnown
 known_root table g view = record {
   net = record { table = table; setting = g };
@@ -42,31 +42,31 @@ known_root table g view = record {
   stopper_did = find (stopper g) view.parts;
 }
 
--- the part of the core that it has
+-- its part of the core
 abbrev pub root_part : RootKnown → Part
 root_part r = part_by r.net.setting (opening_part r.net.setting) r.did
 
--- how many of its messages aren't acknowledged, as far as it settled
+-- the number of its messages not acknowledged, as far as it has settled
 abbrev pub root_deficit : RootKnown → ℕ
 root_deficit r = deficit_of r.net.setting (root r.net.setting) (root_part r)
 
--- it noted the end of feeding; if no chips are fed it is noted from the beginning
+-- it noted the end of feeding; without feeding it is noted from the start
 abbrev pub has_ended : RootKnown → Bool
 has_ended r = (root_part r).ended
 
--- it is closed: nothing more is fed, and no message is outstanding
+-- it is closed: feeding has ended, and no message is outstanding
 abbrev pub IsRootOver : RootKnown → Type 0
 IsRootOver r = (root_deficit r ≡ 0) × (has_ended r ≡ true)
 
--- what it fed, one after another: pairs of a vertex and a count of chips
+-- its feeds, in order: pairs of a vertex and a number of chips
 abbrev pub fed_by : RootKnown → List (ℕ × ℕ)
 fed_by r = fed_in r.net.setting r.did
 
--- all chips that were given, at the start and by feeds
+-- all chips given, at the start and by feeds
 abbrev pub all_given : RootKnown → ℕ
 all_given r = sum r.net.setting.game.start + all_brought (fed_by r)
 
--- how many messages were sent on the root edge of a vertex
+-- the number of messages sent on the root edge of a vertex
 abbrev pub sent_to : RootKnown → ℕ → ℕ
 sent_to r vertex = claims_of ((root_part r).out (root_edge r.net.setting vertex)).link
 
@@ -74,24 +74,24 @@ sent_to r vertex = claims_of ((root_part r).out (root_edge r.net.setting vertex)
 abbrev pub new_root : NetId → Option (List Step) → RootKnown
 new_root net stopper_did = record { net = net; did = []; stopper_did = stopper_did }
 
--- it has the stopper's part, which did this
+-- it has the stopper's part, which made these steps
 abbrev pub with_stopper : RootKnown → List Step → RootKnown
 with_stopper r steps = record { net = r.net; did = r.did; stopper_did = Some steps }
 
--- it did these steps more
+-- it has made these steps more
 abbrev pub root_after : RootKnown → List Step → RootKnown
 root_after r steps = record { net = r.net; did = r.did ++ steps; stopper_did = r.stopper_did }
 
 -- ---- the root at its seat
 
--- the view of the root of this game, with what the root keeps of it
+-- the view of the root of this game, with the root's own state
 pub record IsRoot (g : Setting) (view : View) (state : Root) : Type 0 where
   pub setting : IsSetting g
   pub has : HasPart (root g) view
   pub stands : RootStandsFor g (part_of_view g (root g) view) state
   pub in_log : SomeLog g (λ log. did_in (root g) view ≡ done_by g (root g) log)
 
--- an event by which the root feeds, or ends feeding
+-- an event of feeding or the end of feeding
 abbrev pub IsFeeding : Setting → Event → Type 0
 IsFeeding g (Clear e) = graph_edges g ≤ e
 IsFeeding g (Put e) = graph_edges g ≤ e
@@ -99,11 +99,11 @@ IsFeeding g (Feed e k) = graph_edges g ≤ e
 IsFeeding g End = Unit {0}
 IsFeeding g _ = ⊥
 
--- such an event, whose rules are met
+-- such an event, enabled
 abbrev pub IsDueForRoot : RootKnown → Event → Type 0
 IsDueForRoot r x = IsFeeding r.net.setting x × (unmet_rule r.net.setting x (root_part r) ≡ None)
 
--- the same by the root's view, with the operation that the event needs
+-- the same by the root's view, with the event's operation
 pub record IsDueInView (g : Setting) (view : View) (x : Event) (act : Act) : Type 0 where
   pub has : HasPart (root g) view
   pub feeding : IsFeeding g x
@@ -117,20 +117,20 @@ pub record RootMakesEvent (old new : RootKnown) (x : Event) (seen : ℕ) : Type 
   -- a store finds nothing
   pub noted_is : seen ≡ word_to_note x seen
 
--- one event was made, and this is the reply to it
+-- one event was made, with this reply
 pub record Replies (old new : RootKnown) (x : Event) (reply : Reply) : Type 0 where
   pub seen : ℕ
   pub made : RootMakesEvent old new x seen
   pub reply_is : reply ≡ reply_of old.net.setting x seen (root_part old)
 
--- nothing is claimed on a root edge that isn't put
+-- every message claimed on a root edge is put
 abbrev pub HoldsNothing : RootKnown → Type 0
 HoldsNothing r = (v : ℕ) → v < r.net.setting.game.graph.vertices
     → ((root_part r).out (root_edge r.net.setting v)).link.held ≡ None
 
 -- ---- feeding
 
--- a feed of `count` chips: a look that sees the next cell empty, a claim that sees how many messages were sent before,
+-- a feed of `count` chips: a look that sees the next cell empty, a claim that sees the number of messages sent before,
 -- and the put
 abbrev pub feed_steps : Setting → ℕ → ℕ → ℕ → List Step
 feed_steps g vertex count place =
@@ -146,14 +146,14 @@ pub record FeedsChips (old new : RootKnown) (vertex count place : ℕ) : Type 0 
   pub place_is : place ≡ sent_to old vertex
   pub record_is : new ≡ root_after old (feed_steps old.net.setting vertex count place)
 
--- the cell of the root edge wasn't empty: the look at it was made, and nothing else
+-- the cell of the root edge wasn't empty: only the look was made
 pub record LooksInVain (old new : RootKnown) (vertex : ℕ) : Type 0 where
   pub seen : ℕ
   pub some : seen ≢ 0
   pub record_is : new
       ≡ root_after old (saw (Clear (root_edge old.net.setting vertex)) seen ∷ [])
 
--- why `count` chips were not fed to a vertex: nothing more may be fed; else there would be too many; else the ring of
+-- why `count` chips were not fed to a vertex: feeding has ended; else there would be too many chips; else the ring of
 -- its root edge was full
 abbrev pub RefusesFeed : RootKnown → RootKnown → ℕ → ℕ → FeedFault → Type 0
 RefusesFeed old new vertex count Ended = (has_ended old ≡ true) × (new ≡ old)
@@ -162,13 +162,13 @@ RefusesFeed old new vertex count Total =
 RefusesFeed old new vertex count Full =
     (has_ended old ≡ false) × (all_given old + count ≤ max_total) × LooksInVain old new vertex
 
--- the number of each among all faults
+-- the fault number of each
 abbrev pub feed_number : FeedFault → ℕ
 feed_number Ended = 44
 feed_number Total = 10
 feed_number Full = 45
 
--- the fault that it is if this rule of a feed isn't met
+-- the fault for this unmet rule of a feed
 abbrev pub feed_fault : Rule → Option FeedFault
 feed_fault Not.Ended = Some Ended
 feed_fault Not.TooMuch = Some Total
@@ -189,7 +189,7 @@ abbrev pub settles_from : Setting → ℕ → ℕ → List Event
 settles_from g v zero = []
 settles_from g v (suc n) = settles_from g v n ++ Settle (root_edge g (v + n)) ∷ []
 
--- the root made these events more
+-- the root has made these events more
 pub record DoesMore (old now : RootKnown) (events : List Event) : Type 0 where
   pub steps : List Step
   pub record_is : now ≡ root_after old steps
@@ -199,12 +199,12 @@ pub record DoesMore (old now : RootKnown) (events : List Event) : Type 0 where
 abbrev pub IsPolling : RootKnown → RootKnown → ℕ → Type 0
 IsPolling old now count = DoesMore old now (settles_from old.net.setting 0 count)
 
--- what a poll answers, by the root after it: without a deficit it runs only if more may be fed
+-- the result of a poll, by the root after it: without a deficit it is open only if more may be fed
 abbrev pub AnswersPoll : RootKnown → RootState → Type 0
 AnswersPoll r Closed = IsRootOver r
 AnswersPoll r (Running n) = (n ≡ root_deficit r) × (n ≡ 0 → has_ended r ≡ false)
 
--- the root settled each root edge once more, and this is the answer
+-- the root settled each root edge once more, with this result
 pub record Polls (old new : RootKnown) (answer : RootState) : Type 0 where
   pub polling : IsPolling old new old.net.setting.game.graph.vertices
   pub answers : AnswersPoll new answer
@@ -217,7 +217,7 @@ pub record Ends (old new : RootKnown) (answer : RootState) : Type 0 where
 
 -- ---- the stopper
 
--- the stopper: its net, and all that it did
+-- the stopper: its net, and all its steps
 pub record StopperKnown : Type 0 where
   pub net : NetId
   pub did : List Step
@@ -226,12 +226,12 @@ pub record StopperKnown : Type 0 where
 abbrev pub new_stopper : NetId → StopperKnown
 new_stopper net = record { net = net; did = [] }
 
--- the part of the core that it has
+-- its part of the core
 abbrev pub stopper_part : StopperKnown → Part
 stopper_part s = part_by s.net.setting (opening_part s.net.setting) s.did
 
 -- the stopper sealed the edge once more: the count is what the first seal of it saw, and this was the first if there
--- was none
+-- was none before
 pub record Seals (old new : StopperKnown) (edge : ℕ) (answer : SealedAt) : Type 0 where
   pub inside : edge < graph_edges old.net.setting
   pub seen : ℕ

@@ -25,14 +25,14 @@ TriangleWords =
     × (index_of two_cells (of_cell 4 1) ≡ 23)
     × (index_of two_cells (of_vertex 2) ≡ 30) × (word_count two_cells ≡ 31)
 
--- the chips of vertex 0 lie in the first cell of its root edge
+-- the chips of vertex 0 are in the first cell of its root edge
 abbrev pub TriangleOpens : Type 0
 TriangleOpens =
     (first_value two_cells 7 (of_edge 4) ≡ 1) × (first_value two_cells 7 (of_cell 4 0) ≡ 4)
     × (first_value two_cells 7 (of_cell 4 1) ≡ 0)
     × (first_value two_cells 7 (of_edge 5) ≡ 0) × (first_value two_cells 7 (of_vertex 0) ≡ 0)
 
--- a view of two parts: one of them acts, is taken out, and comes back
+-- a view of two parts: one of them acts, is taken out, and returns
 abbrev pub two_parts : View
 two_parts = record { parts = record { part = 1; did = [] } ∷ record { part = 0; did = saw (Take 4) 4 ∷ [] } ∷ [] }
 
@@ -62,7 +62,7 @@ RootOfTheTriangle =
     × (readings_after 0 true false (readings_after 1 true true (readings_after 2 false false (no_readings 3)))
     ≡ record { fired = 2 ∷ 1 ∷ 0 ∷ []; over = 1 ∷ []; sealed = 2 ∷ []; room = 0 })
 
--- three chips for vertex 1, whose root edge is 5, with what the root's list has of them, and the settles of an end
+-- three chips for vertex 1, whose root edge is 5: the events, the root's list of feeds, and the settles of an end
 abbrev pub FeedOfTheTriangle : Type 0
 FeedOfTheTriangle =
     (feed_steps two_cells 1 3 0 ≡ saw (Clear 5) 0 ∷ saw (Feed 5 3) 0 ∷ saw (Put 5) 0 ∷ [])

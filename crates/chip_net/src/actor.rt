@@ -19,24 +19,24 @@ use std::marker::{Brand, Model, PhantomData};
 use std::mem::replace;
 use std::snapshot::Snapshot;
 
-/// What a turn came to.
+/// The result of a turn.
 #[derive(Clone, Copy, PartialEq, Eq)]
 pub enum Turn {
-    /// This number of its steps, 1 or more, took, fired, sent, put, halted, acknowledged, or settled something new.
+    /// The number of its steps, 1 or more, that took, fired, sent, put, halted, acknowledged, or settled something new.
     Worked(u64),
-    /// None did, and the vertex has still something to do.
+    /// No step did, and the vertex still has something to do.
     Waiting,
-    /// None did, and the vertex has nothing to do unless a message comes: the detector leaves it out, or it waits for
+    /// No step did, and the vertex has nothing to do until a message comes: it is neutral or waits for
     /// acknowledgements.
     Idle,
 }
 
-/// What an actor owns: the state of its vertex, its seat at the words, and the trace of what it did there.
+/// The state of a vertex, its seat at the words, and the trace of its steps.
 #[derive(Drop)]
 pub(crate) struct Owned {
     state: ActorState,
     setting: Snapshot<Setting>,
-    // It has no part while the root looks at all parts at once.
+    // Without its part while the root holds all parts.
     seat: PartSeat,
     // What the seat knew when its part was taken.
     knew: Snapshot<PartSeat>,
@@ -55,7 +55,7 @@ impl Model for Owned {
 }
 
 impl Owned {
-    /// For a vertex that has done nothing.
+    /// The state of a vertex that has done nothing.
     pub(crate) fn new(state: ActorState, setting: &Setting, seat: PartSeat, trace: Trace) -> Owned
         requires seated { IsSeated setting.now state.vertex seat.me trace }
         requires state { StandsFor setting.now (opening_part setting.now) state }
@@ -96,7 +96,7 @@ impl Owned {
         }
     }
 
-    /// Its part goes to this seat.
+    /// Moves its part to this seat.
     fn lend(&mut self, net: &Net, seat: &mut PartSeat)
         requires net { self.old.net ≡ net.now }
         requires seat { seat.old.table_id ≡ net.now.table }
@@ -110,7 +110,7 @@ impl Owned {
         net.take_in(seat, own);
     }
 
-    /// Its part comes back to a seat of its own.
+    /// Moves its part back to a seat of its own.
     fn take_back<J: OnePart>(&mut self, net: &Net, seat: &mut PartSeat)
         requires vertex { J.part ≡ self.old.vertex }
         requires net { self.old.net.setting ≡ net.now.setting }
@@ -124,8 +124,7 @@ impl Owned {
     }
 }
 
-/// The owner of one vertex of a net. Contracts see what it has done. What it owns lies in a box, so that it is passed
-/// on as a pointer.
+/// The owner of one vertex of a net. Contracts see its steps. Its data is in a box, so that it moves as a pointer.
 #[derive(Drop)]
 pub struct Actor {
     owned: Box<Owned>,
@@ -140,7 +139,7 @@ impl Model for Actor {
 }
 
 impl Actor {
-    /// The actor that owns this.
+    /// The actor that owns `owned`.
     pub(crate) fn new(alloc: Global, owned: Owned) -> Result<Actor, AllocError>
         ensures { IfOk result (λ actor. actor ≡ owned) }
     {
@@ -157,8 +156,8 @@ impl Actor {
         owned.state.vertex()
     }
 
-    /// One turn: a look at each edge into the vertex, and then all that the vertex may do. Nothing waits, and nothing
-    /// is locked.
+    /// Makes one turn: reads each edge into the vertex once, then does all that the vertex may do. It neither waits nor
+    /// locks.
     #[inline(always)]
     pub fn turn(&mut self, net: &Net) -> Turn
         requires net { self.old.net ≡ net.now }
@@ -169,8 +168,8 @@ impl Actor {
         self.owned.turn(net)
     }
 
-    /// The takes of messages and the firings of the vertex, in order, as far as there was room for them; and whether
-    /// the trace is cut, since there was no room for one.
+    /// The takes of messages and the firings of the vertex, in order, up to the trace's capacity; and whether the trace
+    /// is cut for want of room.
     pub fn trace(&self) -> (&[TraceRow], bool)
         ensures rows { result.0.now ≡ take self.now.room (trace_rows_of self.now.did) }
         ensures cut { result.1 ≡ nat_lt self.now.room (length (trace_rows_of self.now.did)) }
@@ -180,8 +179,8 @@ impl Actor {
     }
 }
 
-/// A whole turn over the words of the net; how many of its steps count. It is inlined, as is all of a turn: the words
-/// are then nowhere in memory, and a worker reads no address again after each of its operations.
+/// Makes a whole turn over the words of the net; returns the number of its steps that count. All of a turn is inlined:
+/// the words are then nowhere in memory, and a worker reloads no address after each operation.
 #[inline(always)]
 fn turn_over<J: Turning>(state: &mut ActorState, words: &mut NetWords<'_, J>) -> usize
     requires setup { J.setup ≡ record {
@@ -205,8 +204,8 @@ fn turn_over<J: Turning>(state: &mut ActorState, words: &mut NetWords<'_, J>) ->
     state.turn(words)
 }
 
-/// The parts of all these actors come to one seat, which then looks at the words, and each gets its own back. So all that
-/// they did, and what the seat did, stands in one log. Nothing is taken from memory.
+/// Moves the parts of all these actors to one seat, reads a word with it, and moves each part back. So one log has the
+/// steps of all actors and of the seat. Allocates nothing.
 pub(crate) fn meet(net: &Net, seat: &mut PartSeat, actors: &mut [Actor])
     requires seat { seat.old.table_id ≡ net.now.table }
     requires actors { AreInPlace net.now actors.old }

@@ -1,4 +1,4 @@
-//! Where each shared word of a net lies.
+//! The place of each shared word of a net.
 
 ghost use Rattle.std.specs.Prelude.{◌≡◌, ℕ, ◌+◌, ◌^◌, ◌<◌};
 ghost use Rattle.chip_part.specs.Edges.{root_edge};
@@ -7,7 +7,7 @@ ghost use Rattle.chip_net.specs.Layout.{index_of, word_count};
 
 use chip_part::Setting;
 
-/// The number of the edge word of an edge.
+/// The index of the edge word of an edge.
 pub(crate) fn edge_word(setting: &Setting, edge: u64) -> usize
     requires { IsWord setting.now (of_edge edge) }
     ensures { result ≡ index_of setting.now (of_edge edge) }
@@ -16,7 +16,7 @@ pub(crate) fn edge_word(setting: &Setting, edge: u64) -> usize
     edge as usize
 }
 
-/// The number of the word of acknowledgements of an edge.
+/// The index of the word of acknowledgements of an edge.
 pub(crate) fn acks_word(setting: &Setting, edge: u64) -> usize
     requires { IsWord setting.now (of_acks edge) }
     ensures { result ≡ index_of setting.now (of_acks edge) }
@@ -24,7 +24,7 @@ pub(crate) fn acks_word(setting: &Setting, edge: u64) -> usize
     (setting.all_edges() + edge) as usize
 }
 
-/// The number of the word of acknowledgements of the first vertex's root edge; those of the others follow it.
+/// The index of the first vertex's word of acknowledgements for its root edge; those of the other vertices follow it.
 pub(crate) fn root_acks(setting: &Setting) -> usize
     ensures words { (v : ℕ) → result + v ≡ index_of setting.now (of_acks (root_edge setting.now v)) }
     ensures few { result < 2 ^ 25 }
@@ -32,7 +32,7 @@ pub(crate) fn root_acks(setting: &Setting) -> usize
     (setting.all_edges() + setting.graph_edges()) as usize
 }
 
-/// The number of a cell of an edge.
+/// The index of a cell of an edge.
 pub(crate) fn cell_word(setting: &Setting, edge: u64, cell: u64) -> usize
     requires { IsWord setting.now (of_cell edge cell) }
     ensures { result ≡ index_of setting.now (of_cell edge cell) }
@@ -42,7 +42,7 @@ pub(crate) fn cell_word(setting: &Setting, edge: u64, cell: u64) -> usize
     (edges + edges + (edge * ring + cell)) as usize
 }
 
-/// The number of the fired word of a vertex.
+/// The index of the fired word of a vertex.
 pub(crate) fn fired_word(setting: &Setting, vertex: u64) -> usize
     requires { IsWord setting.now (of_vertex vertex) }
     ensures { result ≡ index_of setting.now (of_vertex vertex) }
@@ -53,7 +53,7 @@ pub(crate) fn fired_word(setting: &Setting, vertex: u64) -> usize
     (edges + edges + edges * ring + vertex) as usize
 }
 
-/// How many words a net has.
+/// The number of words of a net.
 pub(crate) fn word_count(setting: &Setting) -> usize
     ensures value { result ≡ word_count setting.now }
     ensures few { result < 2 ^ 30 }

@@ -1,10 +1,10 @@
 //! The running net: actors on threads of their own, over one table of shared words.
 //!
-//! `Net::of` gives a net and its tokens: an actor for each vertex, the root, and a stopper if the net is to be
-//! stoppable. Each of them may go to a thread of its own; none of their calls waits or takes memory. Between any two
-//! steps of whatever threads the rule of the table holds (`specs/Rule.antt`): the words, and what each token has done,
-//! are what some legal log of the core leaves. Where the words lie is said in `specs/Layout.antt`, what a token knows
-//! in `specs/Tokens.antt` and `specs/Roots.antt`.
+//! `Net::of` returns a net and its tokens: an actor for each vertex, the root, and a stopper if the net is stoppable.
+//! Each token may move to a thread of its own; none of their calls waits or allocates. Between any two steps of any
+//! threads the rule of the table holds (`specs/Rule.antt`): some legal log of the core leaves exactly these words and
+//! has exactly the steps of the tokens. `specs/Layout.antt` defines the place of each word, `specs/Tokens.antt` and
+//! `specs/Roots.antt` what a token knows.
 #![tactic(auto)]
 
 mod actor;

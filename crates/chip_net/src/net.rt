@@ -7,7 +7,7 @@ use std::alloc::{AllocError, Global};
 use std::marker::{Brand, Model};
 use std::snapshot::Snapshot;
 
-/// The words that the threads of a net share. A token is used with the net that opened it.
+/// The words that the threads of a net share. A token may only be used with the net that opened it.
 #[derive(Drop)]
 pub struct Net {
     setting: Setting,
@@ -46,7 +46,7 @@ impl Net {
         Ok((Net { setting, table }, seat))
     }
 
-    /// What the net was opened for: the game and the rings, and whether more is fed.
+    /// The setting of the net: the game, the rings, and whether the root may feed.
     pub fn setting(&self) -> &Setting
         ensures value { result.now ≡ self.now.setting }
         ensures setting { IsSetting self.now.setting }
@@ -61,7 +61,7 @@ impl Net {
         &self.table.shared
     }
 
-    /// A seat of its own for a part, with all that it did.
+    /// A seat of its own for a part, with all its steps.
     pub(crate) fn take_out<J: OnePart>(&self, seat: &mut PartSeat) -> PartSeat
         requires seat { seat.old.table_id ≡ self.now.table }
         requires part { HasPart J.part seat.old.me.0 }
@@ -84,7 +84,7 @@ impl Net {
         seat
     }
 
-    /// A look at the words: what the parts of the seat did stands in one log.
+    /// Reads a word: one log has the steps of all parts of the seat.
     pub(crate) fn look(&self, seat: &mut PartSeat)
         requires seat { seat.old.table_id ≡ self.now.table }
         ensures same { (seat.new.table_id ≡ seat.old.table_id) × (seat.new.me ≡ seat.old.me) }
@@ -93,7 +93,7 @@ impl Net {
         let _ = self.table.shared.load::<Brand>(seat, 0);
     }
 
-    /// A seat takes in the part of another, which has no other part.
+    /// Moves the part of another seat, its only one, to this seat.
     pub(crate) fn take_in(&self, seat: &mut PartSeat, other: PartSeat)
         requires seat { seat.old.table_id ≡ self.now.table }
         requires other { (other.table_id ≡ self.now.table) × (other.me.1 ≡ []) }

@@ -8,7 +8,7 @@ use chip_link::{FiredWord, TraceRow};
 use chip_part::Setting;
 use std::marker::{Brand, PhantomData};
 
-/// What a turn leaves as it is.
+/// What a turn leaves unchanged.
 pub(crate) trait Turning {
     ghost use Rattle.chip_net.specs.Tokens.{TurnSetup};
 
@@ -21,7 +21,7 @@ impl Turning for Brand {
     ghost setup = { no_setup };
 }
 
-/// The words of a net as the vertex whose turn it is finds them. Each operation is one atomic step.
+/// The words of a net, for the vertex whose turn it is. Each operation is one atomic step.
 #[derive(Drop)]
 pub(crate) struct NetWords<'net, J> {
     pub(crate) setting: &'net Setting,

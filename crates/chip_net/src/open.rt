@@ -26,7 +26,7 @@ use std::alloc::{AllocError, Global};
 use std::marker::Brand;
 use std::snapshot::Snapshot;
 
-/// Lays out the message of one root edge, if its vertex starts with chips.
+/// Writes the message of one root edge, if its vertex starts with chips.
 fn open_edge(setting: &Setting, words: &mut Vec<u64>, vertex: u64)
     requires vertex { vertex < setting.now.game.graph.vertices }
     requires words { AreOpening setting.now (graph_edges setting.now + vertex) words.old.items }
@@ -42,7 +42,7 @@ fn open_edge(setting: &Setting, words: &mut Vec<u64>, vertex: u64)
     }
 }
 
-/// The words of a net that opens: the messages of the start lie on the root edges.
+/// The words of a net that opens: the messages of the start are on the root edges.
 pub(crate) fn opening_words(alloc: Global, setting: &Setting) -> Result<Vec<u64>, AllocError>
     ensures { IfOk result (λ words. AreOpening setting.now (all_edges setting.now) words.items) }
 {
@@ -53,7 +53,7 @@ pub(crate) fn opening_words(alloc: Global, setting: &Setting) -> Result<Vec<u64>
     Ok(words)
 }
 
-/// What the actor of one vertex owns. Its part leaves the seat.
+/// The data of one vertex's actor. Its part leaves the seat.
 fn one_owned<J: OnePart>(
     alloc: Global,
     net: &Net,
@@ -75,8 +75,8 @@ fn one_owned<J: OnePart>(
     Ok(Owned::new(state, setting, own, trace))
 }
 
-/// These own an actor each from now on. Their boxes are taken one behind the other, so that what consecutive actors own
-/// lies side by side: whoever gives them turns in order waits less for memory.
+/// Makes an actor of each of these. Their boxes are taken one after the other, so that consecutive actors are close in
+/// memory: a worker that gives them turns in order waits less for memory.
 fn box_all(alloc: Global, run: Vec<Owned>, actors: &mut Vec<Actor>) -> Result<(), AllocError>
     ensures { OnOk result (actors.new.items ≡ actors.old.items ++ run.items) }
 {
@@ -86,7 +86,7 @@ fn box_all(alloc: Global, run: Vec<Owned>, actors: &mut Vec<Actor>) -> Result<()
     Ok(())
 }
 
-/// The actors of all vertices, ascending. They are boxed in runs, so that few of them are held twice.
+/// The actors of all vertices, ascending. They are boxed in runs of 256, so that few of them are held twice.
 fn all_actors(
     alloc: Global,
     net: &Net,
@@ -116,7 +116,7 @@ fn all_actors(
     Ok(actors)
 }
 
-/// The stopper, if there is to be one: its part then leaves the seat.
+/// The stopper of a stoppable net: its part leaves the seat.
 fn stopper_of<J: OnePart>(net: &Net, seat: &mut PartSeat, stoppable: bool) -> Option<Stopper>
     requires part { J.part ≡ stopper net.now.setting }
     requires table { seat.old.table_id ≡ net.now.table }
@@ -169,8 +169,8 @@ pub struct Opened {
 }
 
 impl Net {
-    /// A net of this setting and its tokens. Each actor has room for `trace_rows` trace rows, and there is a stopper if
-    /// the net is to be stoppable. All memory of the net's life is taken here, and for want of it alone it is refused.
+    /// Opens a net for this setting. Each actor has room for `trace_rows` trace rows; there is a stopper if
+    /// `stoppable`. Takes all memory of the net's life; fails only without memory.
     pub fn of(
         alloc: Global,
         setting: Setting,
@@ -189,7 +189,7 @@ impl Net {
         })
     }
 
-    /// The net of a game, with rings of `ring` cells, and its tokens. The end of feeding is noted from the start.
+    /// Opens a net for a game, with rings of `ring` cells, 1 to 64. The end of feeding is noted from the start.
     pub fn open(
         alloc: Global,
         game: &Game,
@@ -206,7 +206,7 @@ impl Net {
         Ok((opened.net, opened.root, opened.actors, opened.stopper))
     }
 
-    /// The same if the root may feed more chips, until it notes the end of feeding: the net can't close before.
+    /// Opens a net whose root may feed more chips; it can't close before the root notes the end of feeding.
     pub fn open_fed(
         alloc: Global,
         game: &Game,

@@ -5,7 +5,7 @@ use chip_link::FiredWord;
 use std::alloc::{AllocError, Global};
 use std::marker::Model;
 
-/// What the fired words tell, of one vertex after another, and room for chips. All memory is taken at the beginning.
+/// The contents of the fired words, by ascending vertex, and room for chips. All memory is taken at the start.
 #[derive(Drop)]
 pub(crate) struct Readings {
     pub(crate) fired: Vec<u64>,
@@ -35,7 +35,7 @@ impl Model for Readings {
 }
 
 impl Readings {
-    /// Those of no vertex, with room for `room` vertices.
+    /// No readings yet, with room for `room` vertices.
     pub(crate) fn new(alloc: Global, room: usize) -> Result<Readings, AllocError>
         ensures { IfOk result (λ readings. readings ≡ no_readings room) }
     {
@@ -47,7 +47,7 @@ impl Readings {
         })
     }
 
-    /// One vertex more.
+    /// Appends the reading of the next vertex.
     pub(crate) fn note(&mut self, word: FiredWord)
         requires { 0 < self.old.room }
         ensures { self.new ≡ readings_after word.fired word.halted word.by_limit self.old }

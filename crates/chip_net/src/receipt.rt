@@ -14,7 +14,7 @@ use chip_part::Setting;
 use std::marker::{Brand, Model};
 use std::snapshot::Snapshot;
 
-/// The root's token once it has read all counts. Contracts see what the root has done.
+/// The root's token after it has read all counts. Contracts see the root's steps.
 #[derive(Drop)]
 pub struct Receipt {
     seat: PartSeat,
@@ -48,7 +48,7 @@ impl Receipt {
         Receipt { seat, setting }
     }
 
-    /// Shows that what the actors of all vertices did stands in one log, and leaves all as it was.
+    /// Shows that one log has the steps of the actors of all vertices; changes nothing.
     pub fn meet(&mut self, net: &Net, actors: &mut Vec<Actor>)
         requires net { self.old.net ≡ net.now }
         requires actors { AreInPlace net.now actors.old.items }
@@ -72,7 +72,7 @@ impl Receipt {
         net.words().load::<Brand>(seat, word)
     }
 
-    /// Reads every fired word once, ascending.
+    /// Reads every fired word once, by ascending vertex.
     pub(crate) fn read_all(&mut self, net: &Net, mut readings: Readings) -> Readings
         requires net { self.old.net ≡ net.now }
         requires over { IsRootOver self.old }

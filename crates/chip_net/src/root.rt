@@ -18,7 +18,7 @@ use chip_sequence::{Outcome, after_from};
 use std::alloc::{AllocError, Global};
 use std::marker::{Brand, Model};
 
-/// The root of a net. Contracts see what it has done.
+/// The root of a net. Contracts see its steps.
 #[derive(Drop)]
 pub struct Root {
     actor: Box<RootActor>,
@@ -51,8 +51,8 @@ impl Root {
         })
     }
 
-    /// Feeds `count` chips, 1 or more, to a vertex, and tells how many messages the root sent there before. Nothing
-    /// waits: if the ring to the vertex is full, it says so, and a later try may go through.
+    /// Feeds `count` chips, 1 or more, to a vertex; returns the number of messages that the root sent there before. It
+    /// never waits: if the ring to the vertex is full it fails with `Full`, and a later call may succeed.
     #[cold]
     pub fn feed(&mut self, net: &Net, vertex: u64, count: u64) -> Result<u64, FeedFault>
         requires net { self.old.net ≡ net.now }
@@ -73,7 +73,7 @@ impl Root {
         Ok(place)
     }
 
-    /// Notes that nothing more is fed, and polls. Only then can the net close; if it was noted before, this is a poll.
+    /// Notes the end of feeding, which the net needs to close, and polls. A second call only polls.
     #[cold]
     pub fn end(&mut self, net: &Net) -> RootState
         requires net { self.old.net ≡ net.now }
@@ -86,7 +86,7 @@ impl Root {
         actor.poll_state()
     }
 
-    /// Settles each root edge once, and tells whether the game is over then.
+    /// Settles each root edge once; returns whether the game is over.
     #[inline(never)]
     pub fn poll(&mut self, net: &Net) -> RootState
         requires net { self.old.net ≡ net.now }
@@ -98,7 +98,7 @@ impl Root {
         actor.poll_state()
     }
 
-    /// Takes back the stopper. From then on nothing is sealed, and what it sealed is among what the root knows.
+    /// Takes back the stopper. Nothing is sealed after that, and the root knows which edges it sealed.
     pub fn take_back(&mut self, net: &Net, stopper: Stopper)
         requires net { self.old.net ≡ net.now }
         requires stopper { stopper.net ≡ net.now }
@@ -108,9 +108,9 @@ impl Root {
         actor.take_back(net, stopper);
     }
 
-    /// Once the game is over, reads how often each vertex fired and whether it halted, and tells how the game ended,
-    /// with all chips that were fed: the chips are those by the counts, so that what a sealed edge holds back counts as
-    /// sent. Before that, it gives the root back.
+    /// Reads how often each vertex fired and whether it halted, and returns the outcome with all chips that were fed.
+    /// The chips follow from the counts: chips held back by a sealed edge count as sent. If the game is not over, the
+    /// error is the root, unchanged.
     pub fn finish(self, net: &Net) -> Result<(Outcome, Receipt), Root>
         requires net { self.net ≡ net.now }
         ensures { MatchResult result (λ r. IsRootOver self × Finishes self r.1 r.0)
@@ -124,7 +124,7 @@ impl Root {
     }
 }
 
-/// The end of a game that is over: the reads, and what is made of them.
+/// The end of a game that is over: reads the counts and makes the outcome.
 fn read_outcome(net: &Net, actor: RootActor, readings: Readings) -> (Outcome, Receipt)
     requires net { actor.net ≡ net.now }
     requires over { IsRootOver actor }

@@ -1,4 +1,4 @@
-//! What the root acts with: its seat at the shared words, and what it keeps of its edges.
+//! The root's means of acting: its seat at the shared words, and its counters for its edges.
 
 ghost use Rattle.std.specs.Prelude.{◌≡◌, ℕ, ◌-◌, ◌<◌, ◌≤◌, ◌==◌, ◌&&◌, [], Some, IfOk, MatchResult, true};
 ghost use Rattle.chip_part.specs.Setting.{IsSetting};
@@ -58,7 +58,7 @@ impl Model for RootActor {
 }
 
 impl RootActor {
-    /// For a root that has done nothing.
+    /// The actor of a root that has done nothing.
     pub(crate) fn new(
         alloc: Global,
         setting: &Setting,
@@ -76,7 +76,7 @@ impl RootActor {
         })
     }
 
-    /// Settles the root edge of a vertex, of which that is the word of acknowledgements.
+    /// Settles the root edge of a vertex, whose word of acknowledgements is `word`.
     fn settle(&mut self, net: &Net, vertex: u64, word: usize)
         requires net { self.old.net ≡ net.now }
         requires vertex { vertex < self.old.net.setting.game.graph.vertices }
@@ -88,7 +88,7 @@ impl RootActor {
         self.state.settle(vertex as usize, seen);
     }
 
-    /// Settles the root edges of the vertices from this one on.
+    /// Settles the root edges of the vertices from `first` on.
     pub(crate) fn settle_from(&mut self, net: &Net, first: u64)
         requires net { self.old.net ≡ net.now }
         ensures settles { DoesMore self.old self.new
@@ -96,14 +96,14 @@ impl RootActor {
         ensures holds { HoldsNothing self.old → HoldsNothing self.new }
     {
         let setting = net.setting();
-        // (once for all: what lies in memory is read again after each load of a shared word)
+        // (once for all: each load of a shared word makes the compiler read memory again)
         let words = root_acks(setting);
         for vertex in first..setting.vertices() {
             self.settle(net, vertex, words + vertex as usize);
         }
     }
 
-    /// Makes an event by which the root feeds, or ends feeding.
+    /// Makes an event of feeding or the end of feeding.
     pub(crate) fn make<J: Making>(&mut self, net: &Net, event: Event) -> Reply
         requires event { J.event ≡ event }
         requires net { self.old.net ≡ net.now }
@@ -133,14 +133,14 @@ impl RootActor {
         }
     }
 
-    /// Whether nothing more is fed, and no message is outstanding.
+    /// Whether feeding has ended and no message is outstanding.
     pub(crate) fn is_closed(&self) -> bool
         ensures { result ≡ (root_deficit self.now == 0 && has_ended self.now) }
     {
         self.state.closed()
     }
 
-    /// Whether that is so, and else how many messages are outstanding.
+    /// The root's state: closed, or the number of outstanding messages.
     pub(crate) fn poll_state(&self) -> RootState
         ensures { AnswersPoll self.now result }
     {
@@ -151,7 +151,7 @@ impl RootActor {
         }
     }
 
-    /// Takes back the stopper, and with it what it did.
+    /// Takes back the stopper, and its steps.
     pub(crate) fn take_back(&mut self, net: &Net, stopper: Stopper)
         requires net { self.old.net ≡ net.now }
         requires stopper { stopper.net ≡ net.now }
@@ -160,7 +160,7 @@ impl RootActor {
         net.take_in(&mut self.seat, stopper.into_seat());
     }
 
-    /// The state of the root, and the root that reads, once it is closed.
+    /// The state of a closed root, and the receipt that reads the counts.
     pub(crate) fn into_receipt(self) -> (RootBooks, Receipt)
         ensures state { RootStandsFor self.net.setting (root_part self) result.0 }
         ensures receipt { result.1 ≡ self }
@@ -175,7 +175,7 @@ impl RootActor {
     }
 }
 
-/// The fault that it is if this rule of a feed isn't met; none of a rule that a look at the cell may mend.
+/// The fault for this unmet rule of a feed; `None` for rules that reading the cell may resolve.
 fn fault_of(rule: Rule) -> Option<FeedFault>
     ensures { result ≡ feed_fault rule }
 {
@@ -186,7 +186,7 @@ fn fault_of(rule: Rule) -> Option<FeedFault>
     }
 }
 
-/// The operation of an event of the root on the shared words; what it found, 0 of a store.
+/// Makes the operation of a root's event on the shared words; returns the word it found, 0 for a store.
 fn operate<J: Making>(net: &Net, seat: &mut PartSeat, act: &Act) -> u64
     requires table { seat.old.table_id ≡ net.now.table }
     requires due { IsDueInView net.now.setting seat.old.me.0 J.event act.now }

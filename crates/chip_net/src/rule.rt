@@ -1,4 +1,4 @@
-//! The rule of the table, and what a step of it tells.
+//! The rule of the table, and the ghost arguments of its steps.
 
 use crate::views::View;
 use atomic_table::{Join, Play, Seat, Shared, Split, Table, TableRule};
@@ -7,7 +7,7 @@ use std::alloc::Global;
 use std::marker::{Brand, PhantomData};
 use std::snapshot::Snapshot;
 
-/// Words and views are what some legal log of the core leaves.
+/// Some legal log of the core leaves these words and views.
 pub struct NetRule;
 
 impl TableRule<(), View, Snapshot<Setting>> for NetRule {
@@ -25,15 +25,15 @@ pub(crate) type WordTable = Table<(), View, Snapshot<Setting>, NetRule, Global>;
 /// Its words, which change in single atomic steps.
 pub(crate) type SharedWords = Shared<(), View, Snapshot<Setting>, NetRule>;
 
-/// A seat at them, whose view has the parts that its owner may act for.
+/// A seat at the words; its view has the parts that its owner may act for.
 pub(crate) type PartSeat = Seat<(), View>;
 
-// What a step tells: the proof of each call picks it.
+// The ghost data of a step: the proof of each call picks it.
 impl Play<(), View> for Brand {
     ghost then = { λ _ _ _ _. Unit {0} };
 }
 
-/// A part that goes to a seat of its own.
+/// A part that moves to a seat of its own.
 pub(crate) trait OnePart {
     ghost use Rattle.std.specs.Prelude.{ℕ};
 
@@ -44,7 +44,7 @@ impl OnePart for Brand {
     ghost part = { 0 };
 }
 
-/// The part goes to a seat of its own.
+/// Moves a part to a seat of its own.
 pub(crate) struct TakeOut<J> {
     of: PhantomData<J>,
 }
@@ -57,7 +57,7 @@ impl<J: OnePart> Split<View> for TakeOut<J> {
     ghost right = { view_of_one J.part };
 }
 
-/// The parts of another seat come to this one.
+/// Moves the parts of another seat to this one.
 pub(crate) struct TakeIn;
 
 impl Join<View> for TakeIn {

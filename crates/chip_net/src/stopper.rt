@@ -12,12 +12,12 @@ use std::marker::{Brand, Model};
 use std::snapshot::Snapshot;
 use thiserror::Error;
 
-/// What a seal found.
+/// The result of a seal.
 #[derive(Clone, Copy, PartialEq, Eq)]
 pub struct SealedAt {
-    /// How many messages were ever sent on the edge, up to 2^40: no more will be.
+    /// The number of messages ever sent on the edge, up to 2^40: none follows.
     pub count: u64,
-    /// Whether this was the first seal of it.
+    /// Whether this was the first seal of the edge.
     pub first: bool,
 }
 
@@ -27,7 +27,7 @@ pub struct SealedAt {
 pub struct NoEdge;
 
 impl NoEdge {
-    /// Its number among all faults.
+    /// The fault's number.
     pub fn number(&self) -> u64
         ensures { result ≡ 43 }
     {
@@ -35,7 +35,7 @@ impl NoEdge {
     }
 }
 
-/// The stopper of a net, who seals edges. Contracts see what it has done.
+/// The stopper of a net, which seals edges. Contracts see its steps.
 #[derive(Drop)]
 pub struct Stopper {
     seat: PartSeat,
@@ -67,7 +67,7 @@ impl Stopper {
         Stopper { seat, setting }
     }
 
-    /// Seals an edge of the graph: every further claim of it is refused.
+    /// Seals an edge of the graph: every later claim of it is refused. Fails if the graph has no such edge.
     #[cold]
     pub fn seal(&mut self, net: &Net, edge: u64) -> Result<SealedAt, NoEdge>
         requires net { self.old.net ≡ net.now }
@@ -90,7 +90,7 @@ impl Stopper {
         })
     }
 
-    /// Its seat, which has its part alone.
+    /// The stopper's seat, which has its part alone.
     pub(crate) fn into_seat(self) -> PartSeat
         ensures table { result.table_id ≡ self.net.table }
         ensures part { result.me.0.parts ≡ record { part = stopper self.net.setting; did = self.did } ∷ [] }

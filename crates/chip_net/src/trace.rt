@@ -5,7 +5,7 @@ use chip_link::TraceRow;
 use std::alloc::{AllocError, Global};
 use std::marker::Model;
 
-/// What an actor wrote down of its run, as far as there was room. All memory is taken at the beginning.
+/// The record of an actor's run, up to its capacity. All memory is taken at the start.
 #[derive(Drop)]
 pub(crate) struct Trace {
     rows: Vec<TraceRow>,
@@ -30,7 +30,7 @@ impl Trace {
     ghost use Rattle.chip_link.specs.declared.event.Event.TheVariants.{Take};
     ghost use Rattle.chip_net.specs.Traces.{row_of};
 
-    /// A trace with nothing in it, and room for `room` rows.
+    /// An empty trace with room for `room` rows.
     pub(crate) fn new(alloc: Global, room: usize) -> Result<Trace, AllocError>
         ensures room { IfOk result (λ trace. trace.room ≡ room) }
         ensures empty { IfOk result (Keeps []) }
@@ -42,12 +42,12 @@ impl Trace {
         })
     }
 
-    /// One row more. If there is no room for it, the trace is cut from then on.
+    /// Appends a row. Without room for it, the trace is cut from then on.
     pub(crate) fn note(&mut self, row: TraceRow)
         ensures room { self.new.room ≡ self.old.room }
         ensures keeps { (all : List TraceRow) → Keeps all self.old → Keeps (all ++ row ∷ []) self.new }
     {
-        // (looked at first: without a trace nothing else is read)
+        // (first: without a trace nothing else is read)
         if self.cut {
             return;
         }
@@ -58,7 +58,7 @@ impl Trace {
         }
     }
 
-    /// What a take found on an edge: a row, if it was a message.
+    /// Notes the result of a take from an edge: a row, if there was a message.
     pub(crate) fn note_take(&mut self, edge: u64, count: u64)
         ensures room { self.new.room ≡ self.old.room }
         ensures keeps { (all : List TraceRow) → Keeps all self.old → Keeps (all ++ row_of (Take edge) count) self.new }
@@ -74,7 +74,7 @@ impl Trace {
         &self.rows
     }
 
-    /// Whether a row was lost.
+    /// Whether a row was dropped for want of room.
     pub(crate) fn is_cut(&self) -> bool
         ensures { result ≡ self.now.cut }
     {

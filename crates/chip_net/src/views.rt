@@ -1,10 +1,9 @@
-//! What a seat knows. No value of these types is ever made: proofs alone have them.
+//! What a seat knows. Values of these types never exist at run time: only proofs use them.
 
 use chip_link::Step;
 use std::collections::LinkedList;
 
-/// A part and what it did, the first step in front. A vertex goes by its number; after the vertices come the root and
-/// the stopper.
+/// A part and its steps, in order. Vertices have their own numbers; the root and the stopper follow them.
 pub struct History {
     pub part: u64,
     pub did: LinkedList<Step>,

@@ -1,4 +1,4 @@
-//! Crews on small games: how many workers share them and how, gates that hold them, seals, traces and feeds.
+//! Crews on small games: numbers of workers and ways of sharing, gates that hold them, seals, traces and feeds.
 
 ghost use Rattle.std.specs.Prelude.{◌<◌, ◌≤◌};
 
@@ -14,7 +14,7 @@ use std::sync::Wait;
 use std::sync::atomic::Ordering::SeqCst;
 use std::thread::Threads;
 
-/// Two workers, one cell for each edge, no trace and no seal, with turns enough.
+/// Two workers, one cell for each edge, no trace, no seal, and enough turns.
 const PAIR: Plan = Plan {
     workers: 2,
     ring: 1,
@@ -26,24 +26,24 @@ const PAIR: Plan = Plan {
 /// The same with one worker.
 const ONE: Plan = Plan { workers: 1, ..PAIR };
 
-/// A vertex and a count of chips for it each.
+/// A vertex and its number of chips, each.
 type Feeds = &'static [(u64, u64)];
 
 /// How a crew ends.
 enum Ending {
-    /// It finishes so.
+    /// It finishes with this outcome.
     Finished(&'static Ends),
     /// The plan or the feeds are out of range.
     Plan,
-    /// The chips are too many.
+    /// There are too many chips.
     Total,
     /// A gate was shut.
     GateShut,
-    /// The turns did not suffice, and this number of messages is open.
+    /// The turns are used up, and this number of messages is open.
     Unfinished(u64),
 }
 
-/// A crew on a game, and how it ends.
+/// A crew on a game, and its expected end.
 struct Case {
     name: &'static str,
     edges: Edges,
@@ -69,7 +69,7 @@ const FOUR: Case = Case {
     ending: Ending::Finished(&FOUR_CHIPS),
 };
 
-/// What a crew answers, by the call for such a crew.
+/// The result of a crew, by the call for such a crew.
 fn played<R: Threads + Wait + Sync + Abort + AllocGlobal>(
     rt: &R,
     game: &Game,
@@ -88,7 +88,7 @@ fn played<R: Threads + Wait + Sync + Abort + AllocGlobal>(
     }
 }
 
-/// Whether a crew ended so. One that finishes is compared here.
+/// Whether a crew ended as expected. Compares the outcome of one that finishes.
 fn is_ending(
     rt: &impl Abort,
     answer: &Result<Finished, CrewFault>,
@@ -108,8 +108,8 @@ fn is_ending(
     }
 }
 
-/// Plays a case by this plan, with actors that are shared so, and with this gate. Nobody is asked so often that a long
-/// play would have gone on.
+/// Plays a case by this plan, with actors shared in this way, and with this gate. Checks that the gate was called less
+/// often than a long play would.
 fn ends_by<R: Threads + Wait + Sync + Abort + AllocGlobal>(
     rt: &R,
     case: &Case,
@@ -130,7 +130,7 @@ fn ends_by<R: Threads + Wait + Sync + Abort + AllocGlobal>(
     assert!(rt; gate.asked.load(SeqCst) < 1_000_000);
 }
 
-/// Plays a case by its own rule and this plan, with actors that are shared so.
+/// Plays a case by its own rule and this plan, with actors shared in this way.
 fn ends<R: Threads + Wait + Sync + Abort + AllocGlobal>(
     rt: &R,
     case: &Case,
@@ -148,7 +148,7 @@ fn all_end<R: Threads + Wait + Sync + Abort + AllocGlobal>(rt: &R, cases: &[&Cas
     }
 }
 
-/// Plays each case by its own plan, by a queue and dealt out.
+/// Plays each case by its own plan, with a queue and dealt out.
 fn all_end_both_ways<R: Threads + Wait + Sync + Abort + AllocGlobal>(rt: &R, cases: &[&Case]) {
     for case in cases {
         ends(rt, case, case.plan, Sharing::Queue);
@@ -156,7 +156,7 @@ fn all_end_both_ways<R: Threads + Wait + Sync + Abort + AllocGlobal>(rt: &R, cas
     }
 }
 
-/// `workers` workers play four chips with rings of `ring` cells, by a queue and dealt out.
+/// `workers` workers play four chips with rings of `ring` cells, with a queue and dealt out.
 fn four_end<R: Threads + Wait + Sync + Abort + AllocGlobal>(rt: &R, workers: u64, ring: u64) {
     let plan = Plan {
         workers,
@@ -167,7 +167,7 @@ fn four_end<R: Threads + Wait + Sync + Abort + AllocGlobal>(rt: &R, workers: u64
     ends(rt, &FOUR, plan, Sharing::Dealt);
 }
 
-/// With one vertex for each worker, with two for one, with all for one, and with none for most.
+/// With one vertex for each worker, two for one, all for one, and none for most.
 #[test]
 fn of_every_size(rt: HostRuntime) {
     for workers in [1, 2, 3, 64] {
@@ -177,7 +177,7 @@ fn of_every_size(rt: HostRuntime) {
     }
 }
 
-/// All three workers are asked before one of them goes on: they are threads of their own. There is no fourth.
+/// The gate of each of three workers is called before one goes on: they are threads of their own. There is no fourth.
 #[test]
 fn side_by_side(rt: HostRuntime) {
     let gate = Keeper::new(&Rule::Together(3));
@@ -186,7 +186,7 @@ fn side_by_side(rt: HostRuntime) {
     assert!(rt; gate.asked.load(SeqCst) == 3);
 }
 
-/// Worker 1 makes all its turns before worker 0 makes one, so it has to have every actor in turn.
+/// Worker 1 makes all its turns before worker 0's first, so it has to get every actor in turn.
 #[test]
 fn shared_by_one_queue(rt: HostRuntime) {
     let gate = Keeper::new(&Rule::Behind(7));
@@ -194,8 +194,8 @@ fn shared_by_one_queue(rt: HostRuntime) {
     ends_by(&rt, &FOUR, plan, Sharing::Queue, &gate);
 }
 
-/// Worker 1 gives vertex 0, 1 and 2 a turn each, and worker 0 goes on from there. Its fourth turn is the one after which
-/// the root is closed, unless worker 1 makes it at the same time.
+/// Worker 1 gives vertices 0, 1 and 2 a turn each, and worker 0 goes on from there. The root is closed after its fourth
+/// turn, unless worker 1 makes that turn at the same time.
 #[test]
 fn turns_of_another_worker(rt: HostRuntime) {
     let gate = Keeper::new(&Rule::Relay);
@@ -205,7 +205,7 @@ fn turns_of_another_worker(rt: HostRuntime) {
     assert!(rt; polls == 3 || polls == 4);
 }
 
-/// Of how many polls a gate is told if one worker plays four chips, and the turn of the last one.
+/// Expects this number of reported polls if one worker plays four chips, and this turn of the last one.
 fn tells_polls<R: Threads + Wait + Sync + Abort + AllocGlobal>(
     rt: &R,
     sharing: Sharing,
@@ -220,9 +220,9 @@ fn tells_polls<R: Threads + Wait + Sync + Abort + AllocGlobal>(
     assert!(rt; gate.most.load(SeqCst) == 1);
 }
 
-/// One worker gives vertex 0, 1 and 2 a turn, and again. In its third turn vertex 0 acknowledges the root's one
-/// message, after which the root is closed. With a queue the six polls before it are told. If the actors are dealt
-/// out, it polls after each round of three turns: two polls are told, and the third finds the root closed.
+/// One worker gives vertices 0, 1 and 2 a turn each, and again. In its third turn vertex 0 acknowledges the root's one
+/// message, after which the root is closed. With a queue the six polls before are reported. If the actors are dealt
+/// out, it polls after each round of three turns: two polls are reported, and the third finds the root closed.
 #[test]
 fn polls_are_told(rt: HostRuntime) {
     tells_polls(&rt, Sharing::Queue, 6, 5);
@@ -254,7 +254,7 @@ const SHUT: &[&Case] = &[
         ending: Ending::GateShut,
         ..FOUR
     },
-    // Worker 0 has made its one turn when the gate of worker 1 answers false: that is told, and not the open messages.
+    // Worker 0 has made its one turn when the gate of worker 1 returns false: that is reported, not the open messages.
     &Case {
         name: "shut for another",
         plan: Plan { turns: 1, ..PAIR },
@@ -271,8 +271,8 @@ fn shut(rt: HostRuntime) {
 
 const HALF: u64 = 1 << 20;
 
-/// A game in which two vertices fire a million times in turn, and never twice at once but for the first time: each
-/// firing takes one chip to the sink, and one more than half of the others has to lie in one place.
+/// A game in which two vertices fire a million times in turn, and only the first time twice at once: each firing sends
+/// one chip to the sink, and a vertex needs one more than half of the other chips to fire.
 const LONG: Case = Case {
     name: "long game",
     edges: &[(0, 1, HALF), (0, 2, 1), (1, 0, HALF), (1, 2, 1)],
@@ -319,7 +319,7 @@ const SHUT_FOR_ALL: &[&Case] = &[
     },
 ];
 
-/// A gate that is shut stops all workers, long before the play ends: at once or in mid-play, and whoever is asked.
+/// A shut gate stops all workers, long before the end of the play: at once or in mid-play, and for each worker.
 #[test]
 fn shut_for_all(rt: HostRuntime) {
     all_end(&rt, SHUT_FOR_ALL);
@@ -389,13 +389,13 @@ const PLANS: &[&Case] = &[
     },
 ];
 
-/// Nothing is played by these plans.
+/// These plans play nothing.
 #[test]
 fn plans(rt: HostRuntime) {
     all_end_both_ways(&rt, PLANS);
 }
 
-/// Plans with turns too few, or just enough.
+/// Plans with too few turns, or just enough.
 const TURNS: &[&Case] = &[
     &Case {
         name: "one turn of each of two workers",
@@ -403,7 +403,7 @@ const TURNS: &[&Case] = &[
         ending: Ending::Unfinished(1),
         ..FOUR
     },
-    // One worker gives vertex 0, 1 and 2 a turn, and again. In its third turn, the seventh of the worker, vertex 0
+    // One worker gives vertices 0, 1 and 2 a turn each, and again. In its third turn, the worker's seventh, vertex 0
     // acknowledges the root's one message. The last poll finds that.
     &Case {
         name: "six turns of dealt actors",
@@ -418,8 +418,8 @@ const TURNS: &[&Case] = &[
         sharing: Sharing::Dealt,
         ..FOUR
     },
-    // The turns of one worker are of vertex 0, 1, 2 and so on, and each begins with a feed. Vertex 0 takes the first
-    // and acknowledges it in its turn, since it can't fire. The second is not made.
+    // One worker gives vertices 0, 1, 2 and so on a turn each, and each turn begins with a feed. Vertex 0 takes the
+    // first and acknowledges it in its turn, since it can't fire. The second is not made.
     &Case {
         name: "one turn for two feeds, of vertex 0 first",
         start: &[0, 0, 0],
@@ -437,7 +437,7 @@ const TURNS: &[&Case] = &[
         ending: Ending::Unfinished(1),
         ..FOUR
     },
-    // The sink takes the first in the third turn. Before the second and third its cell is full, so nothing is fed.
+    // The sink takes the first in the third turn. Before the second and third turn its cell is full, so nothing is fed.
     &Case {
         name: "three turns for two feeds of the sink",
         start: &[0, 0, 0],
@@ -446,7 +446,7 @@ const TURNS: &[&Case] = &[
         ending: Ending::Unfinished(0),
         ..FOUR
     },
-    // Before the fourth the second is fed, and that is a turn of vertex 0.
+    // The second is fed before the fourth turn, which is one of vertex 0.
     &Case {
         name: "four turns for two feeds of the sink",
         start: &[0, 0, 0],
@@ -462,7 +462,7 @@ fn out_of_turns(rt: HostRuntime) {
     all_end(&rt, TURNS);
 }
 
-/// Feeds that are not to be made.
+/// Feeds that are refused.
 const WRONG_FEEDS: &[&Case] = &[
     &Case {
         name: "no such vertex",
@@ -478,7 +478,7 @@ const WRONG_FEEDS: &[&Case] = &[
         ending: Ending::Plan,
         ..FOUR
     },
-    // One is out of range, and all are too many: the first is told.
+    // One is out of range, and the total is too large: the first fault is reported.
     &Case {
         name: "no such vertex, and too many chips",
         start: &[0, 0, 0],
@@ -507,7 +507,7 @@ fn feeds_out_of_range(rt: HostRuntime) {
     all_end(&rt, WRONG_FEEDS);
 }
 
-/// Four chips come to vertex 0 in all, at the start and by feeds.
+/// Vertex 0 gets four chips in all, at the start and by feeds.
 const FED: &[&Case] = &[
     &Case {
         name: "four at once",
@@ -546,7 +546,7 @@ fn feeds(rt: HostRuntime) {
     }
 }
 
-/// Feeds that meet a limit.
+/// Feeds that reach a limit.
 const FED_UP_TO: &[&Case] = &[
     // With five chips vertex 0 fires twice and has two again, which it may not fire.
     &Case {
@@ -562,7 +562,7 @@ const FED_UP_TO: &[&Case] = &[
         }),
         ..FOUR
     },
-    // As many chips as there may be, all on the sink.
+    // The most chips allowed, all on the sink.
     &Case {
         name: "the largest total",
         start: &[0, 0, 0],
@@ -605,7 +605,7 @@ const SEALED_AT_ONCE: &[&Case] = &[
         sharing: Sharing::Dealt,
         ..SEALED
     },
-    // What would go over the edge is left to vertex 1.
+    // Vertex 1 keeps what it would send over the edge.
     &Case {
         name: "fed",
         start: &[0, 0, 0],
@@ -619,7 +619,7 @@ fn sealed_at_once(rt: HostRuntime) {
     all_end(&rt, SEALED_AT_ONCE);
 }
 
-/// Four chips, played to the end, with a vertex that met a seal when it had fired.
+/// Four chips, played to the end, with a vertex that fires and then claims on a sealed edge.
 const HALTED_ZERO: Ends = Ends {
     sealed: &[0],
     ..FOUR_CHIPS
@@ -630,8 +630,8 @@ const HALTED_ONE: Ends = Ends {
     ..FOUR_CHIPS
 };
 
-/// One worker gives vertex 0, 1 and 2 a turn, and again. Vertex 0 sends on edges 0 and 1 in turn 0 alone, and vertex 1 on
-/// edge 2 in turn 1 alone. Whoever meets a seal there has fired, and halts.
+/// One worker gives vertices 0, 1 and 2 a turn each, and again. Vertex 0 sends on edges 0 and 1 in turn 0 only, and
+/// vertex 1 on edge 2 in turn 1 only. A vertex that claims on a sealed edge there has fired, and halts.
 const SEALED_BEFORE_A_TURN: &[&Case] = &[
     &Case {
         name: "edge 0 before turn 1",
@@ -683,7 +683,7 @@ fn sealed_before_a_turn(rt: HostRuntime) {
     all_end(&rt, SEALED_BEFORE_A_TURN);
 }
 
-/// What two workers come to on the triangle, or one, if they finish.
+/// The result of a crew on the triangle that must finish.
 fn finished<R: Threads + Wait + Sync + Abort + AllocGlobal>(
     rt: &R,
     start: &[u64],
@@ -697,7 +697,7 @@ fn finished<R: Threads + Wait + Sync + Abort + AllocGlobal>(
     }
 }
 
-/// Four chips are played until an edge is sealed, and on from there by another crew.
+/// Plays four chips until an edge is sealed; another crew plays on from there.
 fn plays_on<R: Threads + Wait + Sync + Abort + AllocGlobal>(rt: &R, turn: u64, edge: u64) {
     let plan = Plan {
         seal: Some(SealAt { turn, edge }),
@@ -709,7 +709,7 @@ fn plays_on<R: Threads + Wait + Sync + Abort + AllocGlobal>(rt: &R, turn: u64, e
     assert!(rt; same, "edge {edge} sealed before turn {turn}");
 }
 
-/// Each edge of the triangle is sealed before one of the first turns of worker 0.
+/// Each edge of the triangle is sealed before each of the first turns of worker 0.
 #[test]
 fn seals(rt: HostRuntime) {
     for edge in 0..4 {
@@ -719,7 +719,7 @@ fn seals(rt: HostRuntime) {
     }
 }
 
-/// What an actor wrote down.
+/// Expects this trace of an actor.
 fn expect_trace(rt: &impl Abort, ended: &Finished, vertex: usize, rows: &[TraceRow], cut: bool) {
     let Some(actor) = ended.actors.get(vertex) else {
         panic!(rt; "an actor is not there");
@@ -739,7 +739,7 @@ const fn fire(k: u64) -> TraceRow {
     TraceRow::Fire { k }
 }
 
-/// What one worker's actors wrote down, with room for two rows each.
+/// The traces of one worker's actors, with room for two rows each.
 #[test]
 fn traces(rt: HostRuntime) {
     let plan = Plan {
@@ -773,7 +773,7 @@ fn chain(rt: &(impl AllocGlobal + Abort), vertices: u64) -> Game
     Game::new(graph, start, LIMIT).expect(rt, "a game")
 }
 
-/// All of many actors meet once they have played, however small the stack is.
+/// All of many actors meet after they have played, however small the stack is.
 #[test]
 fn many_actors_meet(rt: HostRuntime) {
     let game = chain(&rt, 200_000);

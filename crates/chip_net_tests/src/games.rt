@@ -1,4 +1,4 @@
-//! Games that several modules play, and where they end.
+//! Games that several modules play, and their ends.
 
 use chip_graph::{Edge, Game, Graph};
 use chip_sequence::Outcome;
@@ -10,10 +10,10 @@ pub(crate) type Edges = &'static [(u64, u64, u64)];
 /// Two vertices that send to each other, and both to the sink 2.
 pub(crate) const TRIANGLE: Edges = &[(0, 1, 1), (0, 2, 1), (1, 0, 1), (1, 2, 1)];
 
-/// No limit that a vertex could meet, and the largest total.
+/// A limit that no vertex reaches, and the largest total.
 pub(crate) const LIMIT: u64 = 1 << 40;
 
-/// Where a game ends: how often each vertex fired, the chips, and who halted by the limit and by a seal.
+/// The end of a game: the firing counts, the chips, and the vertices halted by the limit and by a seal.
 pub(crate) struct Ends {
     pub fired: &'static [u64],
     pub chips: &'static [u64],
@@ -21,7 +21,7 @@ pub(crate) struct Ends {
     pub sealed: &'static [u64],
 }
 
-/// Where four chips on vertex 0 of the triangle end.
+/// The end of four chips on vertex 0 of the triangle.
 pub(crate) const FOUR_CHIPS: Ends = Ends {
     fired: &[2, 1, 0],
     chips: &[1, 0, 3],
@@ -58,8 +58,7 @@ pub(crate) fn expect_outcome(rt: &impl Abort, outcome: &Outcome, ends: &Ends, na
     );
 }
 
-/// Whether what was fired before and after a stop adds up to what is fired without one, and the chips end as they do
-/// then.
+/// Whether the counts before and after a stop add up to those without one, and the final chips are the same.
 pub(crate) fn adds_up(first: &Outcome, more: &Outcome, ends: &Ends) -> bool {
     let mut same = more.chips.as_slice() == ends.chips;
     for ((fired, more), all) in first.fired.iter().zip(&more.fired).zip(ends.fired) {

@@ -1,4 +1,4 @@
-//! Nets and crews on threads: what no contract says of `chip_net` and `chip_crew`.
+//! Nets and crews on threads: what the contracts of `chip_net` and `chip_crew` do not state.
 #![tactic(auto)]
 
 #[cfg(test)]

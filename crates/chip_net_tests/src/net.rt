@@ -1,4 +1,4 @@
-//! Small nets, turn for turn, and nets whose tokens go to threads.
+//! Small nets, turn by turn, and nets whose tokens go to threads.
 
 ghost use Rattle.std.specs.Prelude.{◌≡◌, All, IfSome};
 
@@ -28,7 +28,7 @@ fn open_net(
     Net::open(rt.alloc(), &game, 1, trace_rows, stoppable).expect(rt, "memory")
 }
 
-/// The actor of this vertex makes a turn.
+/// Gives the actor of this vertex a turn, and expects this result.
 fn expect_turn(rt: &impl Abort, net: &Net, actors: &mut Vec<Actor>, vertex: usize, turn: Turn)
     requires { All (λ a. a.net ≡ net.now) actors.old.items }
     ensures { All (λ a. a.net ≡ net.now) actors.new.items }
@@ -66,7 +66,7 @@ fn finished(rt: &impl Abort, net: &Net, root: Root) -> Outcome
     outcome
 }
 
-/// The root is closed, and the game ended so.
+/// Expects a closed root and this end of the game.
 fn finishes(rt: &impl Abort, net: &Net, root: Root, ends: &Ends, name: &str)
     requires { root.net ≡ net.now }
 {
@@ -93,7 +93,7 @@ fn four_chips_turn(rt: &impl Abort, net: &Net, root: Root, actors: &mut Vec<Acto
     finishes(rt, net, root, &FOUR_CHIPS, "four chips");
 }
 
-/// Their traces: the first vertex has three rows, for two of which there is room.
+/// Their traces: the first vertex has three rows, and room for two.
 fn four_chips_traced(rt: &impl Abort, actors: &[Actor]) {
     let [zero, one, two] = actors else {
         panic!(rt; "the triangle has three actors");
@@ -133,7 +133,7 @@ fn four_chips(rt: HostRuntime) {
     four_chips_traced(&rt, &actors);
 }
 
-/// A turn of each actor.
+/// Gives each actor a turn.
 fn all_turn(net: &Net, actors: &mut Vec<Actor>)
     requires { All (λ a. a.net ≡ net.now) actors.old.items }
     ensures { All (λ a. a.net ≡ net.now) actors.new.items }
@@ -144,7 +144,7 @@ fn all_turn(net: &Net, actors: &mut Vec<Actor>)
     }
 }
 
-/// Rounds of turns until the root is closed.
+/// Gives rounds of turns until the root is closed.
 fn drive(net: &Net, mut root: Root, actors: &mut Vec<Actor>) -> Root
     requires root { root.net ≡ net.now }
     requires actors { All (λ a. a.net ≡ net.now) actors.old.items }
@@ -159,7 +159,7 @@ fn drive(net: &Net, mut root: Root, actors: &mut Vec<Actor>) -> Root
     root
 }
 
-/// A game, and where it ends.
+/// A game and its end.
 struct Played {
     name: &'static str,
     edges: Edges,
@@ -272,7 +272,7 @@ const PLAYED: &[&Played] = &[
     },
 ];
 
-/// Where five chips on the first vertex end, which fires again.
+/// The end of five chips on the first vertex, which fires again.
 const FIVE_CHIPS: Ends = Ends {
     fired: &[3, 1, 0],
     chips: &[0, 1, 4],
@@ -280,7 +280,7 @@ const FIVE_CHIPS: Ends = Ends {
     sealed: &[],
 };
 
-/// Each game without a stopper, and with one that does nothing.
+/// Plays each game without a stopper, and with an idle one.
 #[test]
 fn triangles(rt: HostRuntime) {
     for played in PLAYED {
@@ -331,7 +331,7 @@ fn sealed_twice(rt: HostRuntime) {
     seal_twice(&rt, &net, stopper);
 }
 
-/// The root takes the stopper back, polls and finishes: nobody had a chip, so nobody noticed the seal.
+/// The root takes the stopper back, polls and finishes: no vertex had a chip, so none claimed on the sealed edge.
 fn take_back_and_finish(rt: &impl Abort, net: &Net, mut root: Root, stopper: Option<Stopper>)
     requires root { root.net ≡ net.now }
     requires stopper { IfSome stopper (λ s. s.net ≡ net.now) }

@@ -1,5 +1,5 @@
 -- Serves Rules.antt, Turn.antt, Cursor.antt.
--- How what is left of a turn at one cursor comes from what is left at another.
+-- What is left of a turn at one cursor, from what is left at another.
 use Rattle.std.proofs.Common.{◌≡◌, ◌≢◌, ℕ, zero, suc, ◌+◌, ◌-◌, ◌<◌, ◌≤◌, Bool, true, false, List, [], ◌∷◌, ◌++◌}
 use Rattle.std.proofs.Common.{length, drop, slice_index, Option, Some, None, refl, sym, ap, ◌∙◌, subst, arith}
 use Rattle.std.proofs.Common.{append-nil}
@@ -48,7 +48,7 @@ pub where_yes : (test : Part → Bool) (p : Phase) (s : Part) (ds : List Step) (
     → p s ds after → where_phase test p s ds after
 where_yes test p s ds after passes h = either_yes (test s) p nothing s ds after passes h
 
--- ---- phases that go through edges
+-- ---- phases that visit edges
 
 module _ (p : ℕ → Phase) (es : List ℕ) (q : Phase) where
   -- nothing is left of them past their end
@@ -72,7 +72,7 @@ module _ (p : ℕ → Phase) (es : List ℕ) (q : Phase) where
         rest,
       )
 
-  -- edges at which nothing is done are passed over
+  -- edges without operations are passed over
   each_skip : (n place next : ℕ) → place + n ≡ next → next ≤ length es → (s : Part)
       → ((k : ℕ) → place ≤ k → k < next → p (slice_index es k) s [] s)
       → (ds : List Step) (after : Part) → and_then (each_phase p (drop next es)) q s ds after
@@ -100,7 +100,7 @@ module _ (p : ℕ → Phase) (es : List ℕ) (q : Phase) where
 
 -- ---- cursors
 
--- the turn stands at a later cursor as well, with nothing done
+-- the turn is at a later cursor as well, with nothing done
 pub record Passes (g : Setting) (v : ℕ) (s : Part) (cursor next : Cursor) : Type 0 where
   pub fewer : fuel g v next ≤ fuel g v cursor
   pub rest : (ds : List Step) (after : Part) → rest_of_turn g v next s ds after → rest_of_turn g v cursor s ds after
@@ -118,7 +118,7 @@ passes_due g v s cursor next passes (Some due) goes = record {
 
 -- ---- operations
 
--- an operation of a vertex tells its event
+-- an operation of a vertex determines its event
 module _ (g : Setting) (v : ℕ) (vertex : v < g.game.graph.vertices) (s : Part) where
   pub event_of_act : (x : Event) → part_of g x ≡ v → unmet_rule g x s ≡ None → event_of v (act_of g x s) ≡ x
   event_of_act (Fire w k) mine met = ap (λ (n : ℕ). Fire n k) (sym mine)

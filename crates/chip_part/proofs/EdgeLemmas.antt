@@ -1,5 +1,5 @@
 -- Serves Edges.antt.
--- The edges by their numbers: whose they are, and how sums over them split into the graph's own edges and the root's.
+-- The edges by their numbers: their ends, and how sums over them split into the graph's own edges and the root's.
 use Rattle.std.proofs.Common.{◌≡◌, ℕ, ◌+◌, ◌-◌, ◌<◌, ◌≤◌, cond, eqb, length, ap, arith, lt-ltb, le-ltb}
 use Rattle.chip_graph.specs.Multigraph.{IsGraph, edge_at, sum_out, sum_in, degree}
 use Rattle.chip_part.specs.Setting.{Setting}

@@ -1,5 +1,5 @@
 -- Serves Edges.antt, Part.antt.
--- Every part opens with what it keeps.
+-- Every part opens with its invariants.
 use Rattle.std.proofs.lemmas.Bool.Decides.{nat_tests}
 use Rattle.std.proofs.Common.{◌≡◌, ℕ, ◌+◌, ◌-◌, ◌<◌, Bool, false, not, ◌&&◌, cond, eqb, ltb, leb, [], ◌∷◌, length, sum}
 use Rattle.std.proofs.Common.{Option, Some, None, refl, sym, ap, ◌∙◌, subst, arith, eq-eqb, eqb-true, rules, lt-ltb}
@@ -34,7 +34,7 @@ module _ (g : Setting) where
       (λ z. ap sum (cond_yes s 0 [] (s ∷ []) z) ∙ sym z)
       (λ z. ap sum (cond_no s 0 [] (s ∷ []) z) ∙ (let y : 0 + s ≡ s = omega arith in y))
 
-  -- what an opening edge ever sent to a vertex is what this starts with
+  -- what an opening edge ever sent to a vertex is that vertex's start
   pub first_sent : (v : ℕ) → sum (sent_counts (opening_tail g (root_edge g v))) ≡ start_of g v
   first_sent v = ap sum (append-nil (first_put g (root_edge g v))) ∙ first_sum v
 

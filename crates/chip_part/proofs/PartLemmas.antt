@@ -1,5 +1,5 @@
 -- Serves Part.antt, Rules.antt, Steps.antt.
--- What every part keeps by its own events, whatever they see.
+-- Every part keeps its invariants by its own events, whatever they see.
 use Rattle.std.proofs.Common.{◌≡◌, ◌≢◌, ◌⊎◌, ℕ, zero, suc, ◌+◌, ◌-◌, ◌*◌, ◌<◌, ◌≤◌, Bool, true, false, not, ◌&&◌, cond}
 use Rattle.std.proofs.Common.{eqb, List, [], ◌∷◌, ◌++◌, length, sum, Option, Some, None, option_to_list, refl, sym, ap}
 use Rattle.std.proofs.Common.{◌∙◌, subst, arith, ⊎_elim, eq-eqb, eqb-true, true≢false, length-append, append-nil}
@@ -30,7 +30,7 @@ use Rattle.chip_part.specs.Kept.{Met, IsNeutral, KeepsOut, KeepsPart}
 use Rattle.chip_detect.proofs.AllowedLemmas.{within_owed}
 use Rattle.chip_link.proofs.SoundsLemmas.{none-some}
 
--- one edge is changed, and what is said of the others needs that they are others
+-- one edge is changed, and the claims on the others need that they are others
 pub at_other : {A : Type 0} (P : ℕ → A → Type 0) (e : ℕ) (new old : ℕ → A) → P e (new e)
     → ((i : ℕ) → e ≢ i → P i (old i)) → (i : ℕ) → P i (cond (eqb e i) (new i) (old i))
 at_other P e new old here rest i = dite (ℕ_discrete e i)
@@ -38,7 +38,7 @@ at_other P e new old here rest i = dite (ℕ_discrete e i)
     (subst (P e) (sym (cond_yes e e (new e) (old e) refl)) here))
     (λ other. subst (P i) (sym (cond_no e i (new i) (old i) other)) (rest i other))
 
--- one edge is changed, the others are as they were
+-- one edge is changed, the others are unchanged
 pub at_edge : {A : Type 0} (P : ℕ → A → Type 0) (e : ℕ) (new old : ℕ → A) → P e (new e) → ((i : ℕ) → P i (old i))
     → (i : ℕ) → P i (cond (eqb e i) (new i) (old i))
 at_edge P e new old here rest = at_other P e new old here (λ i other. rest i)
@@ -67,16 +67,16 @@ module _ (g : Setting) where
   abbrev pub Outs : ℕ → Part → Type 0
   Outs p s = (e : ℕ) → tail_of g e ≡ p → KeepsOut g e (s.out e).link (s.out e).pending s.fired
 
-  -- if chips are fed, a root edge keeps nothing but that nothing is pending on it
+  -- with feeding, a root edge keeps only that nothing is pending on it
   root_kept : (e : ℕ) (t : Tail) (pending fired : ℕ) → graph_edges g ≤ e → g.fed ≡ true → pending ≡ 0
       → KeepsOut g e t pending fired
   root_kept e t pending fired past on idle = search (rules, arith, nat_tests)
 
-  -- chips are fed if the end isn't noted
+  -- there is feeding if the end isn't noted
   fed_by : (s : Part) → (g.fed ≡ false → s.ended ≡ true) → s.ended ≡ false → g.fed ≡ true
   fed_by s unfed going = by_test g.fed (λ on. on) (λ off. absurd (true≢false (sym (unfed off) ∙ going)))
 
-  -- a claim that is taken, and one that is refused
+  -- a claim that is accepted, and one that is refused
   claim_keeps : (e : ℕ) (t : Tail) (pending fired : ℕ) (b : Bool) → KeepsOut g e t pending fired → e < graph_edges g
       → t.clear ≡ true → KeepsOut g e (cond b (record t { held = Some pending; clear = false })
       (record t { clear = false; refused = true })) (cond b 0 pending) fired
@@ -374,7 +374,7 @@ module _ (g : Setting) where
   put_sends : (t : Tail) → sent_counts (after_put t) ≡ sent_counts t
   put_sends t = append-nil (sent_counts t)
 
-  -- on an edge that isn't fed as much is sent as before
+  -- an edge that isn't fed has sent the same as before
   abbrev pub sent_after : Event → ℕ → Part → ℕ → ℕ
   sent_after x seen s e = sum (sent_counts (link_after x seen e (s.out e)))
 

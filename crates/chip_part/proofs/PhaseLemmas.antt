@@ -1,6 +1,6 @@
 -- Serves Turn.antt, Cursor.antt, Worked.antt.
--- What goes from the phases of a turn to the phases that are made of them holds of the whole turn, and of what is left
--- of it at a cursor. So every turn that is under way can be completed, and a worked turn is the one that its sights tell.
+-- A property that the phases of a turn pass on holds of the whole turn, and of what is left of it at a cursor. So every
+-- turn under way can be completed, and a worked turn is determined by what it sees.
 use Rattle.std.proofs.Common.{◌≡◌, ℕ, zero, suc, ◌+◌, Bool, true, false, not, ◌&&◌, eqb, List, [], ◌∷◌, drop, Contains}
 use Rattle.std.proofs.Common.{refl, sym, ap, ◌∙◌, arith, is_some, ◌<◌, ◌≤◌, ◌++◌, length, Option, Some, None}
 use Rattle.std.proofs.Common.{length-append, cond}
@@ -160,7 +160,7 @@ abbrev total_either : (b : Bool) (p q : Phase) → Total p → Total q → Total
 total_either true p q some other = some
 total_either false p q some other = other
 
--- whatever its operations are to see
+-- whatever its operations will see
 module _ (sight : Event → ℕ) (g : Setting) (v : ℕ) where
   abbrev total_event : (x : Event) (next : ℕ → Part → Phase) → ((seen : ℕ) (before : Part) → Total (next seen before))
       → Total (seeing g v x next)

@@ -1,5 +1,5 @@
 -- Serves Edges.antt.
--- The numbers that pass a test, as a list: they ascend, and each of them is there.
+-- The numbers that pass a test, as a list: they ascend, and each number is in it.
 use Rattle.std.proofs.Common.{◌≡◌, ℕ, zero, suc, ◌+◌, ◌<◌, ◌≤◌, Bool, true, [], ◌∷◌, ◌++◌, length}
 use Rattle.std.proofs.Common.{sym, ◌∙◌, subst, arith, length-append, append-nil, eqb, eq-eqb}
 use mathlib.Core.Logic.{dite}
@@ -50,7 +50,7 @@ among_new_outs g v vertex e at =
     let l = tail_inside g e (subst (λ (n : ℕ). n < g.game.graph.vertices) (sym at) vertex) in
     picked_has (λ i. eqb (edge_at g.game.graph i).tail v) (graph_edges g) e l (eq-eqb _ _ (sym (tail_graph g e l) ∙ at))
 
--- the edges into a vertex are those that a turn goes through
+-- the edges into a vertex are those that a turn visits
 pub into_turn : (g : Setting) (v e : ℕ) → head_of g e ≡ v → Contains (edges_in g.game.graph v ++ root_edge g v ∷ []) e
 into_turn g v e at = dite (dec_lt e (graph_edges g))
     (λ l. Contains-append_left (edges_in g.game.graph v) (root_edge g v ∷ []) e

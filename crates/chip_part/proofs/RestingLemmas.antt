@@ -1,5 +1,5 @@
 -- Serves Turn.antt, Part.antt, Laws.antt.
--- What a whole turn leaves: nothing may be acknowledged. So a vertex that is passive then is neutral, or waits for
+-- After a whole turn nothing may be acknowledged. So a vertex that is passive then is neutral, or waits for
 -- acknowledgements.
 use Rattle.std.proofs.lemmas.Bool.Decides.{nat_tests}
 use Rattle.std.proofs.Common.{◌≡◌, ◌⊎◌, ℕ, ◌+◌, ◌-◌, ◌<◌, Bool, true, not, ◌&&◌, cond, eqb, List, [], ◌∷◌, Option, Some}
@@ -38,7 +38,7 @@ module _ (g : Setting) where
   keeps h s e = is_parent e s.parent
       && not (is_done (owed_on (s.into e)) (owed_by g h s) (deficit_of g h s) (is_passive g h s))
 
-  -- all of what is owed may be acknowledged, or the edge is the parent edge and all but one
+  -- all that is owed may be acknowledged, or the edge is the parent edge and all but one
   all_but_one : (h e : ℕ) (s : Part) → (may_ack_on g h s e ≡ owed_on (s.into e))
       ⊎ ((s.parent ≡ Some e) × (may_ack_on g h s e ≡ owed_on (s.into e) - 1))
   all_but_one h e s = by_test (keeps h s e)

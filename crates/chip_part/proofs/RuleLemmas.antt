@@ -1,4 +1,4 @@
--- Serves Rules.antt. The rules of an event in plain facts: each holds if none is unmet, and the other way round.
+-- Serves Rules.antt. The meaning of an event's rules: each holds if none is unmet, and conversely.
 use Rattle.std.proofs.Common.{◌≡◌, ◌≢◌, ℕ, ◌<◌, ◌≤◌, true, false, not, eqb, Option, Some, None, is_some, refl, sym}
 use Rattle.std.proofs.Common.{arith, ⊎_elim, true≢false}
 use Rattle.std.proofs.lemmas.Bool.Decides.{nat_tests}

@@ -1,6 +1,6 @@
 -- Serves Turn.antt, Rules.antt.
--- How many operations a turn has at most. An edge out of the vertex has either a message to put or something to send,
--- never both, so three operations for it are enough.
+-- The most operations of a turn. An edge out of the vertex has either a message to put or something to send, never
+-- both, so three operations for it are enough.
 use Rattle.std.proofs.lemmas.Bool.Decides.{nat_tests}
 use Rattle.chip_graph.proofs.SumLemmas.{by_test}
 use Rattle.chip_part.specs.Turn.{sending_all, Phase, nothing, either_phase, where_phase, each_phase, one_step, seeing}
@@ -25,7 +25,7 @@ use Rattle.chip_part.proofs.PartLemmas.{out_zero, no_held, tail_inside}
 use Rattle.chip_part.specs.Cursor.{from_putting}
 use Rattle.std.proofs.lemmas.Bool.{cond-true}
 
--- whatever such a phase does, it has at most n operations
+-- such a phase has at most n operations
 abbrev AtMost : ℕ → Phase → Type 0
 AtMost n p = (s : Part) (ds : List Step) (t : Part) → p s ds t → length ds ≤ n
 
@@ -53,7 +53,7 @@ at_most_each p some (e ∷ es) s ds t (front, m, back, is, here, rest) =
     let a = some e s front m here in let b = at_most_each p some es m back t rest in let c = ap length is in
     let d = length-append front back in omega arith
 
--- what each phase keeps, all of them keep
+-- an invariant of each phase is one of all of them
 each_keeps : (R : Part → Part → Type 0) → ((s : Part) → R s s) → ((s m t : Part) → R s m → R m t → R s t) → (p : ℕ → Phase)
     → ((e : ℕ) (s : Part) (ds : List Step) (t : Part) → p e s ds t → R s t) → (es : List ℕ) (s : Part) (ds : List Step)
     (t : Part) → each_phase p es s ds t → R s t
@@ -69,7 +69,7 @@ total_le : (f h : ℕ → ℕ) → ((e : ℕ) → f e ≤ h e) → (es : List �
 total_le f h le [] = omega arith
 total_le f h le (e ∷ es) = let a = le e in let b = total_le f h le es in omega arith
 
--- a phase that has at most as many operations as its edge costs, and makes no edge dearer
+-- a phase with at most its edge's cost in operations, which increases no edge's cost
 abbrev Costs : (Part → ℕ → ℕ) → ℕ → Phase → Type 0
 Costs cost e p = (s : Part) (ds : List Step) (t : Part) → p s ds t → (length ds ≤ cost s e) × ((i : ℕ) → cost t i ≤ cost s i)
 
@@ -106,7 +106,7 @@ module _ (g : Setting) (v : ℕ) where
       (out_zero g v (λ i. length (option_to_list (s.out i).link.held)) idle e (omega arith) at))))
       (λ off. let idle = rw off at ph in subst IsExclusive (sym idle.1) ok)
 
-  -- what a put of an edge costs, and what its sending does
+  -- the cost of an edge's put, and that of its send
   abbrev held_count : Part → ℕ → ℕ
   held_count s e = length (option_to_list (s.out e).link.held)
 
@@ -123,7 +123,7 @@ module _ (g : Setting) (v : ℕ) where
 
   -- ---- the sends
 
-  -- at most n operations, after which no more is to be sent
+  -- at most n operations, after which nothing is left to send
   abbrev Sends : ℕ → Phase → Type 0
   Sends n p = (s : Part) (ds : List Step) (t : Part) → p s ds t → (length ds ≤ n) × ((i : ℕ) → busy_count t i ≤ busy_count s i)
 

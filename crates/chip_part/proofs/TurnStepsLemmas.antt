@@ -1,5 +1,5 @@
 -- Serves Turn.antt, Cursor.antt, Part.antt.
--- Each phase of a turn: what is due in it, and when the next phase is due.
+-- Each phase of a turn: its next operation, and when the next phase is due.
 use Rattle.std.proofs.lemmas.Bool.Decides.{nat_tests}
 use Rattle.std.proofs.Common.{◌≡◌, ◌≢◌, ℕ, ◌+◌, ◌-◌, ◌*◌, ◌/◌, ◌<◌, ◌≤◌, min, Bool, true, false, not, ◌&&◌, cond, eqb}
 use Rattle.std.proofs.Common.{List, [], ◌∷◌, length, get_or, slice_index, Option, Some, None, is_some, option_to_list}
@@ -76,7 +76,7 @@ module _ (g : Setting) (v : ℕ) where
   in_inside vertex e at = dite (dec_lt e (graph_edges g)) (λ l. omega arith) (λ n. let h = head_root g e (omega arith)
       in omega arith)
 
-  -- an edge out of the vertex stands at a place
+  -- an edge out of the vertex is at a place
   out_place : v < g.game.graph.vertices → (e : ℕ) → tail_of g e ≡ v → (k : ℕ) × (k < length (outs_of g v))
       × (out_at g v k ≡ e)
   out_place vertex e at = let c = among_new_outs g v vertex e at in

@@ -1,4 +1,4 @@
--- The operation that an event needs, the event that an operation makes, and which words an operation may have seen.
+-- The operation of an event, the event of an operation, and the words that an operation may have seen.
 use Rattle.std.specs.Prelude.{◌≡◌, ◌≢◌, ℕ, ◌+◌, ◌-◌, ◌%◌, ◌<◌, ◌≤◌, length, sum, Option, Some, None, Result, Ok, Err}
 use Rattle.std.specs.Prelude.{option_to_list, Bool, true, false, nat_le}
 use Rattle.chip_graph.specs.Limits.{max_total}
@@ -15,9 +15,9 @@ use Rattle.chip_part.specs.Rules.{Rule, Event, Take, Ack, Fire, Clear, Claim, Pu
 use Rattle.chip_part.specs.Rules.{unmet_rule}
 use Rattle.chip_part.specs.Steps.{part_of}
 
--- the operation that an event of a vertex needs, if its rules are met. A message with place p stands in cell p % ring,
--- and the one that is claimed and not put has the last place. A seal and a read are no operations of a vertex; those of
--- the root on its edges are of the same kinds
+-- the operation of a vertex's event, if it is enabled. A message with place p is in cell p % ring, and the one claimed
+-- and not put has the last place. A seal and a read are no operations of a vertex; those of the root on its edges are
+-- of the same kinds
 abbrev pub act_of : Setting → Event → Part → Act
 act_of g (Take e) s = Do.Take e (length (s.into e).got % g.ring)
 act_of g (Ack e) s = Do.Ack e (may_ack_on g (head_of g e) s e)
@@ -32,7 +32,7 @@ act_of g (Read v) s = Do.End
 act_of g (Feed e k) s = Do.Claim e (claims_of (s.out e).link) (claims_of (s.out e).link + 1)
 act_of g End s = Do.Settle (root_edge g 0)
 
--- the event that an operation of the vertex v makes. `End` is none: it is given an event that no vertex makes
+-- the event of an operation of the vertex v. `End` has none: it gets an event that no vertex makes
 abbrev pub event_of : ℕ → Act → Event
 event_of v (Do.Take e cell) = Take e
 event_of v (Do.Settle e) = Settle e
@@ -44,13 +44,13 @@ event_of v (Do.Halt by_limit) = Halt v
 event_of v (Do.Ack e count) = Ack e
 event_of v Do.End = Seal 0
 
--- the operation, or the first rule that isn't met
+-- the operation, or the first unmet rule
 abbrev pub verdict : Option Rule → Act → Result Act Rule
 verdict None act = Ok act
 verdict (Some rule) act = Err rule
 
 -- what an operation may have seen: a message keeps the chips and the number of messages within the limits, the edge
--- word is as the tail left it but for a seal, and acknowledgements never outnumber messages
+-- word is as the tail left it except for a seal, and acknowledgements never outnumber messages
 abbrev pub FitsSeen : Part → Event → ℕ → Type 0
 FitsSeen s (Take e) seen = seen ≢ 0 → (s.chips + seen ≤ max_total) × (length (s.into e).got < message_limit)
 FitsSeen s (Claim e) seen = claims_in seen ≡ claims_of (s.out e).link
@@ -61,7 +61,7 @@ FitsSeen s _ seen = Unit {0}
 abbrev pub CanDo : Setting → Part → ℕ → Event → ℕ → Type 0
 CanDo g s v x seen = (part_of g x ≡ v) × (unmet_rule g x s ≡ None) × FitsSeen s x seen
 
--- an operation that `may` gave, with a word that it may have seen
+-- an operation that `may` returned, with a word that it may have seen
 abbrev pub IsOperationDue : Setting → Part → ℕ → Observed → Type 0
 IsOperationDue g s v o = CanDo g s v (event_of v o.act) o.seen × (o.act ≡ act_of g (event_of v o.act) s)
 

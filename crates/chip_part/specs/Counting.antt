@@ -1,4 +1,4 @@
--- Which steps of a turn count as work.
+-- The steps of a turn that count as work.
 use Rattle.std.specs.Prelude.{ℕ, ◌+◌, Bool, true, false, nat_lt, if◌then◌else◌, List, [], ◌∷◌}
 use Rattle.chip_part.specs.Setting.{Setting}
 use Rattle.chip_part.specs.Part.{Part}
@@ -24,8 +24,7 @@ abbrev pub is_more : Reply → Bool
 is_more (Done more) = nat_lt 0 more
 is_more _ = false
 
--- a take of a message, a firing, a claim that was taken, a put, a halt, an acknowledgement, and a settle with something
--- new
+-- a take of a message, a firing, an accepted claim, a put, a halt, an acknowledgement, and a settle with something new
 abbrev pub is_work : Act → Reply → Bool
 is_work (Do.Take e cell) reply = is_got reply
 is_work (Do.Settle e) reply = is_more reply
@@ -37,7 +36,7 @@ is_work (Do.Halt by_limit) reply = true
 is_work (Do.Ack e count) reply = true
 is_work Do.End reply = false
 
--- how many of these steps count, from a part on
+-- the number of these steps that count, from a part on
 abbrev pub work_of : Setting → Part → List Step → ℕ
 work_of g s [] = 0
 work_of g s (x ∷ xs) = (if is_work (act_of g x.event s) (reply_of g x.event x.seen s) then 1 else 0)

@@ -1,4 +1,4 @@
--- Where a turn stands between two of its operations, what is left of it there, and the next operation.
+-- The position of a turn between two of its operations, what is left of it there, and the next operation.
 use Rattle.std.specs.Prelude.{◌≡◌, ◌≢◌, ℕ, ◌+◌, ◌-◌, ◌*◌, ◌<◌, ◌≤◌, false, not, List, [], ◌∷◌, ◌++◌, drop, length}
 use Rattle.std.specs.Prelude.{slice_index, Option, Some, None, is_some}
 pub use Rattle.chip_part.specs.declared.cursor.Cursor.{Cursor}
@@ -21,8 +21,8 @@ module _ (g : Setting) (v : ℕ) where
   abbrev pub out_at : ℕ → ℕ
   out_at place = slice_index (outs_of g v) place
 
-  -- what is left of a turn from a phase on, from the last phase to the first. A phase that goes through edges is left
-  -- from a place on
+  -- what is left of a turn from a phase on, from the last phase to the first. A phase that visits edges is left from a
+  -- place on
   abbrev pub from_acknowledging : ℕ → Phase
   from_acknowledging place = and_then (each_phase (acknowledging g v) (drop place (ins_of g v)))
       (last_acknowledgement g v)
@@ -48,7 +48,7 @@ module _ (g : Setting) (v : ℕ) where
   abbrev pub from_taking : ℕ → Phase
   from_taking place = and_then (each_phase (λ e. one_step g v (Take e)) (drop place (ins_of g v))) (from_settling 0)
 
-  -- an edge whose cell was looked at: it is claimed if the cell was empty
+  -- an edge whose cell was read: it is claimed if the cell was empty
   abbrev pub claiming : ℕ → Phase
   claiming e = where_phase (λ s. (s.out e).link.clear) (seeing g v (Claim e) (after_claim_phase g v e))
 
@@ -76,20 +76,20 @@ module _ (g : Setting) (v : ℕ) where
   abbrev pub HoldsNothing : Part → Type 0
   HoldsNothing s = (e : ℕ) → tail_of g e ≡ v → (s.out e).link.held ≡ None
 
-  -- the vertex goes through the edges to send: it runs, nothing is claimed and not put, and no claim was refused
+  -- the vertex visits the edges to send: it runs, nothing is claimed and not put, and no claim was refused
   pub record IsSending (s : Part) : Type 0 where
     pub running : s.halt ≡ None
     pub held : HoldsNothing s
     pub refused : (e : ℕ) → tail_of g e ≡ v → (s.out e).link.refused ≡ false
 
-  -- the same but for one edge: its claim was either taken or refused
+  -- the same except for one edge: its claim was either accepted or refused
   pub record HasClaimed (edge : ℕ) (s : Part) : Type 0 where
     pub running : s.halt ≡ None
     pub held : (e : ℕ) → tail_of g e ≡ v → edge ≢ e → (s.out e).link.held ≡ None
     pub refused : (e : ℕ) → tail_of g e ≡ v → edge ≢ e → (s.out e).link.refused ≡ false
     pub either : (s.out edge).link.refused ≡ not (is_some (s.out edge).link.held)
 
-  -- a turn may stand at this cursor with this part: what the phases before it left
+  -- a turn may be at this cursor with this part, as the phases before left it
   abbrev pub IsAt : Cursor → Part → Type 0
   IsAt (At.Put place) s = (k : ℕ) → k < place → (s.out (out_at k)).link.held ≡ None
   IsAt At.Refusal s = HoldsNothing s
@@ -99,8 +99,8 @@ module _ (g : Setting) (v : ℕ) where
   IsAt At.Limit s = HoldsNothing s
   IsAt _ s = Unit {0}
 
--- how many operations may be left at a cursor, for a vertex with i edges into it and o out of it. An edge out of it is
--- counted once for a put and three times for what it may send, though no turn does both
+-- the most operations left at a cursor, for a vertex with i edges into it and o out of it. An edge out of it counts
+-- once for a put and three times for a send, though no turn does both
 abbrev pub most_left : ℕ → ℕ → Cursor → ℕ
 most_left i o (At.Take place) = (i - place) + o + 1 + o + 3 * o + 1 + i + 1
 most_left i o (At.Settle place) = (o - place) + 1 + o + 3 * o + 1 + i + 1
@@ -119,16 +119,16 @@ most_left i o At.Over = 0
 abbrev pub fuel : Setting → ℕ → Cursor → ℕ
 fuel g v = most_left (length (ins_of g v)) (length (outs_of g v))
 
--- a turn of v that began from the part `first` stands at this cursor, after these operations with what each saw, with
--- the part s
+-- a turn of v that began from the part `first` is at this cursor, after these operations with what each saw, with the
+-- part s
 pub record IsUnderWay (g : Setting) (v : ℕ) (first : Part) (done : List Step) (cursor : Cursor)
     (s : Part) : Type 0 where
   pub fits : IsAt g v cursor s
   -- with what is left, they are a turn
   pub rest : (ds : List Step) (after : Part) → rest_of_turn g v cursor s ds after → turn g v first (done ++ ds) after
 
--- the operation is the next one of a turn: it is of an event of v whose rules are met, and whatever it sees the turn
--- goes on at the next cursor, with fewer operations left
+-- the operation is the next one of a turn: it is of an enabled event of v, and whatever it sees the turn goes on at the
+-- next cursor, with fewer operations left
 pub record IsNext (g : Setting) (v : ℕ) (first : Part) (done : List Step) (s : Part) (cursor : Cursor) (act : Act)
     (next : Cursor) : Type 0 where
   pub mine : part_of g (event_of v act) ≡ v
@@ -139,8 +139,7 @@ pub record IsNext (g : Setting) (v : ℕ) (first : Part) (done : List Step) (s :
       → IsUnderWay g v first (done ++ saw (event_of v act) seen ∷ []) next
       (does g (saw (event_of v act) seen) s)
 
--- the answer at a cursor of a turn that is under way: nothing more if the operations are a turn, else the next
--- operation of it
+-- the result at a cursor of a turn under way: nothing if the operations are a whole turn, else its next operation
 pub record Continues (g : Setting) (v : ℕ) (s : Part) (cursor : Cursor) (act : Act) (next : Cursor) : Type 0 where
   pub ends : act ≡ Do.End → (first : Part) (done : List Step) → IsUnderWay g v first done cursor s
       → turn g v first done s
@@ -151,7 +150,7 @@ pub record Continues (g : Setting) (v : ℕ) (s : Part) (cursor : Cursor) (act :
 abbrev pub Begins : Cursor → Type 0
 Begins cursor = (g : Setting) (v : ℕ) (s : Part) → IsUnderWay g v s [] cursor s
 
--- ---- for the phases one by one
+-- ---- for each phase
 
 -- an event after which a turn goes on at the next cursor
 pub record GoesBy (g : Setting) (v : ℕ) (s : Part) (cursor : Cursor) (x : Event) (next : Cursor) : Type 0 where

@@ -1,16 +1,16 @@
--- The edges of a running game by their numbers, which are those of its graph and of the root. The stopper is a number
--- beside the vertices and the root. All functions are total.
+-- The edges of a running game by number: those of its graph, then the root's. The root and the stopper are numbers
+-- after the vertices. All functions are total.
 use Rattle.std.specs.Prelude.{ℕ, ◌+◌, ◌*◌, ◌==◌, nat_lt, if◌then◌else◌, slice_index, Option, Some, None}
 use Rattle.chip_graph.specs.Multigraph.{edge_at}
 use Rattle.chip_graph.specs.Edges as edges
 use Rattle.chip_part.specs.Setting.{Setting}
 use Rattle.chip_graph.specs.Sums.{sum_below}
 
--- how many edges the graph has
+-- the number of edges of the graph
 abbrev pub graph_edges : Setting → ℕ
 graph_edges g = edges.own_edges g.game.graph
 
--- how many edges there are with the root's
+-- the number of edges, the root's among them
 abbrev pub all_edges : Setting → ℕ
 all_edges g = edges.edges_and_roots g.game.graph
 
@@ -18,7 +18,7 @@ all_edges g = edges.edges_and_roots g.game.graph
 abbrev pub root : Setting → ℕ
 root g = edges.root_place g.game.graph
 
--- the stopper, who seals edges
+-- the stopper, which seals edges
 abbrev pub stopper : Setting → ℕ
 stopper g = g.game.graph.vertices + 1
 
@@ -26,11 +26,11 @@ stopper g = g.game.graph.vertices + 1
 abbrev pub root_edge : Setting → ℕ → ℕ
 root_edge g v = edges.root_edge_to g.game.graph v
 
--- who sends on e
+-- the tail of e, which sends on it
 abbrev pub tail_of : Setting → ℕ → ℕ
 tail_of g e = edges.edge_tail g.game.graph e
 
--- who gets what is sent on e
+-- the head of e, which receives from it
 abbrev pub head_of : Setting → ℕ → ℕ
 head_of g e = edges.edge_head g.game.graph e
 

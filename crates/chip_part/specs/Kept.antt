@@ -1,4 +1,4 @@
--- What every part keeps by its own events, whatever these see: the ground of all that is proved of the whole core.
+-- The invariants of a part under its own events, whatever these see: all theorems on the whole core depend on them.
 use Rattle.std.specs.Prelude.{◌≡◌, ◌≢◌, ◌⊎◌, ℕ, ◌+◌, ◌*◌, ◌<◌, ◌≤◌, true, false, Some, None, length, sum}
 use Rattle.std.specs.Prelude.{option_to_list}
 use Rattle.chip_graph.specs.Multigraph.{degree}
@@ -11,7 +11,7 @@ use Rattle.chip_part.specs.Part.{is_passive, is_legal, all_fed, first_put}
 use Rattle.chip_part.specs.Rules.{Event, Take, Ack, Fire, Clear, Claim, Put, Halt, Settle, Seal, Read, Feed, End}
 use Rattle.chip_graph.specs.Limits.{max_total}
 
--- the rules of an event in plain facts
+-- the meaning of an event's rules
 abbrev pub Met : Setting → Event → Part → Type 0
 Met g (Take e) s = e < all_edges g
 Met g (Ack e) s = (e < all_edges g) × (0 < owed_on (s.into e)) × (0 < may_ack_on g (head_of g e) s e)
@@ -32,7 +32,7 @@ Met g (Feed e k) s = (graph_edges g ≤ e) × (e < all_edges g) × (s.ended ≡ 
     × (all_fed g s + k ≤ max_total) × ((s.out e).link.clear ≡ true)
 Met g End s = Unit {0}
 
--- a vertex that the detector leaves out
+-- a neutral vertex
 pub record IsNeutral (g : Setting) (v : ℕ) (s : Part) : Type 0 where
   pub no_parent : s.parent ≡ None
   pub passive : is_passive g v s ≡ true
@@ -43,7 +43,7 @@ pub record IsNeutral (g : Setting) (v : ℕ) (s : Part) : Type 0 where
 abbrev pub opening_tail : Setting → ℕ → Tail
 opening_tail g e = record { put = first_put g e; held = None; clear = false; refused = false }
 
--- what a part keeps of an edge out of it. What is said of notes and of what is pending is said of graph edges alone
+-- the invariants of a part on an edge out of it. Those on notes and pending chips are only for graph edges
 pub record KeepsOut (g : Setting) (e : ℕ) (t : Tail) (pending fired : ℕ) : Type 0 where
   -- what was put, what is claimed and what is pending is what the firings made
   pub all_made : e < graph_edges g → (sum t.put + sum (option_to_list t.held)) + pending ≡ chips_of_firings g e fired
@@ -57,10 +57,10 @@ pub record KeepsOut (g : Setting) (e : ℕ) (t : Tail) (pending fired : ℕ) : T
   -- nothing is claimed while something is pending
   pub free_hand : e < graph_edges g → 0 < pending → t.held ≡ None
   pub root_idle : graph_edges g ≤ e → pending ≡ 0
-  -- if no chips are fed, a root edge stays as it opened
+  -- without feeding, a root edge stays as it opened
   pub root_unfed : graph_edges g ≤ e → g.fed ≡ false → t ≡ opening_tail g e
 
--- what the part p keeps
+-- the invariants of the part p
 pub record KeepsPart (g : Setting) (p : ℕ) (s : Part) : Type 0 where
   pub outs : (e : ℕ) → tail_of g e ≡ p → KeepsOut g e (s.out e).link (s.out e).pending s.fired
   -- what it took is what it has and what it fired
@@ -73,6 +73,6 @@ pub record KeepsPart (g : Setting) (p : ℕ) (s : Part) : Type 0 where
   pub at_limit : s.halt ≡ Some FiringLimit → (s.fired ≡ g.game.limit) × (pending_of g p s ≡ 0) × (is_legal g p s ≡ true)
   -- a vertex without a parent is done
   pub neutral : p < g.game.graph.vertices → s.parent ≡ None → IsNeutral g p s
-  -- all that was fed is within the range of chips, and if no chips are fed the end is noted
+  -- all that was fed is within the range of chips, and without feeding the end is noted
   pub fed_within : p ≡ root g → all_fed g s ≤ max_total
   pub unfed_ended : g.fed ≡ false → s.ended ≡ true

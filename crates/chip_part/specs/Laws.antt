@@ -1,4 +1,4 @@
--- What holds of every game, every event and every part, as the contracts of `laws` cite it.
+-- The theorems on every game, every event and every part, as the contracts of `laws` state them.
 use Rattle.std.specs.Prelude.{◌≤◌, List, length, ◌≡◌, ℕ, ◌+◌, ◌<◌, ◌↔◌, ◌⊎◌, true, None}
 use Rattle.chip_graph.specs.Multigraph.{IsGraph, sum_out, sum_in, degree}
 use Rattle.chip_graph.specs.ChipGame.{IsGame}
@@ -15,7 +15,7 @@ use Rattle.chip_part.specs.Counting.{work_of}
 abbrev pub RulesMean : Type 0
 RulesMean = (g : Setting) (x : Event) (s : Part) → (unmet_rule g x s ≡ None) ↔ Met g x s
 
--- every part opens with what is kept, and keeps it by each event that it makes and may make, whatever this sees
+-- every part opens with the invariants, and keeps them by each enabled event that it makes, whatever this sees
 abbrev pub OpeningKeeps : Type 0
 OpeningKeeps = (g : Setting) → IsGame g.game → (p : ℕ) → KeepsPart g p (opening_part g)
 
@@ -30,7 +30,7 @@ SumsAddRootEdges =
     → (over_outs g v f ≡ sum_out g.game.graph v f) × (over_outs g v (mult_of g) ≡ degree g.game.graph v)
     × (over_ins g v f ≡ sum_in g.game.graph v f + f (root_edge g v))
 
--- a turn that begins from a part that is kept has at most `most_steps` operations
+-- a turn that begins from a part with the invariants has at most `most_steps` operations
 abbrev pub TurnIsBounded : Type 0
 TurnIsBounded =
     (g : Setting) (v : ℕ) → v < g.game.graph.vertices → (s : Part) → KeepsPart g v s → (ds : List Step) → IsTurn g v s ds

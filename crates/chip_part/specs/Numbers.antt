@@ -1,4 +1,4 @@
--- The numbers by which outputs tell rules.
+-- The numbers of rules in outputs.
 use Rattle.std.specs.Prelude.{ℕ}
 use Rattle.chip_part.specs.declared.rule.Rule.{Rule}
 use Rattle.chip_part.specs.declared.rule.Rule.TheVariants.{NoSuch, Sink, Halted, Pending, Zero, Limit, NotLegal}

@@ -1,4 +1,4 @@
--- The rules of each event, in their order, asked of the part that makes it. What another part did is asked of no rule.
+-- The rules of each event, in their order, by the part that makes it. No rule depends on what another part did.
 use Rattle.std.specs.Prelude.{ℕ, ◌+◌, ◌*◌, Bool, true, false, not, ◌&&◌, ◌==◌, nat_lt, nat_le, List, [], ◌∷◌, Option}
 use Rattle.std.specs.Prelude.{Some, None, is_some, is_none, if◌then◌else◌}
 pub use Rattle.chip_link.specs.declared.event.Event.{Event}
@@ -14,12 +14,12 @@ use Rattle.chip_part.specs.Setting.{Setting}
 use Rattle.chip_part.specs.Edges.{graph_edges, all_edges, head_of, root}
 use Rattle.chip_part.specs.Part.{Part, is_running, owed_on, may_ack_on, pending_of, unput_count, cause, deficit_of, all_fed}
 
--- the rule is met, and so on with the rest; else it is the answer
+-- the rule is met, and so on with the rest; else it is the result
 abbrev pub need : Bool → Rule → Option Rule → Option Rule
 need true rule rest = rest
 need false rule rest = Some rule
 
--- of a look at the next cell of e by a vertex, and by the root
+-- the rules of a look at the next cell of e by a vertex, and by the root
 abbrev pub unmet_by_vertex : ℕ → Part → Option Rule
 unmet_by_vertex e s =
     need (is_running s.halt) Halted

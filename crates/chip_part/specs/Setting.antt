@@ -1,4 +1,5 @@
--- How a game is set up: the game, how many cells the ring of each edge has, and whether chips are fed while it runs.
+-- The setting of a game: the game, the number of cells in the ring of each edge, and whether chips are fed while it
+-- runs.
 use Rattle.std.specs.Prelude.{ℕ, ◌<◌, ◌≤◌, Bool, false}
 use Rattle.chip_graph.specs.ChipGame.{ChipGame, IsGame}
 use Rattle.chip_link.specs.Rings.{max_ring}
@@ -17,7 +18,7 @@ setting_with game ring fed = record { game = game; ring = ring; fed = fed }
 abbrev pub setting_of : ChipGame → ℕ → Setting
 setting_of game ring = setting_with game ring false
 
--- its game is one within the limits, and a ring has 1 to `max_ring` cells
+-- its game is within the limits, and a ring has 1 to `max_ring` cells
 pub record IsSetting (g : Setting) : Type 0 where
   pub game : IsGame g.game
   pub some_ring : 0 < g.ring

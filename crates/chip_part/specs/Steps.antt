@@ -1,5 +1,5 @@
--- What an event does to the part that makes it, field by field, and the reply. `seen` is the word that the event's
--- operation found, 0 of a store; it is all that an event learns of other parts.
+-- The effect of an event on the part that makes it, field by field, and the reply. `seen` is the word that the event's
+-- operation found, 0 for a store; it is all that an event learns of other parts.
 use Rattle.std.specs.Prelude.{ℕ, Bool, true, ◌+◌, ◌-◌, ◌*◌, ◌&&◌, ◌==◌, if◌then◌else◌, List, [], ◌∷◌, sum, length}
 use Rattle.std.specs.Prelude.{Option, Some, None, option_to_list}
 use Rattle.chip_link.specs.declared.message.Message.{Message}
@@ -20,7 +20,7 @@ use Rattle.chip_part.specs.Rules.{unmet_rule}
 abbrev pub saw : Event → ℕ → Step
 saw event seen = record { event = event; seen = seen }
 
--- who makes an event
+-- the part that makes an event
 abbrev pub part_of : Setting → Event → ℕ
 part_of g (Take e) = head_of g e
 part_of g (Ack e) = head_of g e
@@ -35,7 +35,7 @@ part_of g (Read v) = root g
 part_of g (Feed e k) = tail_of g e
 part_of g End = root g
 
--- chips come by a take, and go by a firing
+-- a take adds chips, and a firing removes them
 abbrev pub chips_after : Setting → Event → ℕ → ℕ → ℕ
 chips_after g (Take e) seen chips = chips + seen
 chips_after g (Fire v k) seen chips = chips - k * degree g.game.graph v
@@ -67,7 +67,7 @@ link_after (Put e) seen i o = if e == i then after_put o.link else o.link
 link_after (Feed e k) seen i o = if e == i then after_claim k seen o.link else o.link
 link_after _ seen i o = o.link
 
--- a firing leaves something to send on each edge out of its vertex; a claim that is taken sends all of it
+-- a firing leaves something to send on each edge out of its vertex; an accepted claim sends all of it
 abbrev pub pending_after : Setting → Event → ℕ → ℕ → Out → ℕ
 pending_after g (Fire v k) seen i o = if tail_of g i == v then k * mult_of g i else o.pending
 pending_after g (Claim e) seen i o = if e == i then (if seen == claims_of o.link then 0 else o.pending) else o.pending
@@ -84,7 +84,7 @@ abbrev pub got_after : Event → ℕ → ℕ → Into → List ℕ
 got_after (Take e) seen i x = if e == i then after_take seen x.got else x.got
 got_after _ seen i x = x.got
 
--- an acknowledgement is of all that may be acknowledged
+-- an acknowledgement is for all messages that may be acknowledged
 abbrev pub acked_after : Setting → Event → Part → ℕ → Into → ℕ
 acked_after g (Ack e) s i x = if e == i then x.acked + may_ack_on g (head_of g e) s e else x.acked
 acked_after g _ s i x = x.acked
@@ -120,7 +120,7 @@ does g x s = record {
 abbrev pub message_of : ℕ → ℕ → ℕ → Message
 message_of edge place count = record { edge = edge; place = place; count = count }
 
--- the reply to an event whose rules are met, by the part as it was and what was seen
+-- the reply to an enabled event, by the part before it and what was seen
 abbrev pub reply_of : Setting → Event → ℕ → Part → Reply
 reply_of g (Take e) seen s = if seen == 0 then Empty else Got (message_of e (length (s.into e).got) seen)
 reply_of g (Ack e) seen s = Done (may_ack_on g (head_of g e) s e)
@@ -137,7 +137,7 @@ reply_of g (Feed e k) seen s = if seen == claims_of (s.out e).link
     then Sent (message_of e (claims_of (s.out e).link) k) else Sealed
 reply_of g End seen s = Done (seen - (s.out (root_edge g 0)).settled)
 
--- a part and the reply after an event that is asked for: if a rule isn't met nothing is done
+-- a part and the reply after a request for an event: if a rule isn't met nothing is done
 abbrev pub part_and_reply : Setting → Step → Part → Option Rule → Part × Reply
 part_and_reply g x s (Some rule) = (s, NotNow rule)
 part_and_reply g x s None = (does g x s, reply_of g x.event x.seen s)

@@ -1,6 +1,6 @@
--- One turn of a vertex: which operations it makes, in which order, and what follows from what each of them saw. A turn
--- is a list of phases that come one after another. If a schedule left the vertex in the middle of a turn, the same
--- phases go on from there: what was claimed is put, a refusal that is noted is followed by the halt.
+-- One turn of a vertex: its operations, their order, and what follows from what each of them saw. A turn is a list of
+-- phases in order. If a schedule left the vertex in the middle of a turn, the same phases go on from there: what was
+-- claimed is put, a noted refusal is followed by the halt.
 use Rattle.std.specs.Prelude.{◌≡◌, ℕ, ◌+◌, ◌*◌, ◌-◌, ◌/◌, Bool, true, false, not, ◌&&◌, ◌==◌, nat_lt, min, List, []}
 use Rattle.std.specs.Prelude.{◌∷◌, ◌++◌, length, Option, Some, None, is_some}
 use Rattle.chip_graph.specs.Multigraph.{edges_out, edges_in, degree}
@@ -47,7 +47,7 @@ abbrev pub outs_of : Setting → ℕ → List ℕ
 outs_of g v = edges_out g.game.graph v
 
 module _ (g : Setting) (v : ℕ) where
-  -- one operation, of which the next phase may depend on what it saw
+  -- one operation; the next phase may depend on what it saw
   abbrev pub seeing : Event → (ℕ → Part → Phase) → Phase
   seeing x next s ds after = (seen : ℕ) × (rest : List Step) × (ds ≡ saw x seen ∷ rest)
       × next seen s (does g (saw x seen) s) rest after
@@ -86,14 +86,14 @@ module _ (g : Setting) (v : ℕ) where
   abbrev pub putting : ℕ → Phase
   putting e = where_phase (λ s. is_some (s.out e).link.held) (one_step (Put e))
 
-  -- a refusal that was noted before is followed by the halt, else the edges are gone through
+  -- a refusal noted before is followed by the halt, else each edge is visited
   abbrev pub sending_all : Phase
   sending_all s ds after =
       either_phase (is_running s.halt)
       (either_phase (refusals g v s == 0) (each_phase sending (outs_of g v)) (one_step (Halt v)))
       nothing s ds after
 
-  -- it halts by the limit: not the sink, not halted, nothing pending, legal, and fired as often as the game allows
+  -- it halts by the limit: not the sink, not halted, nothing pending, legal, and it fired as often as the game allows
   abbrev pub is_at_limit : Part → Bool
   is_at_limit s = is_running s.halt && pending_of g v s == 0 && is_legal g v s && s.fired == g.game.limit
 
@@ -120,7 +120,7 @@ module _ (g : Setting) (v : ℕ) where
       (and_then (each_phase acknowledging (ins_of g v))
       last_acknowledgement))))))
 
--- no turn of the vertex v has more operations: two for each edge into it, four for each edge out of it, and three more
+-- a turn of the vertex v has at most two operations for each edge into it, four for each edge out of it, and three more
 abbrev pub most_steps : Setting → ℕ → ℕ
 most_steps g v = 2 * length (ins_of g v) + 4 * length (outs_of g v) + 3
 

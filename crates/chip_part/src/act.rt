@@ -2,8 +2,7 @@ ghost use Rattle.std.specs.Prelude.{◌≡◌};
 
 use crate::reply::Reply;
 
-/// One atomic operation on one word of the machine, as a vertex makes it. A `cell` is a place within the edge's ring,
-/// from 0.
+/// One atomic operation of a vertex on one word of the machine. A `cell` is a place in the edge's ring, from 0.
 #[derive(Clone, Copy)]
 pub enum Act {
     /// Swap the cell with 0.
@@ -14,7 +13,7 @@ pub enum Act {
     Fire { k: u64 },
     /// Load the cell.
     Clear { edge: u64, cell: u64 },
-    /// Exchange the edge word for `new` if it is `expected`, by one try.
+    /// Exchange the edge word for `new` if it is `expected`, in one try.
     Claim { edge: u64, expected: u64, new: u64 },
     /// Store `value` into the cell.
     Put { edge: u64, cell: u64, value: u64 },
@@ -26,7 +25,7 @@ pub enum Act {
     End,
 }
 
-/// An operation that was made, with the word that it saw before it.
+/// An operation that was made, with the word that it found.
 #[derive(Clone, Copy)]
 pub struct Observed {
     pub act: Act,

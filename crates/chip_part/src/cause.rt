@@ -1,10 +1,10 @@
 ghost use Rattle.std.specs.Prelude.{◌≡◌};
 ghost use Rattle.chip_part.specs.Part.{is_by_limit};
 
-/// Why a vertex halted. There is no third reason.
+/// Why a vertex halted. There is no third cause.
 #[derive(Clone, Copy, PartialEq, Eq)]
 pub enum Cause {
-    /// A claim of it was refused by a seal.
+    /// A seal refused a claim of it.
     SealedEdge,
     /// It was legal, had sent everything, and had fired as often as the game allows.
     FiringLimit,

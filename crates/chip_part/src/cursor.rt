@@ -1,6 +1,6 @@
 ghost use Rattle.std.specs.Prelude.{◌≡◌};
 
-/// Where a turn stands: what it does next. A place is one in the list of the edges that are gone through, from 0.
+/// A position in a turn: the next step. A place is an index in the list of the edges that it visits, from 0.
 #[derive(Clone, Copy)]
 pub enum Cursor {
     /// Take from the edges into the vertex, from this place on.
@@ -32,7 +32,7 @@ pub enum Cursor {
 impl Cursor {
     ghost use Rattle.chip_part.specs.Cursor.{Begins};
 
-    /// The beginning of a turn.
+    /// The start of a turn.
     pub fn start() -> Cursor
         ensures first { result ≡ Cursor.Take 0 }
         ensures begins { Begins result }

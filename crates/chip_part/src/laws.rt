@@ -1,4 +1,4 @@
-//! What holds of every part and every event, as the contracts of functions that do nothing.
+//! Theorems on every part and every event, as the contracts of functions that do nothing.
 
 ghost use Rattle.chip_part.specs.Worked.{SentWithFullRing, SealedHalfWay, SinkAcknowledgesLast, FirstTurn};
 ghost use Rattle.chip_part.specs.Worked.{TurnBegunInTheMiddle};
@@ -13,14 +13,14 @@ pub fn worked_parts()
     ensures engaging_message_last { SinkAcknowledgesLast }
 {}
 
-/// The rules of an event in plain facts, and what a part keeps by every event that it may make.
+/// The meaning of an event's rules, and the invariants of a part under every event that it may make.
 pub fn parts()
     ensures rules { RulesMean }
     ensures opening { OpeningKeeps }
     ensures events { EventsKeep }
 {}
 
-/// The edges with the root's among them.
+/// The edges, with the root's among them.
 pub fn edges()
     ensures sums { SumsAddRootEdges }
 {}
@@ -31,13 +31,13 @@ pub fn worked_turns()
     ensures in_the_middle { TurnBegunInTheMiddle }
 {}
 
-/// How long a turn is at most, wherever it begins, and how long it is while it is under way.
+/// Bounds on the length of a turn, wherever it begins, and on the rest of a turn under way.
 pub fn turns()
     ensures bounded { TurnIsBounded }
     ensures under_way { UnderWayIsBounded }
 {}
 
-/// What a vertex is left with by a turn in which there was nothing to do.
+/// The state of a vertex after an idle turn.
 pub fn idle_turns()
     ensures { IdleTurnRests }
 {}

@@ -1,10 +1,10 @@
 use crate::rule::Rule;
 use chip_link::Message;
 
-/// The answer to an event. The last four leave chips, messages and words as they were; `Sealed` is noted by the tail.
+/// The reply to an event. The last four change no chips, messages or words; the tail notes `Sealed`.
 #[derive(Clone, Copy, PartialEq, Eq)]
 pub enum Reply {
-    /// It was done, with the number that the event tells.
+    /// The event was made; its number, by the kind of event.
     Done(u64),
     /// This message was taken.
     Got(Message),
@@ -16,6 +16,6 @@ pub enum Reply {
     Full,
     /// The edge was sealed.
     Sealed,
-    /// This rule of the event isn't met, and it is the first such rule.
+    /// This rule of the event isn't met, the first such rule.
     NotNow(Rule),
 }

@@ -1,8 +1,7 @@
 ghost use Rattle.std.specs.Prelude.{◌≡◌};
 ghost use Rattle.chip_part.specs.Rules.{first_unmet};
 
-/// Why an event may not be made: the rule that isn't met, said by what is so instead. `number` gives the numbers that
-/// stand here.
+/// Why an event may not be made: the unmet rule, named by what holds instead. `number` returns these numbers.
 #[derive(Clone, Copy, PartialEq, Eq)]
 pub enum Rule {
     /// There is no such vertex or edge.
@@ -13,7 +12,7 @@ pub enum Rule {
     Halted = 3,
     /// Something is pending on an edge out of the vertex, or claimed and not put.
     Pending = 4,
-    /// It is to fire no time at all.
+    /// The number of firings is 0.
     Zero = 5,
     /// It would fire more often than the game allows.
     Limit = 6,
@@ -46,7 +45,7 @@ pub enum Rule {
 impl Rule {
     ghost use Rattle.chip_part.specs.Numbers.{rule_number};
 
-    /// The rule's number, 1 to 18, as outputs tell it.
+    /// The rule's number in outputs, 1 to 18.
     pub fn number(self) -> u8
         ensures { result ≡ rule_number self }
     {
@@ -54,7 +53,7 @@ impl Rule {
     }
 }
 
-/// The first of some rules, each with whether it is met, that isn't.
+/// The first unmet one of some rules, each with whether it is met.
 pub fn first_unmet(rules: &[(bool, Rule)]) -> Option<Rule>
     ensures { result ≡ first_unmet rules.now }
 {

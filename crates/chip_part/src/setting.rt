@@ -1,4 +1,4 @@
-//! How a game is set up.
+//! The setting of a game.
 
 ghost use Rattle.std.specs.Prelude.{◌≡◌, ◌+◌, ◌<◌, ◌≤◌, IfOk};
 
@@ -7,14 +7,14 @@ use chip_link::{MAX_RING, Ring};
 use std::alloc::{AllocError, Global};
 use std::marker::Model;
 
-/// How a game is set up: what is played, how many cells the ring of each edge has, and whether chips are fed while the
-/// vertices fire.
+/// The setting of a game: what is played, the number of cells in the ring of each edge, and whether chips are fed while
+/// the vertices fire.
 #[derive(Drop)]
 pub struct Setting {
     game: Game,
     ring: Ring,
     fed: bool,
-    // How many edges there are, the root's among them: each operation on a shared word needs it.
+    // The number of edges, the root's among them: each operation on a shared word needs it.
     edges: u64,
 }
 
@@ -35,7 +35,7 @@ impl Setting {
     ghost use Rattle.chip_part.specs.Setting.{setting_with, IsSetting};
     ghost use Rattle.chip_part.specs.Edges.{all_edges, graph_edges, root_edge, head_if, tail_if};
 
-    /// This game with such rings, fed or not.
+    /// The setting of this game with such rings, fed or not.
     pub fn new(game: Game, ring: Ring, fed: bool) -> Setting
         ensures { result ≡ setting_with game ring fed }
     {
@@ -49,7 +49,7 @@ impl Setting {
         }
     }
 
-    /// The same of a copy of the game.
+    /// The setting of a copy of the game. Fails only without memory.
     pub fn of_copy(alloc: Global, game: &Game, ring: Ring, fed: bool) -> Result<Setting, AllocError>
         ensures { IfOk result (λ setting. setting ≡ setting_with game.now ring fed) }
     {
@@ -79,7 +79,7 @@ impl Setting {
         self.fed
     }
 
-    /// How many vertices there are, 1 to 2^21.
+    /// The number of vertices, 1 to 2^21.
     pub fn vertices(&self) -> u64
         ensures value { result ≡ self.now.game.graph.vertices }
         ensures few { result ≤ max_vertices }
@@ -87,7 +87,7 @@ impl Setting {
         self.game.graph().vertices()
     }
 
-    /// How many edges the graph has, up to 2^23.
+    /// The number of edges of the graph, up to 2^23.
     pub fn graph_edges(&self) -> u64
         ensures value { result ≡ graph_edges self.now }
         ensures few { result ≤ max_edges }
@@ -95,7 +95,7 @@ impl Setting {
         self.game.graph().edges().len() as u64
     }
 
-    /// How many edges there are, the root's among them.
+    /// The number of edges, the root's among them.
     pub fn all_edges(&self) -> u64
         ensures value { result ≡ all_edges self.now }
         ensures few { result ≤ max_edges + max_vertices }

@@ -1,5 +1,5 @@
 -- Serves Counted.antt.
--- Positions by counts: what flows in along a list of edges, that it fits 128 bits, and that no chip is lost.
+-- Configurations by counts: what flows in along a list of edges, that it fits 128 bits, and that no chip is lost.
 use Rattle.chip_sequence.proofs.Names.{◌≡◌, ℕ, ◌+◌, ◌*◌, ◌^◌, ◌<◌, ◌≤◌, eqb, List, length, take, sum, sum_by, get_or}
 use Rattle.chip_sequence.proofs.Names.{slice_index, sym, ap, ◌∙◌, arith, mul-le-mul, sum_by_more_le, max_total}
 use Rattle.chip_sequence.proofs.Names.{sum_below, Multigraph, IsGraph, edge_at, edges_in, ChipGame, IsGame, picked_sum}
@@ -51,7 +51,7 @@ module _ (g : ChipGame) (ok : IsGame g) (fired : List ℕ) (each : length fired 
   abbrev pub chips_then : ℕ → ℕ
   chips_then = position_by_counts g.graph (slice_index g.start) (slice_index fired)
 
-  -- in all there are as many as at the start
+  -- the total is that of the start
   then_total : sum_below g.graph.vertices chips_then ≡ sum g.start
   then_total =
       led_total g.graph ok.graph_fits (slice_index g.start) (slice_index fired) chips_then

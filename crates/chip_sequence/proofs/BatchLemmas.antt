@@ -77,7 +77,7 @@ module _ (G : Multigraph) (good : IsGraph G) (v : ℕ) where
 
   module _ (k : ℕ) (old : List ℕ) (is_vertex : v < G.vertices) (each : length old ≡ G.vertices)
       (can : k * degree G v ≤ get_or old v 0) where
-    -- the position once the chips are taken
+    -- the configuration after the chips are taken
     abbrev pub taken : List ℕ
     taken = set old v (get_or old v 0 - k * degree G v)
 
@@ -91,7 +91,7 @@ module _ (G : Multigraph) (good : IsGraph G) (v : ℕ) where
     pub taken_room : sum taken + k * sum_by (λ (e : Link). e.mult) links_of ≡ sum old
     taken_room = ap (λ (n : ℕ). sum taken + k * n) links_degree ∙ taken_sum
 
-    -- taken and given, the position is that after k firings
+    -- taken and given, the configuration is that after k firings
     pub batch_fired : v ≢ G.sink → (now : List ℕ)
         → ((u : ℕ) → get_or now u 0 ≡ get_or taken u 0 + k * sum_by (brought u) links_of) → (u : ℕ)
         → get_or now u 0 ≡ position_after G (λ w. get_or old w 0) (replicate k v) u
@@ -102,6 +102,6 @@ module _ (G : Multigraph) (good : IsGraph G) (v : ℕ) where
 
 -- ---- quotients
 
--- a number above the quotient asks for more than there is
+-- a number above the quotient requires more than there is
 pub above_quotient : (x d k : ℕ) → 0 < d → x / d < k → x < k * d
 above_quotient x d k some above = omega (arith, mul-le-mul_left d above)

@@ -30,7 +30,7 @@ bound_more total most (suc i) (suc j) l =
 module _ (G : Multigraph) (good : IsGraph G) where
   -- ---- no chip is lost
 
-  -- along all edges there flows as much in as out: what flows into the vertices is what their firings take away
+  -- over all edges inflow and outflow are equal: what flows into the vertices is what their firings take away
   pub flows_through : (f : ℕ → ℕ) → sum_below G.vertices (inflow G f) ≡ sum_below G.vertices (λ u. degree G u * f u)
   flows_through f =
       let flow : ℕ → ℕ = λ e. (edge_at G e).mult * f (edge_at G e).tail in
@@ -43,7 +43,7 @@ module _ (G : Multigraph) (good : IsGraph G) where
       (λ e m on. ap (λ (w : ℕ). (edge_at G e).mult * f w) (eqb-true (edge_at G e).tail u on))
       ∙ tested_scale (length G.edges) (λ e. eqb (edge_at G e).tail u) (f u) (λ e. (edge_at G e).mult))
 
-  -- counts lead to a position with as many chips
+  -- counts lead to a configuration with the same number of chips
   pub led_total : (x f y : ℕ → ℕ) → ((u : ℕ) → u < G.vertices → y u + degree G u * f u ≡ x u + inflow G f u)
       → sum_below G.vertices y ≡ sum_below G.vertices x
   led_total x f y to =
@@ -58,8 +58,8 @@ module _ (G : Multigraph) (good : IsGraph G) where
 
   -- ---- the bound
 
-  -- a vertex with a walk to the sink fires at most as often as the bound of its length says: each of its firings sends
-  -- a chip to the walk's next vertex, which holds at most all chips and sends on what it gets
+  -- a vertex with a walk to the sink fires at most as often as the bound of its length: each of its firings sends a
+  -- chip to the walk's next vertex, which has at most all chips and sends on what it gets
   pub bound_of_walk : (x : ℕ → ℕ) (vs : List ℕ) → IsFiringSequence G x vs → (es : List ℕ) (v : ℕ) → IsWalk G v es G.sink
       → counts vs v ≤ firing_bound (sum_below G.vertices x) (greatest_degree G) (length es)
   bound_of_walk x vs ok [] v is = rw is (omega (arith, sink_never G vs x ok))
@@ -96,7 +96,7 @@ module _ (G : Multigraph) (good : IsGraph G) where
         omega (arith, bound_of_walk x vs ok way.0 v way.1))
         (λ nl. omega (arith, counts_outside G vs x v ok (omega arith)))
 
-    -- who is legal has fired less often
+    -- a legal vertex has fired less often
     pub legal_below_top : (vs : List ℕ) → IsFiringSequence G x vs → (v : ℕ) → IsLegal G (position_after G x vs) v
         → counts vs v < top
     legal_below_top vs ok v can =
@@ -107,7 +107,7 @@ module _ (G : Multigraph) (good : IsGraph G) where
     enough_law limit low vs play v can =
         absurd (omega (arith, legal_below_top vs play.sequence v can, play.ended v can))
 
-  -- some number of edges that no vertex is further away than
+  -- some number of edges that is at least every vertex's distance
   some_distance : (n : ℕ) → n ≤ G.vertices → (distance : ℕ)
       × ((v : ℕ) → v < n → (es : List ℕ) × IsWalk G v es G.sink × (length es ≤ distance))
   some_distance zero l = (0, λ v m. absurd (omega arith))
@@ -154,7 +154,7 @@ pub record IsGreatestBelow (G : Multigraph) (n distance : ℕ) : Type 0 where
   pub reached : (v : ℕ) × (v < G.vertices) × IsDistance G v distance
   pub greatest : (v : ℕ) → v < n → (es : List ℕ) × IsWalk G v es G.sink × (length es ≤ distance)
 
--- the sink is at no distance
+-- the distance of the sink is 0
 pub greatest_none : (G : Multigraph) → G.sink < G.vertices → IsGreatestBelow G 0 0
 greatest_none G inside = record {
   reached = (G.sink, inside, record { reached = ([], refl, refl); shortest = λ es way. omega arith });

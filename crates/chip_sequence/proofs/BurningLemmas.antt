@@ -1,5 +1,5 @@
 -- Serves Certificate.antt, Sequence.antt, Firing.antt.
--- Counts that are forced because they burn; and what a sequence fires burns in the order of the last firings.
+-- Counts that are forced because they burn; the counts of a sequence burn in the order of the last firings.
 use Rattle.chip_sequence.proofs.Names.{◌≡◌, ℕ, zero, suc, ◌+◌, ◌-◌, ◌*◌, ◌^◌, ◌<◌, ◌≤◌, Bool, true, cond, eqb, leb}
 use Rattle.chip_sequence.proofs.Names.{length, take, sum_by, get_or, sym, ap, arith, mul-le-mul_left, mul-le-mul_right}
 use Rattle.chip_sequence.proofs.Names.{◌≢◌, List, [], ◌∷◌, refl, sum_by_more_le, dite, ℕ_discrete, dec_lt, dec_le}
@@ -15,9 +15,9 @@ use Rattle.chip_sequence.proofs.CertificateLemmas.{inflow_add}
 use Rattle.std.proofs.lemmas.Bool.{cond-true}
 use Rattle.chip_graph.proofs.SumLemmas.{by_test}
 
--- ---- the vertex that has most, and among these the one that burns first
+-- ---- the vertex with the greatest number, and among these the one that burns first
 
--- below n, none has more than v, and none that has as much has a smaller rank
+-- below n, none has more than v, and none with the same number has a smaller rank
 record IsFirst (w rank : ℕ → ℕ) (n v : ℕ) : Type 0 where
   is_below : v < n
   most : (u : ℕ) → u < n → w u ≤ w v
@@ -60,7 +60,7 @@ some_first w rank (suc n) =
 
 -- ---- at one vertex
 
--- an edge brings so much less than the most that it brings nothing on top, unless its tail is late
+-- an edge brings at most `mult * most`, less its multiplicity unless its tail is late
 edge_brings : (mult most tail : ℕ) (r s : ℕ) → tail ≤ most → (tail ≡ most → r ≤ s)
     → mult * tail + mult ≤ mult * most + cond (leb r s) mult 0
 edge_brings mult most tail r s low late = dite (dec_le r s)
@@ -69,7 +69,7 @@ edge_brings mult most tail r s low late = dite (dec_le r s)
 
 module _ (G : Multigraph) (good : IsGraph G) (x : ℕ → ℕ) (limit : ℕ) (f g rank : ℕ → ℕ) (forced : AreForced G x limit f)
     (burnt : AreBurnt G x limit f g rank) where
-  -- what flows into the first of those that miss most
+  -- what flows into the first of those that lack most
   first_flows : (w : ℕ → ℕ) (n v : ℕ) → G.vertices ≤ n → IsFirst w rank n v
       → inflow G w v + in_degree G v ≤ in_degree G v * w v + late_in_degree G rank v
   first_flows w n v all is =
@@ -121,7 +121,7 @@ module _ (G : Multigraph) (good : IsGraph G) (v : ℕ) where
   pub in_sum : (h : ℕ → ℕ) → sum_by h (edges_in G v) ≡ sum_in G v h
   in_sum h = picked_sum h (λ e. eqb (edge_at G e).head v) (length G.edges)
 
-  -- what has come so far and the next edge's part fit 64 bits
+  -- the sum so far and the next edge's part fit 64 bits
   pub in_fits : (h : ℕ → ℕ) → ((e : ℕ) → h e ≤ (edge_at G e).mult) → (n i : ℕ) → n ≡ sum_by h (take i (edges_in G v))
       → i < length (edges_in G v) → n + h (get_or (edges_in G v) i 0) < 2 ^ 64
   in_fits h small n i is l =
@@ -140,18 +140,18 @@ if_late_small b mult = grind arith
 
 -- ---- the place of the last firing
 
--- the place in a list at which a vertex stands last, from 1 on; 0 where it does not
+-- the place of the last occurrence of a vertex in a list, from 1 on; 0 if it does not occur
 last_of : List ℕ → ℕ → ℕ
 last_of [] u = 0
 last_of (v ∷ vs) u = cond (ltb 0 (last_of vs u)) (last_of vs u + 1) (cond (eqb v u) 1 0)
 
--- who fires has a place
+-- a vertex that fires has a place
 last_some : (vs : List ℕ) (u : ℕ) → 0 < counts vs u → 0 < last_of vs u
 unfolding last_of
 last_some [] u some = absurd (omega arith)
 last_some (v ∷ vs) u some = let rest = last_some vs u in grind (arith, nat_tests)
 
--- who has a place fires
+-- a vertex with a place fires
 last_fires : (vs : List ℕ) (u : ℕ) → 0 < last_of vs u → 0 < counts vs u
 unfolding last_of
 last_fires [] u some = absurd (omega arith)

@@ -1,5 +1,5 @@
 -- Serves Certificate.antt, Sequence.antt, Firing.antt.
--- Counts that are forced by a certificate, on the way, or because a sequence could be played last.
+-- Counts that are forced by a certificate, on the way, or by a sequence that could be played last.
 use Rattle.chip_sequence.proofs.Names.{◌≡◌, ℕ, zero, suc, ◌+◌, ◌-◌, ◌*◌, ◌<◌, ◌≤◌, eqb, List, [], ◌∷◌, length}
 use Rattle.chip_sequence.proofs.Names.{slice_index, refl, ap, ◌∙◌, arith, eq-eqb, mul-le-mul_right, cond, Bool}
 use Rattle.chip_sequence.proofs.Names.{mul-le-mul_left, rules, dite, ℕ_discrete, dec_lt, sum_below, Multigraph, edge_at}
@@ -27,12 +27,12 @@ sum_below_tight (suc n) f h p s e l =
     dite (ℕ_discrete e n) (λ same. rw same (omega arith))
     (λ other. sum_below_tight n f h (λ i m. p i (omega arith)) (omega arith) e (omega arith))
 
--- what is 0 in one factor brings nothing
+-- a product with a factor 0 brings nothing
 nothing_times : (d w : ℕ) → w ≡ 0 → d * w ≡ 0
 nothing_times d w e = ap (λ (n : ℕ). d * n) e ∙ mul-zero d
 
 module _ (G : Multigraph) where
-  -- what flows in by two counts together
+  -- the inflow by two counts together
   pub inflow_add : (f h : ℕ → ℕ) (u : ℕ) → inflow G (λ z. f z + h z) u ≡ inflow G f u + inflow G h u
   inflow_add f h u =
       let into : ℕ → Bool = λ e. eqb (edge_at G e).head u in
@@ -42,7 +42,7 @@ module _ (G : Multigraph) where
   -- ---- a certificate
 
   module _ (good : IsGraph G) where
-    -- counts by which no vertex takes more away than flows in
+    -- counts by which no vertex sends more than it gets
     module _ (w : ℕ → ℕ) (gains : (v : ℕ) → v < G.vertices → degree G v * w v ≤ inflow G w v) where
       -- no vertex gains by them
       balanced : (v : ℕ) → v < G.vertices → inflow G w v ≤ degree G v * w v
@@ -101,11 +101,11 @@ module _ (G : Multigraph) where
   -- ---- on the way
 
   module _ (x : ℕ → ℕ) (limit : ℕ) where
-    -- who is on the way has been led there
+    -- counts on the way lead to their configuration
     pub led : (y f : ℕ → ℕ) → IsOnTheWay G x limit y f → IsLedTo G x f y
     led y f is u = let a = is.none_below u in let b = is.position u in omega arith
 
-    -- who has been led there by forced counts is on the way
+    -- forced counts that lead to a configuration are on the way
     pub on_the_way : (y f : ℕ → ℕ) → IsLedTo G x f y → AreForced G x limit f → IsOnTheWay G x limit y f
     on_the_way y f to forced = record {
       none_below = λ u low. absurd (omega (arith, to u));
@@ -113,13 +113,13 @@ module _ (G : Multigraph) where
       forced = forced;
     }
 
-    -- who is on the way is so with equal chips and counts
+    -- counts on the way stay so with equal chips and counts
     pub same_way : (y f y' f' : ℕ → ℕ) → IsOnTheWay G x limit y f → ((u : ℕ) → y' u ≡ y u) → ((u : ℕ) → f' u ≡ f u)
         → IsOnTheWay G x limit y' f'
     same_way y f y' f' is same same' =
         let here : y' ≡ y = (λ i u. same u i) in let here' : f' ≡ f = (λ i u. same' u i) in rw (here, here') is
 
-    -- nothing is forced
+    -- counts of 0 are forced
     pub none_forced : AreForced G x limit (λ v. 0)
     none_forced vs ok ended u = omega arith
 
@@ -153,7 +153,7 @@ module _ (G : Multigraph) where
 
 -- ---- the check of a certificate
 
--- nothing flows in where no vertex is
+-- nothing flows into numbers that are no vertices
 pub inflow_outside : (G : Multigraph) → IsGraph G → (f : ℕ → ℕ) (u : ℕ) → G.vertices ≤ u → inflow G f u ≡ 0
 inflow_outside G good f u past = sum_below_none (length G.edges) _
     (λ e l. let inside = (good.edges_fit e l).head_is_vertex in grind (arith, nat_tests))
@@ -174,7 +174,7 @@ module _ (g : ChipGame) (ok : IsGame g) (fired : List ℕ) where
       ))
 
 module _ (G : Multigraph) where
-  -- what flows in by counts m times as large
+  -- the inflow by counts m times as large
   inflow_times : (f : ℕ → ℕ) (m u : ℕ) → inflow G (λ z. m * f z) u ≡ m * inflow G f u
   inflow_times f m u =
       tested_ext _ _ _ (λ e. (edge_at G e).mult * f (edge_at G e).tail * m) (λ e l on. omega arith)

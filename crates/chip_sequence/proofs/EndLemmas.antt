@@ -14,11 +14,11 @@ use Rattle.chip_sequence.proofs.FiringLemmas.{led_on, position_is, same_position
 module _ (G : Multigraph) where
   -- ---- least action
 
-  -- the counts most lead to a position, end, from which nothing may go on
+  -- the counts most lead to a configuration, end, from which no vertex may go on
   module _ (x : ℕ → ℕ) (limit : ℕ) (most end : ℕ → ℕ) (led : IsLedTo G x most end) (rests : (v : ℕ) → IsLegal G end v
       → most v ≡ limit) where
-    -- a vertex that is legal, below the limit, and where nobody has fired more often than most says, has fired less
-    -- often: by most at least as much has flowed into it
+    -- if no vertex has fired more often than by `most`, a legal vertex below the limit has fired less often: by `most`
+    -- its inflow is at least as large
     not_yet : (f y : ℕ → ℕ) (v : ℕ) → IsLedTo G x f y → ((u : ℕ) → f u ≤ most u) → IsLegal G y v → f v < limit
         → f v < most v
     not_yet f y v to low can below = dite (dec_lt (f v) (most v))
@@ -30,7 +30,7 @@ module _ (G : Multigraph) where
         let a = to v in let b = led v in let d = inflow_le G f most low v in
         let full = rests v (search (rules, arith)) in absurd (omega arith))
 
-    -- the same on along a list: f has fired so far
+    -- the same along a list: f has fired so far
     pub least_from : (vs : List ℕ) (f y : ℕ → ℕ) → IsLedTo G x f y → ((u : ℕ) → f u ≤ most u) → IsFiringSequence G y vs
         → ((u : ℕ) → f u + counts vs u ≤ limit) → (u : ℕ) → f u + counts vs u ≤ most u
     least_from [] f y to low ok within u = let a = low u in omega arith
@@ -73,7 +73,7 @@ module _ (G : Multigraph) where
   abbrev may_go : (x left : ℕ → ℕ) → ℕ → Bool
   may_go x left v = not (eqb v G.sink) && (leb (degree G v) (x v) && ltb 0 (left v))
 
-  -- such a vertex, the first of them all, or there is none
+  -- the first such vertex, or there is none
   find : (x left : ℕ → ℕ) (vs : List ℕ) → filter_below (may_go x left) G.vertices ≡ vs
       → ((v : ℕ) × IsLegal G x v × (0 < left v)) ⊎ ((v : ℕ) → IsLegal G x v → left v ≡ 0)
   find x left [] is = inr (λ v can. dite (dec_lt 0 (left v))
@@ -83,8 +83,8 @@ module _ (G : Multigraph) where
   find x left (v ∷ vs) is = let goes = Contains-picked (may_go x left) G.vertices v (rw is (0, omega arith, refl)) in
       let inside = goes.0 in let on = goes.1 in inl (v, search (rules, arith, nat_tests), grind (arith, nat_tests))
 
-  -- a sequence from x that fires each vertex at most as often as is left, and each vertex that is legal at its end as
-  -- often
+  -- a sequence from x that fires each vertex at most as often as is left, and each vertex that is legal at its end
+  -- exactly as often
   pub record UsesUp (x left : ℕ → ℕ) (vs : List ℕ) : Type 0 where
     pub sequence : IsFiringSequence G x vs
     pub within : (v : ℕ) → counts vs v ≤ left v

@@ -1,6 +1,6 @@
 -- Serves Laws.antt, Bound.antt.
--- The tail of an edge fires at most as many times more than its head as there are chips, so a vertex at most as often
--- as there are chips, times its distance.
+-- With c chips in all, the count of an edge's tail exceeds that of its head by at most c, so that of a vertex is at
+-- most c times its distance.
 use Rattle.chip_sequence.proofs.Names.{◌≡◌, ◌≢◌, ℕ, ◌+◌, ◌-◌, ◌*◌, ◌<◌, ◌≤◌, Bool, cond, eqb, List, [], ◌∷◌, ◌++◌}
 use Rattle.chip_sequence.proofs.Names.{refl, sym, ap, arith, eq-eqb, mul-le-mul_left, mul-le-mul_right, dite, dec_lt}
 use Rattle.chip_sequence.proofs.Names.{ℕ_discrete, Multigraph, edge_at, degree, IsWalk, IsGraph, sum_below, cond_yes}
@@ -68,7 +68,7 @@ module _ (G : Multigraph) (good : IsGraph G) (few_in : HasFewIn G) (x : ℕ → 
       let d = cond_yes w w (inflow G g w) 0 refl in
       omega (arith, flows_through G good g)
 
-  -- the tail of an edge fires at most as often as its head, and as many times more as there are chips
+  -- the count of an edge's tail exceeds that of its head by at most the number of chips
   pub along_edge : (e : ℕ) → e < length G.edges
       → counts vs (edge_at G e).tail ≤ counts vs (edge_at G e).head + sum_below G.vertices x
   along_edge e l =
@@ -92,7 +92,7 @@ module _ (G : Multigraph) (good : IsGraph G) (few_in : HasFewIn G) (x : ℕ → 
   pub few_firings : (v distance : ℕ) → IsDistance G v distance → counts vs v ≤ sum_below G.vertices x * distance
   few_firings v distance is = let way = is.reached in rw (← way.2) (along_walk way.0 v way.1)
 
--- who is still legal at the end has fired less often than that
+-- a vertex still legal at the end has fired less often than that
 pub enough_by_distance : EnoughByDistance
 enough_by_distance G x good few distance limit far low vs play v can =
     let ok = sequence-append G vs (v ∷ []) x play.sequence (can, tt) in
@@ -114,7 +114,7 @@ few_tested G none v l other = dite (dec_lt (degree G v) (in_degree G v))
     (λ few. omega arith)
 
 module _ (G : Multigraph) (good : IsGraph G) (x : ℕ → ℕ) where
-  -- a walk to the sink that is at most so long
+  -- a walk to the sink of at most this length
   fires_by_walk : (vs : List ℕ) → IsFiringSequence G x vs → (distance : ℕ) (es : List ℕ) (v : ℕ) → IsWalk G v es G.sink
       → length es ≤ distance → counts vs v ≤ fires_at_distance G (sum_below G.vertices x) distance
   fires_by_walk vs ok distance es v way near = by (has_few_in G) refl

@@ -1,5 +1,5 @@
 -- Serves Sequence.antt, Counted.antt, Firing.antt.
--- Firings and firing sequences: counts, positions by counts, several firings of one vertex, the diamond.
+-- Firings and firing sequences: counts, configurations by counts, several firings of one vertex, the diamond.
 use Rattle.chip_sequence.proofs.Names.{◌≡◌, ◌≢◌, ℕ, zero, suc, ◌+◌, ◌-◌, ◌*◌, ◌<◌, ◌≤◌, cond, eqb, List, [], ◌∷◌, ◌++◌}
 use Rattle.chip_sequence.proofs.Names.{replicate, refl, sym, ap, ◌∙◌, arith, mul-le-mul_left, Bool, rules, dite}
 use Rattle.chip_sequence.proofs.Names.{ℕ_discrete, Multigraph, edge_at, sum_in, degree, cond_yes, tested_ext}
@@ -80,17 +80,17 @@ module _ (G : Multigraph) where
   unfolding brings
   fired_is v u x can = let same = λ (e : u ≡ v). ap (degree G) e in grind (arith, nat_tests)
 
-  -- the counts f lead from the position x to the position y
+  -- the counts f lead from the configuration x to the configuration y
   abbrev pub IsLedTo : (x f y : ℕ → ℕ) → Type 0
   IsLedTo x f y = (u : ℕ) → y u + degree G u * f u ≡ x u + inflow G f u
 
-  -- counts lead to one position only
+  -- counts lead to only one configuration
   pub led_once : (x f h y z : ℕ → ℕ) → IsLedTo x f y → IsLedTo x h z → ((u : ℕ) → f u ≡ h u) → (u : ℕ) → y u ≡ z u
   led_once x f h y z to to' same u =
       let a = to u in let b = to' u in let c = inflow_ext f h same u in
       omega (arith, ap (λ (n : ℕ). degree G u * n) (same u))
 
-  -- one more firing leads on to the position after it
+  -- one more firing leads on to the configuration after it
   pub led_on : (x f y : ℕ → ℕ) (v : ℕ) → IsLedTo x f y → degree G v ≤ y v
       → IsLedTo x (λ w. f w + cond (eqb v w) 1 0) (fired_once G v y)
   led_on x f y v to can u =
@@ -101,7 +101,7 @@ module _ (G : Multigraph) where
 
   -- ---- sequences
 
-  -- a sequence leads by its counts to the position after it
+  -- a sequence leads by its counts to the configuration after it
   pub position_is : (vs : List ℕ) (x : ℕ → ℕ) → IsFiringSequence G x vs → IsLedTo x (counts vs) (position_after G x vs)
   position_is [] x ok u = omega (arith, inflow_none (counts []) (λ v. refl) u)
   position_is (v ∷ vs) x ok u =
@@ -110,26 +110,26 @@ module _ (G : Multigraph) where
       (λ w ne. counts_else v w vs (λ z. ne (sym z))) u in
       let c = fired_is v u x ok.0.enough_chips in rw (counts_more v u vs) (omega arith)
 
-  -- equal counts, equal positions
+  -- equal counts, equal configurations
   pub same_position : (x : ℕ → ℕ) (vs ws : List ℕ) → IsFiringSequence G x vs → IsFiringSequence G x ws
       → ((u : ℕ) → counts vs u ≡ counts ws u) → (u : ℕ) → position_after G x vs u ≡ position_after G x ws u
   same_position x vs ws ok ok' same =
       led_once x (counts vs) (counts ws) (position_after G x vs) (position_after G x ws) (position_is vs x ok)
       (position_is ws x ok') same
 
-  -- the position after a list in two parts
+  -- the configuration after a list in two parts
   pub position-append : (vs ws : List ℕ) (x : ℕ → ℕ)
       → position_after G x (vs ++ ws) ≡ position_after G (position_after G x vs) ws
   position-append [] ws x = refl
   position-append (v ∷ vs) ws x = position-append vs ws (fired_once G v x)
 
-  -- a sequence and one from where it ends are a sequence
+  -- a sequence and one from its end are a sequence
   pub sequence-append : (vs ws : List ℕ) (x : ℕ → ℕ) → IsFiringSequence G x vs
       → IsFiringSequence G (position_after G x vs) ws → IsFiringSequence G x (vs ++ ws)
   sequence-append [] ws x ok ok' = ok'
   sequence-append (v ∷ vs) ws x ok ok' = (ok.0, sequence-append vs ws (fired_once G v x) ok.1 ok')
 
-  -- who fires is a vertex
+  -- only vertices fire
   pub counts_outside : (vs : List ℕ) (x : ℕ → ℕ) (u : ℕ) → IsFiringSequence G x vs → G.vertices ≤ u → counts vs u ≡ 0
   counts_outside [] x u ok l = refl
   counts_outside (v ∷ vs) x u ok l = let rest = counts_outside vs (fired_once G v x) u ok.1 l in
@@ -186,7 +186,7 @@ module _ (G : Multigraph) where
             (λ w. grind (arith, nat_tests)),
       )
 
-  -- ---- chips added to a position
+  -- ---- chips added to a configuration
 
   pub more_chips : (x y : ℕ → ℕ) → ((u : ℕ) → x u ≤ y u) → (vs : List ℕ) → IsFiringSequence G x vs
       → IsFiringSequence G y vs
@@ -196,7 +196,7 @@ module _ (G : Multigraph) where
     more_chips (fired_once G v x) (fired_once G v y) (λ u. let there = more u in grind (arith, nat_tests)) vs ok.1,
   )
 
--- the position after a sequence is that by its counts
+-- the configuration after a sequence is that by its counts
 pub position_by_counts_law : (G : Multigraph) (x : ℕ → ℕ) (vs : List ℕ) → IsFiringSequence G x vs → (u : ℕ)
     → (IsBelowZero G x (counts vs) u → ⊥) × (position_after G x vs u ≡ position_by_counts G x (counts vs) u)
 position_by_counts_law G x vs ok u = let a = position_is G vs x ok u in ((λ low. absurd (omega arith)), omega arith)

@@ -1,5 +1,5 @@
 -- Serves Outcomes.antt.
--- What a play comes to, as it can be reported.
+-- The result of a play, as an outcome that can be reported.
 use Rattle.chip_sequence.proofs.Names.{◌≡◌, ℕ, ◌<◌, ◌≤◌, Bool, not, ◌&&◌, eqb, leb, All, Contains, length, get_or, sym}
 use Rattle.chip_sequence.proofs.Names.{ap, ◌∙◌, subst, arith, get_or-le-sum_by, max_total, degree, ChipGame, IsGame}
 use Rattle.chip_sequence.proofs.Names.{All-picked}

@@ -1,5 +1,5 @@
 -- Serves Sittings.antt, Sequence.antt.
--- Plays in several sittings: what they lead to, and that they add up.
+-- Plays in several stages: what they lead to, and that they add up.
 use Rattle.chip_sequence.proofs.Names.{◌≡◌, ℕ, ◌+◌, List, [], ◌∷◌, ◌++◌, slice_index, refl, arith, Multigraph, IsGraph}
 use Rattle.chip_sequence.proofs.Names.{position_after, IsFiringSequence, counts, HasEnded, IsWholePlay}
 use Rattle.chip_sequence.specs.Sittings.{LeadsTo, AreSittings, counts_of_all, left_by_all, SittingsAddUp}
@@ -26,14 +26,14 @@ leads_both G x f y h z one two =
       },
     )
 
--- all sittings are one
+-- all stages are one
 pub leads_all : (G : Multigraph) (x : ℕ → ℕ) (sittings : List ((ℕ → ℕ) × (ℕ → ℕ))) → AreSittings G x sittings
     → LeadsTo G x (counts_of_all sittings) (left_by_all x sittings)
 leads_all G x [] are = leads_none G x
 leads_all G x ((f, y) ∷ rest) are =
     leads_both G x f y (counts_of_all rest) (left_by_all y rest) are.0 (leads_all G y rest are.1)
 
--- whatever goes on to an end has, with what was fired before, the counts and the end of every play that ends
+-- every continuation to an end has, with the counts before, the counts and the end of every play that ends
 pub ends_alike : (G : Multigraph) → IsGraph G → (x f y : ℕ → ℕ) → LeadsTo G x f y → (ws : List ℕ)
     → IsFiringSequence G y ws → HasEnded G y ws
     → (vs : List ℕ) → IsFiringSequence G x vs → HasEnded G x vs

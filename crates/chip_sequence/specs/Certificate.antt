@@ -1,10 +1,10 @@
--- Counts that every sequence that has ended must reach, and how to tell some of them by whole numbers.
+-- Counts that every sequence that has ended must reach, and how whole numbers certify some of them.
 use Rattle.std.specs.Prelude.{◌≡◌, ◌≢◌, ℕ, ◌+◌, ◌*◌, ◌<◌, ◌≤◌, nat_le, if◌then◌else◌, List}
 use Rattle.chip_graph.specs.Multigraph.{Multigraph, edge_at, sum_in, degree}
 use Rattle.chip_sequence.specs.Sequence.{IsFiringSequence, counts, HasEndedWithin}
 use Rattle.chip_sequence.specs.Counted.{inflow, position_by_counts, IsBelowZero}
 
--- every firing sequence from x that has ended within the limit fires each vertex at least as often as f says
+-- every firing sequence from x that has ended within the limit fires each vertex v at least f v times
 abbrev pub AreForced : Multigraph → (ℕ → ℕ) → ℕ → (ℕ → ℕ) → Type 0
 AreForced G x limit f = (vs : List ℕ) → IsFiringSequence G x vs → HasEndedWithin G x limit vs → (u : ℕ)
     → f u ≤ counts vs u
@@ -28,7 +28,7 @@ in_degree G v = sum_in G v (λ e. (edge_at G e).mult)
 abbrev pub HasFewIn : Multigraph → Type 0
 HasFewIn G = (v : ℕ) → v < G.vertices → v ≢ G.sink → in_degree G v ≤ degree G v
 
--- the in-degree from the tails whose rank is not below that of v alone
+-- the in-degree of v from only those tails whose rank is not below its own
 abbrev pub late_in_degree : Multigraph → (ℕ → ℕ) → ℕ → ℕ
 late_in_degree G rank v = sum_in G v (λ e. if nat_le (rank v) (rank (edge_at G e).tail) then (edge_at G e).mult else 0)
 
@@ -57,7 +57,7 @@ pub record IsScript (G : Multigraph) (x : ℕ → ℕ) (limit : ℕ) (f g q : �
   pub covered : (v : ℕ) → 0 < counts bs v
       → q v + inflow G (counts bs) v + degree G v * g v ≤ x v + inflow G g v + degree G v * counts bs v
 
--- the counts f are forced, no vertex is below 0 by them, and y is the position by them
+-- the counts f are forced, no vertex is below 0 by them, and y is the configuration by them
 pub record IsOnTheWay (G : Multigraph) (x : ℕ → ℕ) (limit : ℕ) (y f : ℕ → ℕ) : Type 0 where
   pub none_below : (u : ℕ) → IsBelowZero G x f u → ⊥
   pub position : (u : ℕ) → y u ≡ position_by_counts G x f u

@@ -13,8 +13,8 @@ use Rattle.chip_sequence.specs.Bound.{greatest_degree, IsGreatestDistance, firin
 abbrev pub LegalVertices : Type 0
 LegalVertices = (G : Multigraph) (x : ℕ → ℕ) (v : ℕ) → Contains (legal_vertices G x) v ↔ IsLegal G x v
 
--- the position after a firing sequence depends on its counts alone: no vertex is below 0 by them, and the chips are
--- those by counts
+-- the configuration after a firing sequence depends on its counts alone: no vertex is below 0 by them, and the chips
+-- are those by counts
 abbrev pub PositionByCounts : Type 0
 PositionByCounts = (G : Multigraph) (x : ℕ → ℕ) (vs : List ℕ) → IsFiringSequence G x vs → (u : ℕ)
     → (IsBelowZero G x (counts vs) u → ⊥) × (position_after G x vs u ≡ position_by_counts G x (counts vs) u)
@@ -24,7 +24,7 @@ abbrev pub Batch : Type 0
 Batch = (G : Multigraph) (x : ℕ → ℕ) (v k : ℕ) → v < G.vertices → v ≢ G.sink → k * degree G v ≤ x v
     → IsFiringSequence G x (replicate k v)
 
--- two legal vertices of a position may fire in either order, to the same position
+-- two legal vertices of a configuration may fire in either order, to the same configuration
 abbrev pub Diamond : Type 0
 Diamond = (G : Multigraph) (x : ℕ → ℕ) (u v : ℕ) → u ≢ v → IsLegal G x u → IsLegal G x v
     → IsLegal G (fired_once G u x) v × IsLegal G (fired_once G v x) u
@@ -36,7 +36,7 @@ LeastAction = (G : Multigraph) (x : ℕ → ℕ) (limit : ℕ) (ws : List ℕ) �
     → HasEndedWithin G x limit ws → (vs : List ℕ) → IsFiringSequence G x vs → IsWithin limit vs → (u : ℕ)
     → counts vs u ≤ counts ws u
 
--- two firing sequences within the limit that have ended within it have equal counts and end at the same position
+-- two firing sequences within the limit that have ended within it have equal counts and end at the same configuration
 abbrev pub OneEnd : Type 0
 OneEnd = (G : Multigraph) (x : ℕ → ℕ) (limit : ℕ) (vs ws : List ℕ) → IsWholePlay G x limit vs → IsWholePlay G x limit ws
     → ((u : ℕ) → counts vs u ≡ counts ws u) × ((u : ℕ) → position_after G x vs u ≡ position_after G x ws u)
@@ -46,7 +46,7 @@ abbrev pub Continuation : Type 0
 Continuation = (G : Multigraph) (x : ℕ → ℕ) (limit : ℕ) (vs : List ℕ) → IsFiringSequence G x vs → IsWithin limit vs
     → (more : List ℕ) × IsWholePlay G x limit (vs ++ more)
 
--- chips move and are never made or lost
+-- no chips are created or destroyed
 abbrev pub ChipsAreKept : Type 0
 ChipsAreKept = (G : Multigraph) (x : ℕ → ℕ) → IsGraph G → (vs : List ℕ) → IsFiringSequence G x vs
     → sum_below G.vertices (position_after G x vs) ≡ sum_below G.vertices x
@@ -62,20 +62,20 @@ Enough = (G : Multigraph) (x : ℕ → ℕ) → IsGraph G → (distance limit : 
     → firing_bound (sum_below G.vertices x) (greatest_degree G) distance ≤ limit → (vs : List ℕ)
     → IsWholePlay G x limit vs → HasEnded G x vs
 
--- if no in-degree is above the degree, no firing sequence fires a vertex more often than there are chips, times its
+-- if no in-degree is above the degree, no firing sequence fires a vertex more often than the number of chips times its
 -- distance from the sink
 abbrev pub FewFirings : Type 0
 FewFirings = (G : Multigraph) (x : ℕ → ℕ) → IsGraph G → HasFewIn G → (v distance : ℕ) → IsDistance G v distance
     → (vs : List ℕ) → IsFiringSequence G x vs → counts vs v ≤ sum_below G.vertices x * distance
 
--- so a limit of all chips, times the greatest distance, stops no vertex
+-- so a limit of all chips times the greatest distance stops no vertex
 abbrev pub EnoughByDistance : Type 0
 EnoughByDistance = (G : Multigraph) (x : ℕ → ℕ) → IsGraph G → HasFewIn G → (distance limit : ℕ)
     → IsGreatestDistance G distance → sum_below G.vertices x * distance ≤ limit → (vs : List ℕ)
     → IsWholePlay G x limit vs → HasEnded G x vs
 
 -- without a limit: every firing sequence can be continued to one that has ended, and two that have ended have equal
--- counts and end at the same position
+-- counts and end at the same configuration
 abbrev pub AbelianProperty : Type 0
 AbelianProperty = (G : Multigraph) (x : ℕ → ℕ) → IsGraph G →
     ((vs : List ℕ) → IsFiringSequence G x vs → (more : List ℕ) × IsFiringSequence G x (vs ++ more)
@@ -83,7 +83,7 @@ AbelianProperty = (G : Multigraph) (x : ℕ → ℕ) → IsGraph G →
     × ((vs ws : List ℕ) → IsFiringSequence G x vs → HasEnded G x vs → IsFiringSequence G x ws → HasEnded G x ws
     → ((u : ℕ) → counts vs u ≡ counts ws u) × ((u : ℕ) → position_after G x vs u ≡ position_after G x ws u))
 
--- chips added to a position keep a sequence legal
+-- adding chips to a configuration keeps a sequence legal
 abbrev pub MoreChips : Type 0
 MoreChips = (G : Multigraph) (x y : ℕ → ℕ) → ((u : ℕ) → x u ≤ y u) → (vs : List ℕ) → IsFiringSequence G x vs
     → IsFiringSequence G y vs
@@ -109,14 +109,14 @@ abbrev pub ScriptCounts : Type 0
 ScriptCounts = (G : Multigraph) (x : ℕ → ℕ) (limit : ℕ) (f g q : ℕ → ℕ) (bs : List ℕ) → AreForced G x limit f
     → IsScript G x limit f g q bs → AreForced G x limit g
 
--- who is on the way stays so by any firing sequence from there within the limit, whether or not one leads there from
--- the start
+-- counts on the way stay so by any firing sequence from there within the limit, whether or not one leads there from the
+-- start
 abbrev pub PlayingOn : Type 0
 PlayingOn = (G : Multigraph) (x : ℕ → ℕ) (limit : ℕ) (y f : ℕ → ℕ) → IsOnTheWay G x limit y f → (vs : List ℕ)
     → IsFiringSequence G y vs → ((u : ℕ) → f u + counts vs u ≤ limit)
     → IsOnTheWay G x limit (position_after G y vs) (λ u. f u + counts vs u)
 
--- who is on the way and can go on nowhere has the counts and the position of every whole play
+-- counts on the way that no firing can extend are those of every whole play, and so is their configuration
 abbrev pub EndOfTheWay : Type 0
 EndOfTheWay = (G : Multigraph) (x : ℕ → ℕ) (limit : ℕ) (y f : ℕ → ℕ) → IsOnTheWay G x limit y f
     → ((v : ℕ) → IsLegal G y v → f v ≡ limit) → (vs : List ℕ) → IsWholePlay G x limit vs → ((u : ℕ) → f u ≡ counts vs u)

@@ -1,4 +1,4 @@
--- What playing a game to its end answers.
+-- The result of playing a game to its end.
 use Rattle.std.specs.Prelude.{◌≡◌, ℕ, ◌≤◌, List, [], length, sum, slice_index}
 use Rattle.chip_graph.specs.ChipGame.{ChipGame}
 use Rattle.chip_sequence.specs.declared.outcome.Outcome.{Outcome}

@@ -1,14 +1,14 @@
--- Firing sequences: lists of vertices, the one that fires first in front.
+-- Firing sequences: lists of vertices, in order of firing.
 use Rattle.std.specs.Prelude.{◌≡◌, ℕ, ◌+◌, ◌≤◌, ◌==◌, if◌then◌else◌, List, [], ◌∷◌}
 use Rattle.chip_graph.specs.Multigraph.{Multigraph}
 use Rattle.chip_sequence.specs.Firing.{IsLegal, fired_once}
 
--- the position after the vertices of a list have fired in turn, from the position x
+-- the configuration after the vertices of a list have fired in turn, from the configuration x
 abbrev pub position_after : Multigraph → (ℕ → ℕ) → List ℕ → ℕ → ℕ
 position_after G x [] = x
 position_after G x (v ∷ vs) = position_after G (fired_once G v x) vs
 
--- each vertex of the list is legal where it stands
+-- each vertex of the list is legal when it fires
 abbrev pub IsFiringSequence : Multigraph → (ℕ → ℕ) → List ℕ → Type 0
 IsFiringSequence G x [] = Unit {0}
 IsFiringSequence G x (v ∷ vs) = IsLegal G x v × IsFiringSequence G (fired_once G v x) vs

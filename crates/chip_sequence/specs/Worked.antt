@@ -22,7 +22,7 @@ pub record SmallTriangle : Type 0 where
   pub by_counts : on_each (position_by_counts triangle (chips_on 4 0 0) (chips_on 2 1 0)) ≡ 1 ∷ 0 ∷ 3 ∷ []
   pub ended : legal_vertices triangle (position_after triangle (chips_on 4 0 0) (0 ∷ 0 ∷ 1 ∷ [])) ≡ []
 
--- with 3 chips there, vertex 0 fires once, and then both vertices hold one chip less than their degree
+-- with 3 chips there, vertex 0 fires once, and then both vertices have one chip less than their degree
 pub record OneChipShort : Type 0 where
   pub sequence : IsFiringSequence triangle (chips_on 3 0 0) (0 ∷ [])
   pub position : on_each (position_after triangle (chips_on 3 0 0) (0 ∷ [])) ≡ 1 ∷ 1 ∷ 1 ∷ []

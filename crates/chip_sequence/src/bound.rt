@@ -22,8 +22,9 @@ pub fn enough(graph: &Graph, total: u64) -> Option<u64>
     Some(bound)
 }
 
-/// The same by the distance alone: all chips, times the greatest distance from the sink. `None` if some in-degree but the
-/// sink's is above the degree, since a vertex may fire more often then, or if it is above 2^40.
+/// A limit that stops no vertex of this graph, by the distance alone: `total` times the greatest distance from the
+/// sink. `None` if it is above 2^40, or if some vertex other than the sink has an in-degree above its degree, since it
+/// may then fire more often.
 pub fn enough_by_distance(graph: &Graph, total: u64) -> Option<u64>
     requires { total ≤ max_total }
     ensures { (distance : ℕ) × IsGreatestDistance graph.now distance
@@ -41,7 +42,7 @@ pub fn enough_by_distance(graph: &Graph, total: u64) -> Option<u64>
     }
 }
 
-/// Whether no in-degree but the sink's is above the degree.
+/// Whether no in-degree but the sink's is above the vertex's degree.
 fn has_few_in(graph: &Graph) -> bool
     ensures { IsTrue result ↔ HasFewIn graph.now }
 {
@@ -66,7 +67,7 @@ fn in_degree(graph: &Graph, vertex: u64) -> u64
     all
 }
 
-/// The bound one edge further from the sink, up to the greatest limit.
+/// The bound one edge further from the sink, or `None` if it is above the greatest limit.
 fn next_bound(total: u64, degree: u64, bound: u64) -> Option<u64>
     ensures { SomeIff result (total + degree * bound ≤ max_limit) (total + degree * bound) }
 {

@@ -9,10 +9,10 @@ use chip_graph::{Game, Graph};
 use std::alloc::{AllocError, Global};
 use thiserror::Error;
 
-/// Why counts (an odometer) lead to no position.
+/// Why counts (an odometer) lead to no configuration.
 #[derive(Clone, Copy, Debug, Error)]
 pub enum AfterFault {
-    /// This vertex would have sent more chips than it had and got. It is the least such vertex.
+    /// The least vertex that would have sent more chips than it had and got.
     #[error("vertex {0} would be below 0")]
     Negative(u64),
     /// Memory ran out.
@@ -23,7 +23,7 @@ pub enum AfterFault {
 impl AfterFault {
     ghost use Rattle.chip_sequence.specs.Faults.{after_fault_number};
 
-    /// The number of this fault in the table of faults.
+    /// The fault's number in the table of faults.
     pub fn number(&self) -> u64
         ensures { result ≡ after_fault_number self.now }
     {
@@ -45,8 +45,8 @@ impl From<AllocError> for AfterFault {
     }
 }
 
-/// The chips of each vertex after each fired as often as `fired` says, in whatever order. The counts may be any, also
-/// those of no firing sequence.
+/// The chips of each vertex after it fired as often as `fired` says, in any order. The counts may be any, also those of
+/// no firing sequence. Fails if some vertex would have fewer than 0 chips, and without memory.
 pub fn after(alloc: Global, game: &Game, fired: &[u64]) -> Result<Vec<u64>, AfterFault>
     requires { length fired.now ≡ game.now.graph.vertices }
     ensures { MatchResult result (λ chips. IsAfter game.now fired.now chips.items)
@@ -57,8 +57,8 @@ pub fn after(alloc: Global, game: &Game, fired: &[u64]) -> Result<Vec<u64>, Afte
     Ok(chips)
 }
 
-/// What `after` answers, written into a slice with a number for each vertex. This takes no memory. If there is a fault,
-/// the slice stays as it was.
+/// Writes the result of `after` into a slice with a number for each vertex. Allocates nothing; on a fault the slice is
+/// unchanged.
 pub fn after_into(game: &Game, fired: &[u64], into: &mut [u64]) -> Result<(), AfterFault>
     requires counts_each { length fired.now ≡ game.now.graph.vertices }
     requires chips_each { length into.old ≡ game.now.graph.vertices }
@@ -68,7 +68,7 @@ pub fn after_into(game: &Game, fired: &[u64], into: &mut [u64]) -> Result<(), Af
     after_from(game.graph(), game.start(), fired, into)
 }
 
-/// The same for a graph and the chips of each vertex at the start, at most 2^40 in all.
+/// Does what `after_into` does, for a graph and the chips of each vertex at the start, at most 2^40 in all.
 pub fn after_from(
     graph: &Graph,
     start: &[u64],
@@ -112,7 +112,7 @@ fn first_negative(graph: &Graph, start: &[u64], fired: &[u64]) -> Option<u64>
     None
 }
 
-/// How many chips a vertex has at the start and gets along its edges, and how many its firings take.
+/// The number of chips that a vertex has at the start and gets along its edges, and the number that its firings take.
 fn income_and_cost(graph: &Graph, start: &[u64], fired: &[u64], vertex: u64) -> (u128, u128)
     requires is_vertex { vertex < graph.now.vertices }
     requires start_each { length start.now ≡ graph.now.vertices }

@@ -7,13 +7,13 @@ ghost use Rattle.chip_sequence.specs.Sequence.{position_after};
 use chip_graph::{Graph, Link};
 use thiserror::Error;
 
-/// A vertex may not fire (topple) this often: it is the sink, has too few chips, or is to fire 0 times.
+/// A vertex may not fire (topple) this often: it is the sink, has too few chips, or `k` is 0.
 #[derive(Clone, Copy, Debug, Error)]
 #[error("the vertex is not legal")]
 pub struct NotLegal;
 
 impl NotLegal {
-    /// The number of this fault in the table of faults.
+    /// The fault's number in the table of faults.
     pub fn number(&self) -> u64
         ensures { result ≡ 40 }
     {
@@ -21,7 +21,7 @@ impl NotLegal {
     }
 }
 
-/// Fires a vertex `k` times in a row, if it may. If not, the position stays as it was.
+/// Fires a vertex `k` times in a row, if it may. Otherwise the configuration is unchanged.
 pub fn fire(position: &mut [u64], graph: &Graph, vertex: u64, k: u64) -> Result<(), NotLegal>
     requires is_vertex { vertex < graph.now.vertices }
     requires one_each { length position.old ≡ graph.now.vertices }

@@ -1,7 +1,7 @@
-//! The laws of chip-firing: functions that do nothing, whose contracts are the laws.
+//! The laws of chip-firing: theorems, as the contracts of functions that do nothing.
 //!
-//! They hold for any directed multigraph and any position, limit and firing sequence on it. If a law needs the global
-//! sink, it says so. `docs/GAME.md` goes through them in this order.
+//! They hold for any directed multigraph and any configuration, limit and firing sequence on it. A law that needs the
+//! global sink says so. `docs/GAME.md` explains them in this order.
 
 ghost use Rattle.chip_sequence.specs.Worked.{SmallTriangle, OneChipShort};
 ghost use Rattle.chip_sequence.specs.Laws.{LegalVertices, PositionByCounts, Batch, Diamond, LeastAction, OneEnd};
@@ -21,17 +21,17 @@ pub fn legal_vertices()
     ensures { LegalVertices }
 {}
 
-/// What a firing sequence leaves depends on how often each vertex fired, and not on the order.
+/// The configuration after a firing sequence depends on how often each vertex fired, and not on the order.
 pub fn position_by_counts()
     ensures { PositionByCounts }
 {}
 
-/// Several firings of one vertex in a row are firings one at a time.
+/// `k` firings of one vertex in a row are `k` single firings.
 pub fn batch()
     ensures { Batch }
 {}
 
-/// Two legal vertices may fire in either order, to the same position.
+/// Two legal vertices may fire in either order, to the same configuration.
 pub fn diamond()
     ensures { Diamond }
 {}
@@ -41,7 +41,7 @@ pub fn least_action()
     ensures { LeastAction }
 {}
 
-/// All sequences that have ended agree, in their counts and in where they end.
+/// All sequences that have ended agree, in their counts and in their final configuration.
 pub fn one_end()
     ensures { OneEnd }
 {}
@@ -51,7 +51,7 @@ pub fn continuation()
     ensures { Continuation }
 {}
 
-/// No chip is made or lost.
+/// No chip is created or destroyed.
 pub fn chips_are_kept()
     ensures { ChipsAreKept }
 {}
@@ -66,8 +66,8 @@ pub fn enough_limit()
     ensures { Enough }
 {}
 
-/// If no in-degree is above the degree, a vertex fires at most as often as there are chips, times its distance from the
-/// sink. So a limit of all chips, times the greatest distance, stops no vertex.
+/// If no in-degree is above the degree, a vertex fires at most as often as the number of chips times its distance from
+/// the sink. So a limit of all chips times the greatest distance stops no vertex.
 pub fn few_firings()
     ensures bound { FewFirings }
     ensures enough { EnoughByDistance }
@@ -78,12 +78,12 @@ pub fn abelian_property()
     ensures { AbelianProperty }
 {}
 
-/// Chips added to a position keep a sequence legal.
+/// Adding chips to a configuration keeps a sequence legal.
 pub fn more_chips()
     ensures { MoreChips }
 {}
 
-/// Every sequence that has ended reaches counts that whole numbers at each vertex certify.
+/// Every sequence that has ended reaches the counts that whole numbers at each vertex certify.
 pub fn certified_counts()
     ensures { CertifiedCounts }
 {}
@@ -94,13 +94,13 @@ pub fn burnt_counts()
     ensures { BurntCounts }
 {}
 
-/// If no in-degree is above the degree, what a sequence fires passes the burning test, by the order in which its
-/// vertices fire for the last time.
+/// If no in-degree is above the degree, a sequence's counts pass the burning test, by the order in which its vertices
+/// fire for the last time.
 pub fn fired_burn()
     ensures { FiredBurn }
 {}
 
-/// The burning test for any graph: a sequence that could be played last stands for each vertex once.
+/// The burning test for any graph: a firing script that could be played last replaces a firing of each vertex.
 pub fn script_counts()
     ensures { ScriptCounts }
 {}
@@ -110,12 +110,12 @@ pub fn playing_on()
     ensures { PlayingOn }
 {}
 
-/// If nothing may go on, counts that must be reached are the counts of every whole play.
+/// If no vertex may go on, counts that must be reached are the counts of every whole play.
 pub fn end_of_the_way()
     ensures { EndOfTheWay }
 {}
 
-/// The sittings of a play add up, however many there are and whatever stopped each.
+/// The stages of a play add up, for every number of stages and whatever stopped each.
 pub fn sittings()
     ensures add_up { SittingsAddUp }
     ensures played { PlayedIsSitting }

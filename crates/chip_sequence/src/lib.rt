@@ -1,7 +1,7 @@
-//! Chip-firing by itself: firings, firing sequences and their laws, positions by counts, and outcomes.
+//! Chip-firing by itself: firings, firing sequences and their laws, configurations by counts, and outcomes.
 //!
 //! Nothing here plays a game. The laws are about every firing sequence, and about counts that every whole play must
-//! reach. A player proves its outcome from them, whatever its order or guess.
+//! reach. A player proves its outcome from them, for every order and initial guess.
 #![tactic(auto)]
 
 pub use bound::{enough, enough_by_distance};

@@ -1,4 +1,4 @@
-/// How a game ended (its stabilization): a number for each vertex in `fired` and `chips`, and the halted vertices.
+/// The outcome of a game (its stabilization): a number for each vertex in `fired` and `chips`, and the halted vertices.
 #[derive(Drop)]
 pub struct Outcome {
     /// How often each vertex fired (the odometer), 0 to the game's limit.

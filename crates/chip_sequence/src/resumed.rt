@@ -3,13 +3,13 @@ use chip_graph::GameFault;
 use std::alloc::{AllocError, Global};
 use thiserror::Error;
 
-/// The most that a vertex may have fired before a sitting: 2^60.
+/// The most firings of a vertex before a stage: 2^60.
 pub const MAX_PRIOR: u64 = 1 << 60;
 
-/// How a sitting ended, and how often each vertex fired in the sittings before it.
+/// The outcome of a stage, and how often each vertex fired in the stages before it.
 #[derive(Drop)]
 pub struct Resumed {
-    /// The last sitting's own outcome.
+    /// The last stage's own outcome.
     pub outcome: Outcome,
     /// A number for each vertex, 0 to `MAX_PRIOR`.
     pub prior: Vec<u64>,
@@ -20,7 +20,7 @@ impl Resumed {
     ghost use Rattle.chip_sequence.specs.Outcomes.{IsOutcome};
     ghost use Rattle.chip_sequence.specs.Sittings.{IsResumed};
 
-    /// A first sitting: nothing was fired before it.
+    /// A first stage: nothing was fired before it.
     pub fn first(alloc: Global, outcome: Outcome) -> Result<Resumed, AllocError>
         requires { IsOutcome outcome }
         ensures outcome { IfOk result (λ resumed. resumed.outcome ≡ outcome) }
@@ -32,19 +32,19 @@ impl Resumed {
     }
 }
 
-/// Why a play does not go on: the first reason in this order.
+/// Why a play does not go on: the first of these that applies.
 #[derive(Clone, Copy, Debug, PartialEq, Eq, Error)]
 pub enum ResumeFault {
-    /// The earlier sitting was on a graph with another number of vertices.
+    /// The earlier stage was on a graph with another number of vertices.
     #[error("the earlier play has another number of vertices")]
     Mismatch,
-    /// The earlier sitting left more than 1,099,511,627,776 chips.
+    /// The earlier stage left more than 1,099,511,627,776 chips.
     #[error("there are more than 1099511627776 chips")]
     Total,
     /// The firing limit is above 1,099,511,627,776.
     #[error("the firing limit is above 1099511627776")]
     Limit,
-    /// This vertex fired more than 1,152,921,504,606,846,976 times in all, and it is the least such vertex.
+    /// This vertex, the least such one, fired more than 1,152,921,504,606,846,976 times in all.
     #[error("vertex {0} fired more than 1152921504606846976 times before")]
     Prior(u64),
     /// Memory ran out.
@@ -56,7 +56,7 @@ impl ResumeFault {
     ghost use Rattle.std.specs.Prelude.{◌≡◌};
     ghost use Rattle.chip_sequence.specs.Faults.{resume_fault_number, resume_fault_place};
 
-    /// The number of this fault in the table of faults.
+    /// The fault's number in the table of faults.
     pub fn number(&self) -> u64
         ensures { result ≡ resume_fault_number self.now }
     {
@@ -69,7 +69,7 @@ impl ResumeFault {
         }
     }
 
-    /// The vertex that it names, if it names one.
+    /// The vertex of the fault, if it has one.
     pub fn place(&self) -> Option<u64>
         ensures { result ≡ resume_fault_place self.now }
     {

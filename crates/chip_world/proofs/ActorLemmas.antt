@@ -1,5 +1,5 @@
 -- Serves World.antt, TurnWords.antt, Rounds.antt.
--- A world as one of its vertices makes an event, or a whole turn, over the shared words.
+-- A world in which one of its vertices makes an event, or a whole turn, over the shared words.
 use Rattle.chip_world.proofs.Names.{◌≡◌, ◌≢◌, ℕ, ◌<◌, List, [], ◌∷◌, ◌++◌, reverse, get_or, set, Option, Some, None}
 use Rattle.chip_world.proofs.Names.{refl, sym, ◌∙◌, arith, length-set, get_or-set_same, get_or-set_other, ⊤}
 use Rattle.chip_world.proofs.Names.{append_assoc, reverse_onto, dite, ℕ_discrete, Setting, Actor}
@@ -11,7 +11,7 @@ use Rattle.chip_world.proofs.Names.{IsTurnAfter}
 use Rattle.chip_world.proofs.VertexLemmas.{found}
 use Rattle.chip_part.specs.declared.cursor.Cursor.TheVariants as At
 
--- the steps of one part leave every other as it was
+-- the steps of one part leave every other unchanged
 parts_stay : (g : Setting) (v u : ℕ) → u ≢ v → (more : List Step) → AreOf g v more → (log : Log)
     → part_in g (reverse more ++ log) u ≡ part_in g log u
 parts_stay g v u other [] mine log = refl
@@ -31,7 +31,7 @@ module _ (g : Setting) (log : Log) (w : WorldState) (stands : StandsForLog g log
     actor : IsActor g log v a
     actor = rw actor_is (stands.actors v inside a)
 
-    -- the fired word of the vertex can be told
+    -- the fired word of the vertex is known
     pub shows_word : SomePart a (λ g s. ⊤)
     shows_word = (g, part_in g log v, actor.stands, tt)
 
@@ -57,7 +57,7 @@ module _ (g : Setting) (log : Log) (w : WorldState) (stands : StandsForLog g log
       pub meets_event : (x : Event) → part_of g x ≡ v → MeetsEvent (WordsHold shared) a x
       meets_event x own = (g, log, part_in g log v, held, actor.stands, own ∙ sym actor.vertex_is)
 
-      -- steps of the vertex leave the world of the log that is longer by them
+      -- steps of the vertex lead to the world of the log extended by them
       module _ (new : TurnWords) (b : Actor) where
         abbrev pub after : WorldState
         after = record w { actors = set w.actors v b; words = new.words }

@@ -1,5 +1,5 @@
 -- Serves Rounds.antt.
--- More rounds than steps can count close the root.
+-- More rounds than the number of steps that can count close the root.
 use Rattle.chip_world.proofs.Names.{◌≡◌, ◌⊎◌, ℕ, zero, suc, ◌+◌, ◌-◌, ◌<◌, ◌≤◌, List, [], ◌∷◌, ◌++◌, length, reverse}
 use Rattle.chip_world.proofs.Names.{refl, ap, ◌∙◌, arith, inl, inr, ⊎_elim, append_assoc, Option}
 use Rattle.chip_world.proofs.Names.{Contains-append_left, dite, ℕ_discrete, IsGame, Setting, graph_edges, root_edge}

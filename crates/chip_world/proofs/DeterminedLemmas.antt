@@ -1,5 +1,5 @@
 -- Serves Rounds.antt.
--- A turn, a round and a drive follow from the log before them.
+-- A turn, a round and a drive are determined by the log before them.
 use Rattle.chip_world.proofs.Names.{◌≡◌, ℕ, zero, suc, ◌<◌, ◌≤◌, Bool, true, false, not, eqb, List, [], ◌∷◌, ◌++◌}
 use Rattle.chip_world.proofs.Names.{reverse, Option, Some, None, refl, sym, arith, append_assoc}
 use Rattle.chip_world.proofs.Names.{reverse_onto, dite, ℕ_discrete, dec_lt, Setting, Part, may_ack_on, head_of, Event, Ack}
@@ -9,7 +9,7 @@ use Rattle.chip_world.proofs.Names.{Drive, Closed, Unfinished, WorldState, Leads
 use Rattle.chip_world.proofs.Names.{IsTurnAfter, AreTurns, IsWorldRound, AreOpenRounds, AnswersDrive, IsDrive, IsRootOpen}
 
 module _ (g : Setting) where
-  -- each event fits after the log and those in front of it
+  -- each event is legal after the log and those before it
   abbrev Follow : Log → List Step → Type 0
   Follow log [] = Unit {0}
   Follow log (x ∷ xs) = FitsLog g log x × Follow (x ∷ log) xs
@@ -33,7 +33,7 @@ module _ (g : Setting) where
       let all : IsLegalLog g (reverse xs ++ (x ∷ log)) = rw (reverse_onto xs x [], append_assoc) at legal in
       ((legal_before g (reverse xs) (x ∷ log) all).1, follows (x ∷ log) xs all)
 
-  -- from one part, after one log, such a phase goes in one way alone
+  -- from one part, after one log, such a phase has only one outcome
   abbrev Determined : Phase → Type 0
   Determined p = (log : Log) (s : Part) (ds ds' : List Step) (t t' : Part) → Follow log ds → Follow log ds' → p s ds t
       → p s ds' t' → (ds ≡ ds') × (t ≡ t')
@@ -139,7 +139,7 @@ module _ (g : Setting) where
       absurd (ends_last rounds other.count one.count after' result' l one.within
       (open_earlier other.count one.count l before after' after other.are_rounds one.are_rounds) other.answers))))
 
--- a world that a drive leads to is the one that every drive leads to
+-- a world that one drive leads to is the one that every drive leads to
 pub no_other : (old new : WorldState) (rounds : ℕ) (result : Drive)
     → LeadsWorld old new (λ g before after. IsDrive g rounds before after result) → NoOtherDrive old new rounds result
 no_other old new rounds result leads = λ g before stands after answer drive.

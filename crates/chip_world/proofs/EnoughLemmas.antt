@@ -1,5 +1,5 @@
 -- Serves Enough.antt.
--- The rounds that surely close a game are more than its steps that count.
+-- The rounds that close a game are more than its steps that count.
 use Rattle.chip_world.proofs.Names.{◌≡◌, ℕ, zero, suc, ◌+◌, ◌*◌, ◌<◌, length, sum, min, arith, add-mul, suc-mul}
 use Rattle.chip_world.proofs.Names.{IsGame, sum_below, fires_at_distance, Setting, Log, IsLegalLog}
 use Rattle.chip_world.proofs.Names.{played_game, steps_at_most, fed_so_far, feeds_fit, distance_bounds, WorldState}

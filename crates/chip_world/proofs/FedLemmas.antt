@@ -9,7 +9,7 @@ use Rattle.chip_world.proofs.Names.{root_settles, AreOpenRounds}
 use Rattle.chip_world.proofs.OwnTurnLemmas.{turn_is_own}
 
 module _ (g : Setting) where
-  -- what one part made, another didn't do
+  -- an event made by one part is made by no other
   not_done : (v u : ℕ) → v ≢ u → (ds : List Step) → AreOf g v ds → (log : Log)
       → done_by g u (reverse ds ++ log) ≡ done_by g u log
   not_done v u other [] mine log = refl
@@ -18,7 +18,7 @@ module _ (g : Setting) where
       (cond_no (part_of g x.event) u (done_by g u log ++ x ∷ []) (done_by g u log) (λ z. other (cc)))
 
   module _ (game : IsGame g.game) (some_ring : 0 < g.ring) where
-    -- a longer log, in which no more was fed
+    -- a longer log without new feeds
     pub record FeedsNone (before after : Log) : Type 0 where
       pub legal : IsLegalLog g after
       pub same : fed_so_far g after ≡ fed_so_far g before

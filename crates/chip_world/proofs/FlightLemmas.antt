@@ -1,5 +1,5 @@
--- Serves SharedWords.antt. The messages that were sent on an edge and not delivered, by the cells of its ring and what
--- its tail holds.
+-- Serves SharedWords.antt. The messages sent on an edge and not delivered, by the cells of its ring and what its tail
+-- holds.
 use Rattle.chip_world.proofs.Names.{◌≡◌, ◌≢◌, ℕ, ◌+◌, ◌-◌, ◌%◌, ◌<◌, ◌≤◌, List, [], ◌∷◌, ◌++◌, length, sum, get_or}
 use Rattle.chip_world.proofs.Names.{take, length-drop, length-take-le, Option, Some, None, option_to_list, refl}
 use Rattle.chip_world.proofs.Names.{arith, ⊎_elim, inl, inr, get_or_past, get_or_append_left, get_or_push}
@@ -39,7 +39,7 @@ module _ (ring word : ℕ) (cell : ℕ → ℕ) (t : Tail) (got : List ℕ) (sto
       rw (some.1, get_or_push t.put some.0 0 place (omega arith)) (omega arith))
       (hand t.held))
 
--- ---- the messages in flight, one after another
+-- ---- the messages in flight, in order
 
 module _ (g : Setting) (log : Log) (e : ℕ) where
   flight_long : (first : ℕ) → first ≡ length (into_in g log e).got

@@ -1,12 +1,12 @@
 -- Serves World.antt.
--- What is claimed on an edge and not put, as the tail of the edge tells.
+-- What is claimed on an edge and not put, by the tail of the edge.
 use Rattle.chip_world.proofs.Names.{nat_tests, ◌≡◌, ◌∙◌, ◌<◌, ◌≤◌, ℕ, Option, Some, None, get_or, sym, arith, refl}
 use Rattle.chip_world.proofs.Names.{sum, option_to_list, unwrap_or, Setting, graph_edges, all_edges, tail_of}
 use Rattle.chip_world.proofs.Names.{tail_if, root, Actor, WhateverPart, WhateverRoot, tail_root, Log, Put}
 use Rattle.chip_world.proofs.Names.{part_in, out_in, WorldState, StandsForLog}
 use Rattle.chip_world.proofs.ActorLemmas.{maker}
 
--- an edge without a vertex as its tail is none of the graph's
+-- an edge without a vertex as its tail is after the graph's
 no_tail : (g : Setting) (e : ℕ) → tail_if g e ≡ None → graph_edges g ≤ e
 no_tail g e is = grind (arith, nat_tests)
 

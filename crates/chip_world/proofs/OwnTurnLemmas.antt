@@ -77,7 +77,7 @@ module _ (g : Setting) (v : ℕ) where
   done-append (x ∷ xs) ys = let rest = done-append xs ys in by_test (eqb (part_of g x.event) v)
       (λ yes. rw (yes, rest, append_assoc)) (λ no. rw no rest)
 
-  -- made one after another, they are what the vertex did
+  -- made in order, they are the steps of the vertex
   pub done_turn : (ds : List Step) → AreOf g v ds → done_by g v (reverse ds) ≡ ds
   done_turn [] mine = refl
   done_turn (x ∷ xs) mine = rw (

@@ -1,5 +1,5 @@
 -- Serves Run.antt.
--- A run of events, noted one after another.
+-- A run of events, noted in order.
 use Rattle.chip_world.proofs.Names.{nat_tests, ◌≡◌, ◌≢◌, ◌∙◌, ℕ, ◌+◌, ◌<◌, ◌≤◌, Bool, cond, eqb, List, [], ◌∷◌, ◌++◌}
 use Rattle.chip_world.proofs.Names.{length, map, get_or, take, refl, sym, ap, arith, append_assoc, append-nil}
 use Rattle.chip_world.proofs.Names.{length-set, get_or-set_same, get_or-set_other, length-append, vec_capacity}
@@ -33,7 +33,7 @@ counted test edges xs i d counts new l so_far same change =
           rw longer (grind (arith, nat_tests)));
     }
 
--- ---- a message that an event brings is of an edge
+-- ---- a message of an event is on an edge of the game
 
 pub sent_on_edge : (g : Setting) (log : Log) (x : Event) (r : Reply) → r ≡ (step g log x).1
     → SentOnEdge x r (all_edges g)
@@ -47,7 +47,7 @@ got_on_edge g log _ _ is = tt
 
 -- ---- the lists after an event
 
--- of each edge some messages more, of as many as the event may bring, and the room is the same
+-- for each edge some messages more, at most those that the event may bring, and the same room
 record Longer (lanes new : List Lane) (more : ℕ → List Message) (most : ℕ → ℕ) : Type 0 where
   edges : length new ≡ length lanes
   messages : (e : ℕ) → e < length lanes → (lane_at new e).messages ≡ (lane_at lanes e).messages ++ more e

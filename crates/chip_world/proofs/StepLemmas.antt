@@ -14,12 +14,12 @@ use Rattle.chip_world.proofs.WordLemmas.{seal_shown, sees_seal, length-words_aft
 use Rattle.chip_world.proofs.WordLemmas.{words_shown, read_shown}
 use Rattle.chip_part.specs.declared.act.Act.TheVariants as Do
 
--- an operation that was given is needed, and every rule is met
+-- an operation that was returned is the event's, and every rule is met
 given : (o : Option Rule) (needed act : Act) → Ok act ≡ verdict o needed → (o ≡ None) × (needed ≡ act)
 given None needed act is = (refl, cc)
 given (Some rule) needed act is = absurd (cc)
 
--- a rule that was given is the first that isn't met
+-- a rule that was returned is the first unmet one
 withheld : (o : Option Rule) (needed : Act) (rule : Rule) → ◌≡◌ {A = Result Act Rule} (Err rule) (verdict o needed)
     → o ≡ Some rule
 withheld None needed rule is = absurd (cc)
@@ -37,7 +37,7 @@ module _ (g : Setting) (log : Log) (w : WorldState) (stands : StandsForLog g log
       → StandsForLog g (step g log x).0 w × (NotNow rule ≡ (step g log x).1)
   refuses x rule is = rw is (stands, refl)
 
-  -- the rules are met, and the world is that of the longer log
+  -- the rules are met, and the world is that of the extended log
   pub accepts : (x : Event) (new : WorldState) (reply : Reply) → unmet_rule g x (part_in g log (part_of g x)) ≡ None
       → StandsForLog g (saw x (sees g log x) ∷ log) new
       → reply ≡ reply_of g x (sees g log x) (part_in g log (part_of g x))
@@ -54,7 +54,7 @@ module _ (g : Setting) (log : Log) (w : WorldState) (stands : StandsForLog g log
     stands = rw (part_else g x log v (λ z. absurd (omega arith))) (stands.actors v l d).stands;
   }
 
-  -- the same world but for its words and its root
+  -- the same world except for its words and its root
   others_stay : (x : Step) → g.game.graph.vertices ≤ part_of g x.event → FitsLog g log x
       → (words : List EdgeState) (now : Root) → length words ≡ all_edges g
       → ((e : ℕ) → e < all_edges g → (d : EdgeState) → ShowsEdge g (x ∷ log) e (get_or words e d))
@@ -102,7 +102,7 @@ module _ (g : Setting) (log : Log) (w : WorldState) (stands : StandsForLog g log
     at_root End mine met = refl
     at_root _ mine met = absurd (cc)
 
-    -- its rules are asked of the root's part
+    -- its rules are those of the root's part
     root_unmet : (y : Event) → is_of_root g y ≡ true
         → unmet_rule g y (part_in g log (part_of g y)) ≡ unmet_rule g y rooted
     root_unmet (Clear e) mine = rw (tail_root g e (leb-true (graph_edges g) e mine))
@@ -114,7 +114,7 @@ module _ (g : Setting) (log : Log) (w : WorldState) (stands : StandsForLog g log
     root_unmet End mine = refl
     root_unmet _ mine = absurd (cc)
 
-    -- the root's rule that isn't met is the core's
+    -- the root's unmet rule is the core's
     pub root_refuses : (rule : Rule) → WhateverRoot w.root (λ g s. is_of_root g x ≡ true
         → ◌≡◌ {A = Result Act Rule} (Err rule) (verdict (unmet_rule g x s) (act_of g x s)))
         → StandsForLog g (step g log x).0 w × (NotNow rule ≡ (step g log x).1)

@@ -1,6 +1,6 @@
 -- Serves SharedWords.antt, TurnWords.antt.
--- The words of a turn as a medium: each operation finds its word, sees what the core says, and leaves the words of the
--- longer log.
+-- The words of a turn as a medium: each operation finds its word, sees what the core's event sees, and leaves the words
+-- of the extended log.
 use Rattle.chip_world.proofs.Names.{◌≡◌, ℕ, ◌+◌, ◌^◌, ◌<◌, ◌≤◌, Bool, true, false, Option}
 use Rattle.chip_world.proofs.Names.{Some, None, is_some, sym, ◌∙◌, arith, bit_or, fired_word, adds_firings}
 use Rattle.chip_world.proofs.Names.{halts_word, halts_by_limit, Setting, Act, Cause, cause, is_by_limit, SealedEdge}
@@ -43,7 +43,7 @@ module _ (w : TurnWords) (g : Setting) (v : ℕ) (log : Log) (s : Part) (held : 
       (sees_words g held.is_setting.game held.is_setting.some_ring log held.legal w.words held.words_each held.words
       w.fired x (rw (due.mine, ← held.part_is) held.fired_is) own met)
 
-  -- what is seen fits
+  -- what is seen is within the limits
   fits : (seen : ℕ) → seen ≡ sees g log x → FitsSeen s x seen
   fits seen is = rw is (rw (due.mine, ← held.part_is) at (fits_seen g held.is_setting.game held.is_setting.some_ring log
       held.legal x (rw due.mine held.inside) met))
@@ -72,7 +72,7 @@ module _ (w : TurnWords) (g : Setting) (v : ℕ) (log : Log) (s : Part) (held : 
         };
       }
 
--- a word can be found in whatever words of a turn they are
+-- a word can be found in all words of a turn that have it
 pub finds_some : (w : TurnWords) (act : Act) → MayServe (WordsHold w) act → CanPerform act w.words
 finds_some w act (g, v, log, s, held, due) = finds w g v log s held act due
 

@@ -1,6 +1,6 @@
 -- Serves SharedWords.antt.
--- The shared words of a world by its log: what an operation sees in them is what the core says, and what it leaves
--- shows the longer log.
+-- The shared words of a world by its log: an operation sees in them what the core's event sees, and leaves words that
+-- show the extended log.
 use Rattle.chip_world.proofs.Names.{◌≡◌, ◌≢◌, ℕ, ◌+◌, ◌-◌, ◌%◌, ◌^◌, ◌<◌, true, cond, eqb, List, ◌∷◌, length, sum}
 use Rattle.chip_world.proofs.Names.{get_or, None, option_to_list, refl, sym, ap, arith, ⊎_elim, length-set}
 use Rattle.chip_world.proofs.Names.{get_or-set_same, get_or-set_other, bit_or, mod_below, get_or_default}
@@ -31,13 +31,13 @@ module _ (words : List EdgeState) (e : ℕ) (f : EdgeState → EdgeState) where
   others_stay : (i : ℕ) → i ≢ e → words_of (with_edge e f words) i ≡ words_of words i
   others_stay i other = get_or-set_other words e i (f (words_of words e)) no_words other
 
-  -- what the change leaves is as it was on every edge
+  -- the change leaves every other edge unchanged
   stays : {A : Type 0} (part : EdgeState → A) → e < length words → part (f (words_of words e)) ≡ part (words_of words e)
       → (i : ℕ) → part (words_of (with_edge e f words) i) ≡ part (words_of words i)
   stays part l same i = dite (ℕ_discrete i e)
       (λ z. rw (z, here_changed l) same) (λ z. ap part (others_stay i z))
 
--- one word is changed, and every other is as it was
+-- one word is changed, and every other is unchanged
 module _ (words : List EdgeState) (fired : ℕ → ℕ) where
   edge_else : (e n : ℕ) → e < length words → (w : Word) → w ≢ of_edge e
       → value_of (with_edge e (λ s. record s { word = n }) words) fired w ≡ value_of words fired w
@@ -89,7 +89,7 @@ module _ (g : Setting) (game : IsGame g.game) (some_ring : 0 < g.ring) (log : Lo
     has_cell : (e p : ℕ) → e < all_edges g → HasCell words e (p % g.ring)
     has_cell e p l = (omega arith, (let a = (at e l).cells_each in let b = mod_below p g.ring some_ring in omega arith))
 
-    -- the rules that are met, in plain facts
+    -- the meaning of the rules that are met
     met_for : (x : Event) → unmet_rule g x (part_in g log (part_of g x)) ≡ None → Met g x (part_in g log (part_of g x))
     met_for x none = rules_met g x (part_in g log (part_of g x)) none
 
@@ -104,7 +104,7 @@ module _ (g : Setting) (game : IsGame g.game) (some_ring : 0 < g.ring) (log : Lo
       fired = λ v l. refl;
     }
 
-    -- an operation whose rules are met finds its words
+    -- an enabled operation finds its words
     pub can_perform : (x : Event) → is_by_act x ≡ true → unmet_rule g x (part_in g log (part_of g x)) ≡ None
         → CanPerform (act_of g x (part_in g log (part_of g x))) words
     can_perform (Take e) mine none = has_cell e (length (into_in g log e).got) (met_for (Take e) none)
@@ -139,7 +139,7 @@ module _ (g : Setting) (game : IsGame g.game) (some_ring : 0 < g.ring) (log : Lo
     found_there own (Read v) is mine = absurd (cc)
     found_there own _ is mine = refl
 
-    -- so it sees in them what the parts have made of them
+    -- so it sees the words as the parts left them
     pub sees_words : (own : ℕ) (x : Event) → own ≡ fired (part_of g x)
         → is_by_act x ≡ true → unmet_rule g x (part_in g log (part_of g x)) ≡ None
         → seen_in (act_of g x (part_in g log (part_of g x))) own words ≡ sees g log x
@@ -164,14 +164,14 @@ module _ (g : Setting) (game : IsGame g.game) (some_ring : 0 < g.ring) (log : Lo
     root_sees_words x own mine none =
         rw (own_unseen 0 (fired (part_of g x)) x own) (sees_words (fired (part_of g x)) x refl mine none)
 
-    -- what an event leaves, if its rules are met
+    -- what an enabled event leaves
     record Leaves (x : Event) (new : List EdgeState) : Type 0 where
       words_stay : length new ≡ length words
       cells_stay : (i : ℕ) → length (words_of new i).cells ≡ length (words_of words i).cells
       fired_then : ℕ → ℕ
       left : IsLeft g log x (value_of words fired) (value_of new fired_then)
 
-    -- it shows the longer log
+    -- it shows the extended log
     shows_left : (x : Event) → unmet_rule g x (part_in g log (part_of g x)) ≡ None → (new : List EdgeState)
         → Leaves x new
         → (e : ℕ) → e < all_edges g → (d : EdgeState)
@@ -304,6 +304,6 @@ module _ (g : Setting) (game : IsGame g.game) (some_ring : 0 < g.ring) (log : Lo
     pub sees_seal : (e : ℕ) → e < graph_edges g → (words_of words e).word ≡ sees g log (Seal e)
     sees_seal e inside = (at e (omega arith)).shows.word_is
 
-    -- the numbers that the words tell
+    -- the numbers in the words
     pub claims_told : (e : ℕ) → e < all_edges g → claims_in (words_of words e).word ≡ claims_of (out_in g log e).link
     claims_told e l = rw ((at e l).shows.word_is) ((words_read g game some_ring log legal).claims e)

@@ -1,4 +1,4 @@
--- How many rounds surely close a game.
+-- A number of rounds that closes a game.
 use Rattle.std.specs.Prelude.{◌≡◌, ℕ, ◌+◌, ◌*◌, ◌≤◌, length, sum, min}
 use Rattle.chip_graph.specs.ChipGame.{ChipGame}
 use Rattle.chip_sequence.specs.Bound.{fires_at_distance, IsGreatestDistance}
@@ -11,17 +11,17 @@ use Rattle.chip_world.specs.World.{WorldState, WhateverLog}
 use Rattle.chip_world.specs.declared.world.driving.Drive.{Drive}
 use Rattle.chip_world.specs.declared.world.driving.Drive.TheVariants.{Closed}
 
--- one more than the steps that can count, if no vertex is further than so from the sink: each vertex fires no more
--- often than the limit and its distance allow, each firing makes one message an edge, with five steps, and so does
--- each chip that the root sends; each vertex may halt
+-- one more than the steps that can count, if no vertex is further than this from the sink: the limit and the distance
+-- bound the firings of each vertex, each firing makes one message an edge, with five steps, and so does each chip that
+-- the root sends; each vertex may halt
 abbrev pub rounds_to_close : ChipGame → ℕ → ℕ
 rounds_to_close game distance =
     (game.graph.vertices + 5 * length game.graph.edges)
     * min game.limit (fires_at_distance game.graph (sum game.start) distance)
     + 5 * sum game.start + game.graph.vertices + 1
 
--- once the end is noted and no message of the root is claimed and not put, as many rounds as `rounds_to_close` of the
--- game with all that was given close the root
+-- once the end is noted and no message of the root is claimed and not put, `rounds_to_close` rounds of the game with
+-- all that was given close the root
 abbrev pub ClosesIn : WorldState → ℕ → Drive → Type 0
 ClosesIn old rounds result = WhateverLog old (λ g before. HasEnd g before → RootHasPut g before → (distance : ℕ)
     → IsGreatestDistance g.game.graph distance → rounds_to_close (played_game g before) distance ≤ rounds

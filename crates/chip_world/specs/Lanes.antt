@@ -1,8 +1,8 @@
--- Lists of messages by edges.
+-- Lists of messages by edge.
 use Rattle.std.specs.Prelude.{ℕ, List, [], ◌∷◌, ◌++◌, slice_index_or, slice_set}
 use Rattle.chip_link.specs.declared.message.Message.{Message}
 
--- the messages of an edge, and for how many there is room
+-- the messages of an edge, and the number that there is room for
 pub record Lane : Type 0 where
   pub messages : List Message
   pub capacity : ℕ

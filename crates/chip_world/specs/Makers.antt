@@ -1,4 +1,4 @@
--- Which vertex makes an event.
+-- The vertex that makes an event.
 use Rattle.std.specs.Prelude.{ℕ, Bool, true, false, nat_lt, if◌then◌else◌, Option, Some, None}
 use Rattle.chip_part.specs.Setting.{Setting}
 use Rattle.chip_part.specs.Edges.{graph_edges, head_if, tail_if}
@@ -9,7 +9,7 @@ use Rattle.chip_part.specs.Rules.{Take, Ack, Fire, Clear, Claim, Put, Halt, Sett
 abbrev pub vertex_if : Setting → ℕ → Option ℕ
 vertex_if g v = if nat_lt v g.game.graph.vertices then Some v else None
 
--- an edge behind the graph's
+-- an edge after the graph's
 abbrev pub is_root_edge : Setting → ℕ → Bool
 is_root_edge g e = if nat_lt e (graph_edges g) then false else true
 
@@ -31,7 +31,7 @@ is_by_act (Seal e) = false
 is_by_act (Read v) = false
 is_by_act _ = true
 
--- the vertex that makes an event, if the event names an edge or a vertex that is there
+-- the vertex that makes an event, if the event names an existing edge or vertex
 abbrev pub vertex_of : Setting → Event → Option ℕ
 vertex_of g (Take e) = head_if g e
 vertex_of g (Ack e) = head_if g e

@@ -10,7 +10,7 @@ use Rattle.chip_world.specs.World.{WorldState, StandsForLog, WhateverLog}
 use Rattle.chip_world.specs.declared.world.driving.Drive.{Drive}
 use Rattle.chip_world.specs.declared.world.driving.Drive.TheVariants.{Closed, Unfinished}
 
--- a whole turn of v: its operations, of which the first stands in front, are made one after another
+-- a whole turn of v: its operations, the first one first, are made in order
 pub record IsTurnAfter (g : Setting) (v : ℕ) (before after : Log) : Type 0 where
   pub operations : List Step
   pub are_turn : IsTurn g v (part_in g before v) operations
@@ -39,13 +39,13 @@ IsWorldRound g before after = (between : Log) × AreTurns g g.game.graph.vertice
 abbrev pub IsRootOpen : Setting → Log → Type 0
 IsRootOpen g log = IsClosed g log → ⊥
 
--- n rounds one after another, the root open before each of them
+-- n rounds in order, the root open before each of them
 abbrev pub AreOpenRounds : Setting → ℕ → Log → Log → Type 0
 AreOpenRounds g zero before after = after ≡ before
 AreOpenRounds g (suc n) before after = (between : Log) × AreOpenRounds g n before between × IsRootOpen g between
     × IsWorldRound g between after
 
--- what a drive answers after `count` of its rounds: the root is closed; or all of them are made and it is open still
+-- what a drive returns after `count` of its rounds: the root is closed; or all are made and it is still open
 abbrev pub AnswersDrive : Setting → ℕ → ℕ → Log → Drive → Type 0
 AnswersDrive g rounds count after Closed = IsClosed g after
 AnswersDrive g rounds count after (Unfinished n) = (n ≡ rounds) × (count ≡ rounds) × IsRootOpen g after
@@ -57,17 +57,17 @@ pub record IsDrive (g : Setting) (rounds : ℕ) (before after : Log) (result : D
   pub are_rounds : AreOpenRounds g count before after
   pub answers : AnswersDrive g rounds count after result
 
--- whatever log the old world stands for, the new one stands for a log that comes after it so
+-- whatever log the old world represents, the new one represents a log that follows it in this way
 abbrev pub LeadsWorld : WorldState → WorldState → (Setting → Log → Log → Type 0) → Type 0
 LeadsWorld old new Follows = WhateverLog old (λ g before. (after : Log) × StandsForLog g after new × Follows g before after)
 
--- no drive from there ends otherwise: the new world stands for the log after it, and this is its answer
+-- no drive from there ends otherwise: the new world represents the log after it, and this is its result
 abbrev pub NoOtherDrive : WorldState → WorldState → ℕ → Drive → Type 0
 NoOtherDrive old new rounds result = WhateverLog old (λ g before. (after : Log) (answer : Drive)
     → IsDrive g rounds before after answer → StandsForLog g after new × (answer ≡ result))
 
--- once the end is noted and no message of the root is claimed and not put, more rounds than steps can count close the
--- root
+-- once the end is noted and no message of the root is claimed and not put, more rounds than the number of steps that
+-- can count close the root
 abbrev pub ClosesBy : WorldState → ℕ → Drive → Type 0
 ClosesBy old rounds result = WhateverLog old (λ g before. HasEnd g before → RootHasPut g before → (fired : ℕ → ℕ)
     → AreFiringBounds g before fired → steps_at_most g.game (length (fed_so_far g before)) fired < rounds

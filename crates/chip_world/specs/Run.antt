@@ -1,4 +1,4 @@
--- A run of a list of events, on its way.
+-- A run of a list of events, in progress.
 use Rattle.std.specs.Prelude.{◌≡◌, ℕ, ◌+◌, ◌*◌, ◌<◌, ◌≤◌, ◌==◌, if◌then◌else◌, Bool, false, List, [], ◌∷◌, ◌++◌, length}
 use Rattle.std.specs.Prelude.{map, slice_index, slice_index_or, Option, Some, None}
 use Rattle.std.specs.Vec.{vec_len, vec_capacity}
@@ -37,18 +37,18 @@ is_claim_of e x = is_edge e (claimed_edge x)
 abbrev pub is_take_of : ℕ → Event → Bool
 is_take_of e x = is_edge e (taken_edge x)
 
--- how many of these events are
+-- the number of these events on this edge
 abbrev pub count_among : (Event → Bool) → List Event → ℕ
 count_among test [] = 0
 count_among test (x ∷ xs) = (if test x then 1 else 0) + count_among test xs
 
--- these counts are those of the events of each edge
+-- these counts are those of the events on each edge
 pub record Counts (test : ℕ → Event → Bool) (edges : ℕ) (xs : List Event) (counts : List ℕ) : Type 0 where
   pub count_is : length counts ≡ edges
   pub each : (e : ℕ) → e < edges → slice_index counts e ≡ count_among (test e) xs
   pub few : (e : ℕ) → e < edges → slice_index counts e ≤ length xs
 
--- one more is counted for this edge, if it is there
+-- the count of this edge is one more, if it is there
 abbrev pub CountsMore : Option ℕ → List ℕ → List ℕ → Type 0
 CountsMore edge old new = (length new ≡ length old)
     × ((e : ℕ) → e < length old → slice_index new e ≡ slice_index old e + (if is_edge e edge then 1 else 0))
@@ -63,7 +63,7 @@ abbrev pub delivered_after : Event → Reply → List Lane → List Lane
 delivered_after (Take e) (Got message) lanes = with_message e message lanes
 delivered_after _ _ lanes = lanes
 
--- a message that was sent, or delivered, is of an edge below `edges`
+-- a message that was sent, or delivered, is of an edge less than `edges`
 abbrev pub SentOnEdge : Event → Reply → ℕ → Type 0
 SentOnEdge (Claim e) (Sent message) edges = e < edges
 SentOnEdge (Feed e k) (Sent message) edges = e < edges
@@ -73,27 +73,27 @@ abbrev pub GotOnEdge : Event → Reply → ℕ → Type 0
 GotOnEdge (Take e) (Got message) edges = e < edges
 GotOnEdge _ _ edges = Unit {0}
 
--- room for each message of these events that may come
+-- there is room for each message that these events may add
 abbrev pub HasRoomForEvents : (ℕ → Event → Bool) → List Event → List Lane → Type 0
 HasRoomForEvents test xs lanes = (e : ℕ) → e < length lanes
     → length (lane_at lanes e).messages + count_among (test e) xs ≤ (lane_at lanes e).capacity
 
--- a list that opens: such messages, with room for `room` more
+-- a list at the start: these messages, with room for `room` more
 abbrev pub IsOpenedLane : (List Message → Type 0) → ℕ → Lane → Type 0
 IsOpenedLane P room lane = P lane.messages × (length lane.messages + room ≤ lane.capacity)
 
--- room for all that these events bring
+-- there is room for all that these events add
 pub record HasRooms (xs : List Event) (n : Notes) : Type 0 where
   pub replies : vec_len n.replies + length xs ≤ vec_capacity n.replies
   pub sent : HasRoomForEvents is_claim_of xs n.sent
   pub delivered : HasRoomForEvents is_take_of xs n.delivered
 
--- of each edge, all messages are those that are listed, and then the rest
+-- for each edge, all messages are those listed, and then the rest
 pub record AreAllListed (edges : ℕ) (all : ℕ → List Message) (lanes : List Lane) (rest : ℕ → List Message) : Type 0 where
   pub count_is : length lanes ≡ edges
   pub each : (e : ℕ) → e < edges → all e ≡ (lane_at lanes e).messages ++ rest e
 
--- of the events xs, asked for after the log, these are left, asked for after the log `now`, and the rest is noted
+-- of the events xs, run from the log, these are left to run from the log `now`, and the others are recorded
 pub record IsNotedUpTo (g : Setting) (log : Log) (xs : List Event) (now : Log) (left : List Event)
     (n : Notes) : Type 0 where
   pub after : log_after g log xs ≡ log_after g now left
@@ -102,8 +102,8 @@ pub record IsNotedUpTo (g : Setting) (log : Log) (xs : List Event) (now : Log) (
   pub delivered : AreAllListed (all_edges g) (delivered_on g log xs) n.delivered
       (λ e. delivered_in e left (replies_to g now left))
 
--- the record of the run of xs after this log: the replies; and of each edge, what was in flight before it and what it
--- sent, and what it delivered
+-- the record of the run of xs after this log: the replies; and for each edge, what was in flight before and what was
+-- sent, and what was delivered
 pub record IsRecordOf (g : Setting) (log : Log) (xs : List Event) (replies : List Reply)
     (sent delivered : List (List Message)) : Type 0 where
   pub replies_are : replies ≡ replies_to g log xs
@@ -112,14 +112,14 @@ pub record IsRecordOf (g : Setting) (log : Log) (xs : List Event) (replies : Lis
   pub delivered_each : length delivered ≡ all_edges g
   pub delivered_on_edge : (e : ℕ) → e < all_edges g → slice_index_or delivered e [] ≡ delivered_on g log xs e
 
--- in a run from the opening, what is held on an edge of the graph and the chips in what was sent are what the firings
--- of its tail made
+-- in a run from the opening, the chips held on an edge of the graph and those sent are what the firings of its tail
+-- made
 abbrev pub IsHeldByReplies : Setting → Log → List Event → List Reply → Type 0
 IsHeldByReplies g after xs replies =
     (e : ℕ) → e < graph_edges g
     → chips_in (sent_in e xs replies) + held g after e ≡ mult_of g e * fired_by g after (tail_of g e)
 
--- the world ran xs: it stands for the log after them, this is the record, and the core theorem holds of the run
+-- the world ran xs: it represents the log after them, this is the record, and the core theorem holds of the run
 pub record RunsEvents (g : Setting) (log : Log) (xs : List Event) (new : WorldState) (r : Record) : Type 0 where
   pub world : StandsForLog g (log_after g log xs) new
   pub recorded : IsRecordOf g log xs r.replies.items (map (λ t. t.items) r.sent.items)

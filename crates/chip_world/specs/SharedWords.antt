@@ -1,11 +1,11 @@
--- The words that the ends of an edge share, and what an operation on them sees and leaves.
+-- The words that the ends of an edge share, and the result and effect of an operation on them.
 use Rattle.std.specs.Prelude.{ℕ, ◌+◌, ◌^◌, ◌<◌, ◌==◌, if◌then◌else◌, List, [], length, replicate, slice_index}
 use Rattle.std.specs.Prelude.{slice_index_or, slice_set, bit_or}
 use Rattle.chip_link.specs.Words.{word_after_exchange}
 use Rattle.chip_part.specs.declared.act.Act.{Act}
 use Rattle.chip_part.specs.declared.act.Act.TheVariants as Do
 
--- the words of one edge: the edge word, how many of its messages were acknowledged, and its ring of cells
+-- the words of one edge: the edge word, the number of its acknowledged messages, and its ring of cells
 pub record EdgeState : Type 0 where
   pub word : ℕ
   pub acknowledged : ℕ
@@ -19,7 +19,7 @@ no_words = record { word = 0; acknowledged = 0; cells = [] }
 abbrev pub words_of : List EdgeState → ℕ → EdgeState
 words_of words e = slice_index_or words e no_words
 
--- what stands in a cell of an edge
+-- the contents of a cell of an edge
 abbrev pub cell_of : List EdgeState → ℕ → ℕ → ℕ
 cell_of words e cell = slice_index (words_of words e).cells cell
 
@@ -39,11 +39,11 @@ with_acks count w = record w { acknowledged = w.acknowledged + count }
 abbrev pub with_seal : EdgeState → EdgeState
 with_seal w = record w { word = bit_or w.word (2 ^ 63) }
 
--- the words of one edge are changed so
+-- the words of one edge are changed in this way
 abbrev pub with_edge : ℕ → (EdgeState → EdgeState) → List EdgeState → List EdgeState
 with_edge e f words = slice_set words e (f (words_of words e))
 
--- the words of an edge that opens with a message of `chips` chips, or with none if that is 0
+-- the words of an edge that opens with a message of `chips` chips, or without one if that is 0
 abbrev pub opening_words : ℕ → ℕ → EdgeState
 opening_words ring chips = record {
   word = if chips == 0 then 0 else 1;
@@ -51,7 +51,7 @@ opening_words ring chips = record {
   cells = slice_set (replicate ring 0) 0 chips;
 }
 
--- what an operation finds. A fired word is kept by its vertex alone, and given here; a store finds nothing
+-- what an operation finds. A fired word is kept only by its vertex, and is an argument here; a store finds nothing
 abbrev pub seen_in : Act → ℕ → List EdgeState → ℕ
 seen_in (Do.Take e cell) fired words = cell_of words e cell
 seen_in (Do.Settle e) fired words = (words_of words e).acknowledged
@@ -75,7 +75,7 @@ words_after _ words = words
 abbrev pub HasCell : List EdgeState → ℕ → ℕ → Type 0
 HasCell words e cell = (e < length words) × (cell < length (words_of words e).cells)
 
--- the words of an operation are there, and a sum fits
+-- the words of an operation exist, and a sum fits
 abbrev pub CanPerform : Act → List EdgeState → Type 0
 CanPerform (Do.Take e cell) words = HasCell words e cell
 CanPerform (Do.Settle e) words = e < length words

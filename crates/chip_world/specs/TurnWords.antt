@@ -1,4 +1,4 @@
--- What the words of a turn show: the words of all edges, and the fired word of the vertex whose turn it is.
+-- The words of a turn: those of all edges, and the fired word of the vertex whose turn it is.
 use Rattle.std.specs.Prelude.{◌≡◌, ℕ, ◌<◌, length, slice_index_or}
 pub use Rattle.chip_world.specs.declared.turn_words.TurnWords.{TurnWords}
 use Rattle.chip_part.specs.Setting.{Setting, IsSetting}
@@ -6,7 +6,7 @@ use Rattle.chip_core.specs.Core.{Log, Part, part_in, word_of_part, all_edges, Is
 use Rattle.chip_world.specs.SharedWords.{EdgeState}
 use Rattle.chip_world.specs.World.{ShowsEdge}
 
--- they are what this log makes of them, and it leaves this part of the vertex v
+-- they are the words after this log, and this is the part of the vertex v after it
 pub record WordsHold (w : TurnWords) (g : Setting) (v : ℕ) (log : Log) (s : Part) : Type 0 where
   pub inside : v < g.game.graph.vertices
   pub is_setting : IsSetting g

@@ -12,8 +12,8 @@ use Rattle.chip_world.specs.Enough.{rounds_to_close}
 abbrev pub TriangleRootEdges : Type 0
 TriangleRootEdges = root_settles (small_triangle (4 ∷ 0 ∷ 0 ∷ [])) 3 ≡ Settle 4 ∷ Settle 5 ∷ Settle 6 ∷ []
 
--- the triangle with four chips surely closes in 116 rounds: no vertex is further than 1 from the sink, so that none fires
--- more than four times: (3 + 5 * 4) * 4 + 5 * 4 + 3 + 1
+-- 116 rounds close the triangle with four chips: no vertex is further than 1 from the sink, so that none fires more
+-- than four times: (3 + 5 * 4) * 4 + 5 * 4 + 3 + 1
 abbrev pub TriangleRounds : Type 0
 TriangleRounds = rounds_to_close (small_triangle (4 ∷ 0 ∷ 0 ∷ [])).game 1 ≡ 116
 
@@ -26,6 +26,6 @@ lone_sink =
 abbrev pub OneRoundCloses : Type 0
 OneRoundCloses = IsDrive lone_sink 10 [] (saw (Settle 0) 1 ∷ saw (Ack 0) 0 ∷ saw (Take 0) 5 ∷ []) Closed
 
--- no round is made if none is asked for
+-- a drive of 0 rounds makes none
 abbrev pub NoRoundLeavesOpen : Type 0
 NoRoundLeavesOpen = IsDrive lone_sink 0 [] [] (Unfinished 0)

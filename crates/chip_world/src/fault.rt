@@ -14,7 +14,7 @@ pub enum WorldFault {
 impl WorldFault {
     ghost use Rattle.std.specs.Prelude.{◌≡◌};
 
-    /// The fault's number, as the program's table of faults has it.
+    /// The fault's number in the program's table of faults.
     pub fn number(&self) -> u64
         ensures not_closed { self.now ≡ WorldFault.NotClosed → result ≡ 42 }
         ensures no_memory { self.now ≡ WorldFault.NoMemory → result ≡ 90 }

@@ -5,7 +5,7 @@ use chip_link::Message;
 use std::alloc::{AllocError, Global};
 use std::marker::Model;
 
-/// Messages by edges, with the room that was reserved for them.
+/// Lists of messages by edge, with reserved room for them.
 #[derive(Drop)]
 pub(crate) struct Lanes {
     lists: Vec<Vec<Message>>,
@@ -24,7 +24,7 @@ impl Model for Lanes {
 impl Lanes {
     ghost use Rattle.chip_world.specs.Lanes.{lane_at, with_message};
 
-    /// No edge yet.
+    /// No edges yet.
     pub(crate) fn new(alloc: Global) -> Lanes
         ensures { result ≡ [] }
     {
@@ -33,7 +33,7 @@ impl Lanes {
         }
     }
 
-    /// One more edge, with these messages.
+    /// Appends an edge with these messages.
     pub(crate) fn add(&mut self, messages: Vec<Message>) -> Result<(), AllocError>
         ensures { IfOk result (λ _. self.new ≡ self.old
             ++ record { messages = messages.items; capacity = vec_capacity messages } ∷ []) }
@@ -42,7 +42,7 @@ impl Lanes {
         Ok(())
     }
 
-    /// One more message of an edge, for which there is room.
+    /// Appends a message of an edge, for which there is room.
     pub(crate) fn push(&mut self, edge: u64, message: Message)
         requires edge { edge < length self.old }
         requires room { length (lane_at self.old edge).messages < (lane_at self.old edge).capacity }

@@ -1,4 +1,4 @@
-//! Laws of drives: functions that do nothing, whose contracts are the laws.
+//! Theorems on drives, as the contracts of functions that do nothing.
 
 ghost use Rattle.chip_world.specs.Enough.{EndIsNoted};
 ghost use Rattle.chip_world.specs.Worked.{TriangleRootEdges, TriangleRounds, OneRoundCloses, NoRoundLeavesOpen};

@@ -1,8 +1,8 @@
 //! The whole core of the machine, run on one thread.
 //!
-//! A `World` is a game with an actor for each vertex, the words that the ends of its edges share, and what the root
-//! keeps. It is asked one event after another, and each contract says what it does to the log of the core
-//! (`specs/World.antt`) that it stands for.
+//! A `World` is a game with an actor for each vertex, the words that the ends of its edges share, and the root's
+//! counters. It makes one event per call, and each contract states the effect on the log of the core that it represents
+//! (`specs/World.antt`).
 #![tactic(auto)]
 
 mod fault;

@@ -2,8 +2,8 @@ use crate::words::Words;
 use chip_actor::Medium;
 use chip_link::FiredWord;
 
-/// The shared words as the vertex whose turn it is finds them: those of all edges, and its own fired word. A net keeps
-/// that word among them; here its actor alone knows it, and it is noted when the turn begins.
+/// The shared words for the vertex whose turn it is: those of all edges, and its own fired word. In a net that word is
+/// one of the shared ones; here only its actor knows it, and it is copied when the turn begins.
 #[derive(Drop)]
 pub(crate) struct TurnWords {
     pub(crate) words: Words,

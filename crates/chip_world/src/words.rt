@@ -8,7 +8,7 @@ use chip_part::{Act, Setting};
 use std::alloc::{AllocError, Global};
 use std::marker::Model;
 
-/// The shared words of one edge, as a net has them: the edge word, the word of acknowledgements and the ring of cells.
+/// The shared words of one edge, as in a net: the edge word, the word of acknowledgements and the ring of cells.
 #[derive(Drop)]
 pub(crate) struct EdgeWords {
     word: u64,
@@ -27,7 +27,7 @@ impl Model for EdgeWords {
 impl EdgeWords {
     ghost use Rattle.chip_world.specs.SharedWords.{opening_words};
 
-    /// The words of an edge that opens with a message of `chips` chips, or with none if that is 0.
+    /// The words of an edge that opens with a message of `chips` chips, or without one if that is 0.
     fn new(alloc: Global, ring: Ring, chips: u64) -> Result<EdgeWords, AllocError>
         ensures { IfOk result (λ edge. edge ≡ opening_words ring chips) }
     {
@@ -41,7 +41,7 @@ impl EdgeWords {
     }
 }
 
-/// The shared words of all edges, the root edges behind the graph's.
+/// The shared words of all edges, the root edges after the graph's.
 #[derive(Drop)]
 pub(crate) struct Words {
     edges: Vec<EdgeWords>,
@@ -77,7 +77,7 @@ impl Words {
         Ok(Words { edges })
     }
 
-    /// Makes an operation of the root, which is on no fired word, and gives the word that it found, or 0 of a store.
+    /// Makes an operation of the root, which uses no fired word; returns the word it found, 0 for a store.
     pub(crate) fn perform(&mut self, act: Act) -> u64
         requires { CanPerform act self.old }
         ensures seen { result ≡ seen_in act 0 self.old }
@@ -101,7 +101,7 @@ impl Words {
         }
     }
 
-    /// Swaps a cell of an edge with 0, and gives what was there.
+    /// Swaps a cell of an edge with 0; returns the old value.
     pub(crate) fn take(&mut self, edge: u64, cell: u64) -> u64
         requires { HasCell self.old edge cell }
         ensures seen { result ≡ cell_of self.old edge cell }
@@ -121,7 +121,7 @@ impl Words {
         self.edges[edge as usize].cells[cell as usize] = value;
     }
 
-    /// One try to put `new` in the place of `expected` in the edge word; the word that was there.
+    /// Tries once to exchange the edge word for `new` if it is `expected`; returns the old word.
     pub(crate) fn exchange(&mut self, edge: u64, expected: u64, new: u64) -> u64
         requires { edge < length self.old }
         ensures seen { result ≡ (words_of self.old edge).word }
@@ -135,7 +135,7 @@ impl Words {
         word
     }
 
-    /// Adds to the word of acknowledgements of an edge, and gives the word that was there.
+    /// Adds to the word of acknowledgements of an edge; returns the old word.
     pub(crate) fn acknowledge(&mut self, edge: u64, count: u64) -> u64
         requires edge { edge < length self.old }
         requires room { (words_of self.old edge).acknowledged + count < 2 ^ 64 }
@@ -148,7 +148,7 @@ impl Words {
         before
     }
 
-    /// Seals an edge, and gives the edge word that was there.
+    /// Seals an edge; returns the old edge word.
     pub(crate) fn seal(&mut self, edge: u64) -> u64
         requires { edge < length self.old }
         ensures seen { result ≡ (words_of self.old edge).word }
@@ -188,7 +188,7 @@ impl Words {
 ghost use Rattle.chip_graph.specs.Edges;
 ghost use Rattle.chip_world.specs.World.{first_chips};
 
-/// The chips with which an edge opens: on a root edge those that its vertex starts with.
+/// The chips on an edge at the opening: on a root edge those its vertex starts with.
 fn first_chips(game: &Game, edge: u64) -> u64
     requires { edge < Edges.edges_and_roots game.now.graph }
     ensures { result ≡ first_chips game.now edge }

@@ -19,7 +19,7 @@ use std::marker::Model;
 
 /// A whole game in play: the core of the machine on one thread.
 ///
-/// Contracts see it as plain data (`specs/World.antt`) and say what it does to the log of the core that it stands for.
+/// Contracts see it as plain data (`specs/World.antt`), and state the effect on the log of the core that it represents.
 #[derive(Drop)]
 pub struct World {
     setting: Setting,
@@ -63,7 +63,7 @@ impl World {
     ghost use Rattle.chip_world.specs.World.{Steps};
     ghost use Rattle.chip_link.specs.declared.event.Event.TheVariants.{Seal, Settle, Read};
 
-    /// A game that opens: no vertex has chips yet, and those that it starts with are on its root edge. Nothing can be fed.
+    /// Opens a game: no vertex has chips yet, and its starting chips are on its root edge. Nothing can be fed.
     pub fn open(alloc: Global, game: &Game, ring: u64) -> Result<World, AllocError>
         requires { IsRing ring }
         ensures { IfOk result (StandsForLog (setting_of game.now ring) []) }
@@ -71,7 +71,7 @@ impl World {
         World::of(alloc, Setting::of_copy(alloc, game, Ring::of(ring), false)?)
     }
 
-    /// The same if the root may feed more chips, until it notes the end of feeding.
+    /// Opens a game whose root may feed more chips, until it notes the end of feeding.
     pub fn open_fed(alloc: Global, game: &Game, ring: u64) -> Result<World, AllocError>
         requires { IsRing ring }
         ensures { IfOk result (StandsForLog (setting_with game.now ring true) []) }
@@ -79,7 +79,7 @@ impl World {
         World::of(alloc, Setting::of_copy(alloc, game, Ring::of(ring), true)?)
     }
 
-    /// A game that opens, set up so. If no chips are fed, the end of feeding is noted from the beginning.
+    /// Opens a game in this setting. If it is not fed, the end of feeding is noted from the start.
     pub fn of(alloc: Global, setting: Setting) -> Result<World, AllocError>
         ensures { IfOk result (StandsForLog setting []) }
     {
@@ -94,7 +94,7 @@ impl World {
         })
     }
 
-    /// How the game is set up, of which some log leaves this world.
+    /// The setting of the game. Some log of it leaves this world.
     pub fn setting(&self) -> &Setting
         ensures value { result.now ≡ self.now.setting }
         ensures some_log { SomeLogLeaves self.now }
@@ -135,7 +135,7 @@ impl World {
         held.unwrap_or(0)
     }
 
-    // The chips of a message that was sent and not delivered.
+    // The chips of a message sent and not delivered.
     fn count_at(&self, edge: u64, place: u64) -> u64
         requires { edge < all_edges self.now.setting }
         ensures { WhateverLog self.now (λ g log. length (into_in g log edge).got ≤ place
@@ -153,7 +153,7 @@ impl World {
         }
     }
 
-    /// The messages that were sent on an edge and not delivered, with room for more of them.
+    /// The messages sent on an edge and not delivered, with room for `room` more.
     pub(crate) fn in_flight(
         &self,
         alloc: Global,
@@ -175,7 +175,7 @@ impl World {
         Ok(messages)
     }
 
-    // An event of a vertex.
+    // Makes an event of a vertex.
     #[inline(always)]
     fn act(&mut self, event: Event) -> Reply
         requires { is_of_others self.old.setting event ≡ false }
@@ -190,7 +190,7 @@ impl World {
         actor.step(&event, &mut self.shared)
     }
 
-    // An edge is sealed by the stopper.
+    // Seals an edge, for the stopper.
     fn seal(&mut self, edge: u64) -> Reply
         ensures { Steps self.old self.new (Seal edge) result }
     {
@@ -200,7 +200,7 @@ impl World {
         Reply::Done(EdgeWord::from_word(self.shared.words.seal(edge)).claims)
     }
 
-    // An event of the root, but for a read.
+    // Makes an event of the root, other than a read.
     fn of_root(&mut self, event: Event) -> Reply
         requires root { is_of_root self.old.setting event ≡ true }
         requires act { is_by_act event ≡ true }
@@ -215,7 +215,7 @@ impl World {
         }
     }
 
-    // The root reads how often this vertex fired.
+    // Reads for the root how often this vertex fired.
     fn read(&mut self, vertex: u64) -> Reply
         ensures { Steps self.old self.new (Read vertex) result }
     {
@@ -227,8 +227,7 @@ impl World {
         self.root.apply(&event, fired)
     }
 
-    /// Makes one event, or answers the first of its rules that isn't met; in time linear in the edges of its vertex at
-    /// most.
+    /// Makes one event, or returns the first of its unmet rules. Takes time at most linear in the edges of its vertex.
     #[inline(always)]
     pub fn step(&mut self, event: Event) -> Reply
         ensures { Steps self.old self.new event result }
@@ -245,14 +244,14 @@ impl World {
         }
     }
 
-    /// Whether nothing more is fed, and as many messages are settled as were sent on each root edge.
+    /// Whether feeding has ended, and every message sent on each root edge is settled.
     pub fn closed(&self) -> bool
         ensures { WhateverLog self.now (λ g log. IsTrue result ↔ IsClosed g log) }
     {
         self.root.closed()
     }
 
-    /// How many messages were sent on this edge; root edges come after the graph's.
+    /// The number of messages sent on this edge. Root edges come after the graph's.
     pub fn sent(&self, edge: u64) -> u64
         requires { edge < all_edges self.now.setting }
         ensures { WhateverLog self.now (λ g log. result ≡ claims_of (out_in g log edge).link) }
@@ -260,7 +259,7 @@ impl World {
         EdgeWord::from_word(self.shared.words.word(edge)).claims
     }
 
-    /// How many messages were delivered on this edge.
+    /// The number of messages delivered on this edge.
     pub fn delivered(&self, edge: u64) -> u64
         requires { edge < all_edges self.now.setting }
         ensures value { WhateverLog self.now (λ g log. result ≡ length (into_in g log edge).got) }
@@ -271,7 +270,7 @@ impl World {
         self.shared.words.acknowledgements(edge) + owed
     }
 
-    /// How many chips this vertex holds.
+    /// The number of chips of this vertex.
     pub fn chips(&self, vertex: u64) -> u64
         requires { vertex < self.now.setting.game.graph.vertices }
         ensures { WhateverLog self.now (λ g log. result ≡ (part_in g log vertex).chips) }
@@ -279,7 +278,7 @@ impl World {
         self.actors[vertex as usize].chips()
     }
 
-    /// How often it fired.
+    /// The number of times it fired.
     pub fn fired(&self, vertex: u64) -> u64
         requires { vertex < self.now.setting.game.graph.vertices }
         ensures { WhateverLog self.now (λ g log. result ≡ fired_by g log vertex) }
@@ -302,7 +301,7 @@ ghost use Rattle.chip_actor.specs.Actor.{SomePart, WhateverPart};
 ghost use Rattle.chip_core.specs.Core.{word_of_part};
 ghost use Rattle.std.specs.Prelude.{⊤};
 
-/// The word that stands for the firings and the halt of a vertex.
+/// The word of the firings and the halt of a vertex.
 fn fired_word(actor: &ActorState) -> u64
     requires { SomePart actor.now (λ g s. ⊤) }
     ensures { WhateverPart actor.now (λ g s. result ≡ word_of_part s) }

@@ -2,7 +2,7 @@
 
 use super::*;
 
-/// The triangle to which chips may be fed, as it opens with such rings.
+/// The triangle, opened for feeding with such rings.
 fn fed_triangle(rt: &(impl AllocGlobal + Abort), start: &[u64], ring: Ring) -> Box<World> {
     let game = game_of(rt, TRIANGLE, start, MOST);
     let world = World::open_fed(rt.alloc(), &game, ring.cells()).expect(rt, "memory");
@@ -17,10 +17,10 @@ const THREE_CHIPS: [(Event, Reply); 4] = [
     (Event::Clear(4), Reply::Full),
 ];
 
-/// What is sent then, by edge.
+/// The messages sent then, by edge.
 const THREE_CHIPS_SENT: [&[Message]; 7] = [&[], &[], &[], &[], &[message!(4, 0, 3)], &[], &[]];
 
-/// One chip more, and the end.
+/// One more chip, and the end.
 const THE_LAST_CHIP: [(Event, Reply); 5] = [
     (Event::Clear(4), Reply::Done(1)),
     (feed!(4, 1), sent!(4, 1, 1)),
@@ -29,7 +29,7 @@ const THE_LAST_CHIP: [(Event, Reply); 5] = [
     (Event::Clear(4), Reply::NotNow(Rule::Ended)),
 ];
 
-/// Feeds three chips, which are all that is sent.
+/// Feeds three chips, and sends nothing else.
 fn feeds_three(rt: &(impl AllocGlobal + Abort), world: &mut World) {
     let record = recorded(rt, world, &THREE_CHIPS);
     expect_lists(rt, &record.sent, &THREE_CHIPS_SENT);
@@ -72,7 +72,7 @@ fn fed_in_wide_rings(rt: HostRuntime) {
     }
 }
 
-/// More chips than there may be.
+/// More chips than allowed.
 const TOO_MANY: [(Event, Reply); 3] = [
     (Event::Clear(4), Reply::Done(0)),
     (feed!(4, 1), Reply::NotNow(Rule::TooMuch)),
@@ -85,7 +85,7 @@ fn fed_past_the_total(rt: HostRuntime) {
     expect(&rt, &mut world, &TOO_MANY);
 }
 
-/// Each rule of the root, if it isn't met.
+/// Each rule of the root, unmet.
 const OUT_OF_TURN: [(Event, Reply); 20] = [
     (Event::Clear(7), Reply::NotNow(Rule::NoSuch)),
     (Event::Put(7), Reply::NotNow(Rule::NoSuch)),
@@ -117,7 +117,7 @@ fn fed_out_of_turn(rt: HostRuntime) {
     ends(&rt, &world, &[1, 1, 0], &[0, 1, 2], &[], &[]);
 }
 
-/// A world that isn't fed has no looks, puts and feeds of the root, and its end is noted from the beginning.
+/// A world that isn't fed refuses clears, puts and feeds of the root; its end is noted from the start.
 const UNFED: [(Event, Reply); 5] = [
     (Event::Clear(4), Reply::NotNow(Rule::Ended)),
     (Event::Put(4), Reply::NotNow(Rule::NotClaimed)),

@@ -1,38 +1,38 @@
-//! Gates that hold a crew, shut it out, or hear what it does.
+//! Gates that hold a crew, stop it, or note its calls.
 
 use chip_crew::Gate;
 use std::sync::atomic::AtomicU64;
 use std::sync::atomic::Ordering::SeqCst;
 use std::thread;
 
-/// Whom a gate lets pass.
+/// The workers that a gate accepts.
 pub(crate) enum Rule {
     /// Every worker.
     Always,
     /// No worker.
     Never,
-    /// Worker 0. The others are held until it was asked, and then they do not pass.
+    /// Worker 0. The others wait for its first call, and are then refused.
     ZeroAlone,
-    /// Every worker. Each is held at its first turn until this number was asked.
+    /// Every worker. Each waits at its first turn until this number have called.
     Together(u64),
-    /// Every worker. Worker 0 is held at its first turn until worker 1 was asked for this turn.
+    /// Every worker. Worker 0 waits at its first turn until worker 1 calls for this turn.
     Behind(u64),
-    /// Every worker. Worker 1 makes three turns before worker 0 makes one, and then nobody but worker 0 makes any until
-    /// it is asked for its fourth.
+    /// Every worker. Worker 1 makes three turns before worker 0's first; then only worker 0 makes turns until it calls
+    /// for its fourth.
     Relay,
-    /// Every worker, but for this one at this turn. All others are held at their first turn until then.
+    /// Every worker, except this one at this turn. All others wait at their first turn until then.
     ShutAt { worker: u64, turn: u64 },
 }
 
-/// A gate by such a rule, which notes whom it asked and what it is told of the polls.
+/// A gate by such a rule, which counts its calls and notes the reported polls.
 #[derive(Drop)]
 pub(crate) struct Keeper<'r> {
     rule: &'r Rule,
-    /// How often it asked those for whom the others wait, or who wait.
+    /// The number of calls by the workers that the others wait for, or that wait.
     pub asked: AtomicU64,
     /// Whether the others may go on.
     opened: AtomicU64,
-    /// Of how many polls it was told, the turn of the last one, and the most messages that were open.
+    /// The number of reported polls, the turn of the last one, and the most open messages.
     pub polls: AtomicU64,
     pub last_turn: AtomicU64,
     pub most: AtomicU64,
@@ -50,7 +50,7 @@ impl Keeper<'_> {
         }
     }
 
-    /// Lets worker 0 go on once worker 1 is asked for its fourth turn, and worker 1 once worker 0 is.
+    /// Accepts worker 0 once worker 1 calls for its fourth turn, and worker 1 once worker 0 does.
     fn relay(&self, worker: u64, turn: u64) -> bool {
         match (worker, turn) {
             (0, 0) => comes_to(&self.asked, 1),
@@ -66,7 +66,7 @@ impl Keeper<'_> {
         }
     }
 
-    /// Answers the worker for whom it is shut now, or later; then the others may go on.
+    /// Whether the worker whose gate shuts is accepted; if it shuts now, the others may go on.
     fn shuts(&self, now: bool) -> bool {
         if now {
             self.opened.store(1, SeqCst);
@@ -74,7 +74,7 @@ impl Keeper<'_> {
         !now
     }
 
-    /// Answers one of the others, who are held at their first turn.
+    /// Accepts one of the others, once it may go on from its first turn.
     fn holds(&self, turn: u64) -> bool {
         self.asked.fetch_add(1, SeqCst);
         turn > 0 || comes_to(&self.opened, 1)
@@ -123,7 +123,7 @@ impl Gate for Keeper<'_> {
     }
 }
 
-/// Whether the number comes to `much` while it is looked at a million times.
+/// Whether the number reaches `much` within a million reads.
 fn comes_to(number: &AtomicU64, much: u64) -> bool {
     for _ in 0..1_000_000 {
         if number.load(SeqCst) >= much {

@@ -71,7 +71,7 @@ fn four_fed(rt: HostRuntime) {
     finishes(&rt, &net, root, &FOUR_CHIPS, "four chips");
 }
 
-/// Three chips fill the ring, and one more goes in once the actors have turned.
+/// Three chips fill the ring; a fourth goes in after the actors have turned.
 fn feed_twice(rt: &impl Abort, net: &Net, mut root: Root, actors: &mut Vec<Actor>) -> Root
     requires root { root.net ≡ net.now }
     requires actors { All (λ a. a.net ≡ net.now) actors.old.items }
@@ -100,7 +100,7 @@ fn end_twice(rt: &impl Abort, net: &Net, mut root: Root) -> Root
     root
 }
 
-/// A full ring, which is free again after turns. Without the end the net runs on with nothing outstanding.
+/// A full ring, which has room again after turns. Without the end the net stays open with nothing outstanding.
 #[test]
 fn fed_twice(rt: HostRuntime) {
     let (net, root, mut actors) = open_triangle(&rt, &[0, 0, 0]);
@@ -110,7 +110,7 @@ fn fed_twice(rt: HostRuntime) {
     finishes(&rt, &net, root, &FOUR_CHIPS, "four chips");
 }
 
-/// A chip for the first vertex is refused.
+/// Expects that a chip for the first vertex is refused.
 fn expect_refused(rt: &impl Abort, net: &Net, mut root: Root, fault: FeedFault)
     requires root { root.net ≡ net.now }
     requires vertices { 0 < net.now.setting.game.graph.vertices }
@@ -125,7 +125,7 @@ fn largest_total(rt: HostRuntime) {
     expect_refused(&rt, &net, root, FeedFault::Total);
 }
 
-/// Nothing is fed to a net that isn't opened for it.
+/// A net that isn't opened for feeding refuses all feeds.
 #[test]
 fn not_for_feeding(rt: HostRuntime) {
     let game = game_of(&rt, TRIANGLE, &[0, 0, 0], LIMIT);
@@ -156,7 +156,7 @@ fn feed_until(net: &Net, closed: &AtomicBool, mut root: Root, chips: u64) -> Roo
     poll_until(net, closed, root)
 }
 
-/// One thread turns, another one feeds.
+/// One thread makes turns, another one feeds.
 fn turn_and_feed<R: Threads>(rt: &R, net: &Net, actors: Vec<Actor>, root: Root, chips: u64) -> Root
     requires actors { All (λ a. a.net ≡ net.now) actors.items }
     requires root { root.net ≡ net.now }
@@ -178,8 +178,8 @@ fn turn_and_feed<R: Threads>(rt: &R, net: &Net, actors: Vec<Actor>, root: Root, 
     root
 }
 
-/// A thousand chips, fed one by one while another thread turns, end as they do if all lie there from the start: vertex
-/// 0 has 1000 - 2 * 666 + 333 left, vertex 1 has 666 - 2 * 333, and the sink got 666 + 333.
+/// A thousand chips, fed one by one while another thread makes turns, end as if all were there from the start: vertex 0
+/// has 1000 - 2 * 666 + 333 left, vertex 1 has 666 - 2 * 333, and the sink got 666 + 333.
 #[test]
 fn fed_on_threads(rt: HostRuntime) {
     let (net, root, actors) = open_triangle(&rt, &[0, 0, 0]);

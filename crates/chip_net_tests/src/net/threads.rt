@@ -12,10 +12,10 @@ use std::sync::atomic::AtomicBool;
 use std::sync::atomic::Ordering::SeqCst;
 use std::thread::{self, Threads};
 
-/// How many calls a thread makes at most.
+/// The most calls of a thread.
 pub(crate) const MOST: u64 = 10_000_000;
 
-/// Turns of these actors, one after another, until the root is closed.
+/// Gives these actors turns, one after another, until the root is closed.
 pub(crate) fn turn_until(net: &Net, closed: &AtomicBool, mut actors: Vec<Actor>)
     requires { All (λ a. a.net ≡ net.now) actors.items }
 {
@@ -101,7 +101,7 @@ fn seal_and_poll<R: Threads>(
     root
 }
 
-/// A share of the actors turns beside.
+/// A share of the actors turns on another thread.
 fn turn_and_poll<R: Threads + Sync>(
     rt: &R,
     net: &Net,
@@ -162,7 +162,7 @@ fn all_play<R: Threads + Sync>(
     root
 }
 
-/// The actors from this one on, which leave the list.
+/// Removes the actors from this one on from the list, and returns them.
 fn tail_of(net: &Net, actors: &mut Vec<Actor>, at: usize) -> Result<Vec<Actor>, AllocError>
     requires { All (λ a. a.net ≡ net.now) actors.old.items }
     ensures first { All (λ a. a.net ≡ net.now) actors.new.items }
@@ -173,7 +173,7 @@ fn tail_of(net: &Net, actors: &mut Vec<Actor>, at: usize) -> Result<Vec<Actor>, 
     Ok(tail)
 }
 
-/// Plays a game on threads, which share the actors by thirds, and seals an edge of it if it is stoppable.
+/// Plays a game on three threads with a third of the actors each; seals an edge if the game is stoppable.
 fn played_on_threads<R: Threads + Sync + Abort + AllocGlobal>(
     rt: &R,
     edges: &[(u64, u64, u64)],
@@ -197,10 +197,10 @@ fn fires_again(rt: HostRuntime) {
     expect_outcome(&rt, &outcome, &FIVE_CHIPS, "fires again");
 }
 
-/// How wide the grid is.
+/// The width of the grid.
 const SIDE: u64 = 8;
 
-/// The neighbours of a cell of the grid, and the sink for each that there is not.
+/// The neighbours of a cell of the grid, with the sink in place of each missing one.
 fn neighbours(row: u64, column: u64) -> [u64; 4]
     requires row { row < 8 }
     requires column { column < 8 }
@@ -215,7 +215,7 @@ fn neighbours(row: u64, column: u64) -> [u64; 4]
     ]
 }
 
-/// The edges of the grid: each cell has one to each of its neighbours, and to the sink those that have no neighbour.
+/// The edges of the grid: each cell has one to each of its neighbours, and one to the sink for each missing one.
 fn grid(rt: &(impl AllocGlobal + Abort)) -> Vec<(u64, u64, u64)> {
     let mut edges = Vec::new(rt.alloc());
     for tail in 0..SIDE * SIDE {
@@ -226,8 +226,8 @@ fn grid(rt: &(impl AllocGlobal + Abort)) -> Vec<(u64, u64, u64)> {
     edges
 }
 
-/// How often each cell and the sink fire if each cell has four chips, and the chips that they end with: what
-/// `examples/play.py` says.
+/// The firing counts of all cells and the sink with four chips on each cell, and the final chips, as computed by
+/// `examples/play.py`.
 const GRID_ENDS: Ends = Ends {
     fired: &[
         3, 4, 4, 4, 4, 4, 4, 3, 4, 6, 7, 7, 7, 7, 6, 4, 4, 7, 9, 9, 9, 9, 7, 4, 4, 7, 9, 10, 10, 9,
@@ -243,15 +243,15 @@ const GRID_ENDS: Ends = Ends {
     sealed: &[],
 };
 
-/// Played on by turns from these chips.
+/// Plays on by turns from these chips.
 fn played_on(rt: &(impl AllocGlobal + Abort), edges: &[(u64, u64, u64)], chips: &[u64]) -> Outcome {
     let (net, root, mut actors, _stopper) = open_net(rt, edges, chips, LIMIT, 0, false);
     let root = drive(&net, root, &mut actors);
     finished(rt, &net, root)
 }
 
-/// Threads play the game, and all but each fourth round seal an edge, each time another one. Played on by turns from
-/// where it ended, it comes to its end.
+/// Threads play the game; all but each fourth round seal an edge, another one each time. Playing on by turns from there
+/// reaches the game's end.
 fn plays_round<R: Threads + Sync + Abort + AllocGlobal>(
     rt: &R,
     edges: &[(u64, u64, u64)],
@@ -268,7 +268,7 @@ fn plays_round<R: Threads + Sync + Abort + AllocGlobal>(
     assert!(rt; adds_up(&outcome, &more, &GRID_ENDS), "round {round}");
 }
 
-/// Threads that turn, poll and seal at once, a hundred times on the grid, each time with another edge to seal.
+/// Threads turn, poll and seal at once, a hundred times on the grid, sealing another edge each time.
 #[test]
 fn grids(rt: HostRuntime) {
     let edges = grid(&rt);

@@ -1,4 +1,4 @@
-//! The books of the detector, vertex by vertex: parents, deficits, and what is owed.
+//! The books of the detector, vertex by vertex: parents, deficits, and owed acknowledgements.
 
 ghost use Rattle.std.specs.Prelude.{◌≡◌, ◌<◌};
 
@@ -18,7 +18,7 @@ impl World {
         self.actors[vertex as usize].detect().parent()
     }
 
-    /// How many acknowledgements this vertex waits for, on all edges out of it.
+    /// The number of acknowledgements this vertex waits for, on all edges out of it.
     pub fn deficit(&self, vertex: u64) -> u64
         requires { vertex < self.now.setting.game.graph.vertices }
         ensures { WhateverLog self.now (λ g log. result ≡ deficit_of g vertex (part_in g log vertex)) }
@@ -26,14 +26,14 @@ impl World {
         self.actors[vertex as usize].detect().deficit()
     }
 
-    /// How many acknowledgements the root waits for.
+    /// The number of acknowledgements the root waits for.
     pub fn root_deficit(&self) -> u64
         ensures { WhateverLog self.now (λ g log. result ≡ deficit_of g (root g) (part_in g log (root g))) }
     {
         self.root.outstanding()
     }
 
-    /// How many acknowledgements the head of this edge owes on it; root edges come after the graph's.
+    /// The number of acknowledgements the head of this edge owes on it. Root edges come after the graph's.
     pub fn owed(&self, edge: u64) -> u64
         requires { edge < all_edges self.now.setting }
         ensures { WhateverLog self.now (λ g log. result ≡ owed_on (into_in g log edge)) }

@@ -3,12 +3,12 @@ ghost use Rattle.std.specs.Prelude.{◌<◌};
 use super::{World, fired_word};
 use chip_link::Event;
 
-/// Where a drive ended.
+/// The result of a drive.
 #[derive(Clone, Copy, PartialEq, Eq)]
 pub enum Drive {
     /// The root is closed.
     Closed,
-    /// It is still open after this number of rounds.
+    /// The root is still open after this number of rounds.
     Unfinished(u64),
 }
 
@@ -18,7 +18,7 @@ impl World {
     ghost use Rattle.chip_world.specs.Rounds.{NoOtherDrive, ClosesBy};
     ghost use Rattle.chip_world.specs.Enough.{ClosesIn};
 
-    /// One whole turn of a vertex, over the shared words.
+    /// Makes one whole turn of a vertex, over the shared words.
     fn turn(&mut self, vertex: u64)
         requires { SomeLogWhere self.old (λ g log. vertex < g.game.graph.vertices) }
         ensures { LeadsWorld self.old self.new (λ g before after. IsTurnAfter g vertex before after) }
@@ -29,7 +29,7 @@ impl World {
         actor.turn(&mut self.shared);
     }
 
-    /// A turn of each vertex.
+    /// Makes a turn of each vertex.
     fn turns(&mut self)
         ensures { LeadsWorld self.old self.new (λ g before after. AreTurns g g.game.graph.vertices before after) }
     {
@@ -38,7 +38,7 @@ impl World {
         }
     }
 
-    /// A settle of each root edge.
+    /// Settles each root edge.
     fn settle_roots(&mut self)
         ensures { LeadsWorld self.old self.new AreRootsSettled }
     {
@@ -48,7 +48,7 @@ impl World {
         }
     }
 
-    /// A turn of each vertex, and then a settle of each root edge.
+    /// Makes a turn of each vertex, and then settles each root edge.
     fn round(&mut self)
         ensures { LeadsWorld self.old self.new IsWorldRound }
     {
@@ -56,9 +56,9 @@ impl World {
         self.settle_roots();
     }
 
-    /// Makes rounds until the root is closed, but no more than `rounds`; in each round every vertex makes one whole
-    /// turn, and then the root settles each of its edges. Once the end is noted and the root has put what it claimed,
-    /// as many rounds as `rounds_to_close` close it (`specs/Enough.antt`), or more than steps can count.
+    /// Makes rounds until the root is closed, at most `rounds`: in each, every vertex makes one whole turn, and then
+    /// the root settles each of its edges. Once the end is noted and the root has put what it claimed,
+    /// `rounds_to_close` rounds close it (`specs/Enough.antt`), and so do more rounds than steps that can count.
     pub fn drive(&mut self, rounds: u64) -> Drive
         ensures drives { LeadsWorld self.old self.new (λ g before after. IsDrive g rounds before after result) }
         ensures no_other { NoOtherDrive self.old self.new rounds result }

@@ -17,11 +17,11 @@ impl World {
     ghost use Rattle.chip_core.specs.Outcomes.{halted_by, AreFired, IsOutcomeOf, ComesTo};
     ghost use Rattle.chip_world.specs.declared.fault.WorldFault.TheVariants.{NotClosed};
 
-    /// How the game ended, once the root is closed: the counts of the vertices, the chips by these counts, and who
-    /// halted.
+    /// The outcome of a game whose root is closed: the counts of the vertices, the chips by these counts, and the
+    /// halted vertices.
     ///
-    /// The chips are those that the firings made: what a sealed edge holds back counts as sent. It takes time linear in
-    /// vertices and edges.
+    /// The chips are those that the firings made: chips held back by a sealed edge count as sent. Takes time linear in
+    /// vertices and edges. Fails without memory and while the root is open.
     pub fn outcome(&self, alloc: Global) -> Result<Outcome, WorldFault>
         ensures not_closed { WhateverLog self.now (λ g log. IsErrOf result NotClosed ↔ (IsClosed g log → ⊥)) }
         ensures closed { IfOk result (λ o. WhateverLog self.now (λ g log. IsClosed g log)) }
@@ -45,7 +45,7 @@ impl World {
         })
     }
 
-    // The chips of each vertex by how often each fired, from what each was given at the start and by feeds.
+    // The chips of each vertex by all firing counts, from the chips given at the start and by feeds.
     fn chips_after(&self, alloc: Global, fired: &[u64]) -> Result<Vec<u64>, AllocError>
         requires { WhateverLog self.now (λ g log. AreFired g log g.game.graph.vertices fired.now) }
         ensures some { SomeLogLeaves self.now }
@@ -61,7 +61,7 @@ impl World {
         }
     }
 
-    // How often each vertex fired.
+    // The firing counts of the vertices.
     fn firing_counts(&self, alloc: Global) -> Result<Vec<u64>, AllocError>
         ensures { IfOk result (λ fired. WhateverLog self.now (λ g log. AreFired g log g.game.graph.vertices fired.items)) }
     {

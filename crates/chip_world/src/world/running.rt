@@ -7,18 +7,18 @@ use chip_link::{Event, Message};
 use chip_part::Reply;
 use std::alloc::{AllocError, Global};
 
-/// What a run of events came to. Edges have their numbers, the root edges after the graph's.
+/// The record of a run of events. Root edges are numbered after the graph's.
 #[derive(Drop)]
 pub struct Record {
     /// The reply to each event.
     pub replies: Vec<Reply>,
-    /// Of each edge, the messages that were sent and not delivered when the run began, and then those that it sent.
+    /// For each edge, the messages sent and not delivered before the run, then those sent in it.
     pub sent: Vec<Vec<Message>>,
-    /// Of each edge, the messages that the run delivered.
+    /// For each edge, the messages that the run delivered.
     pub delivered: Vec<Vec<Message>>,
 }
 
-/// A record that is written, with room for all that may come.
+/// A record under construction, with room for all that may come.
 #[derive(Drop)]
 pub(crate) struct Notes {
     pub(crate) replies: Vec<Reply>,
@@ -49,7 +49,7 @@ impl Notes {
         self.replies.push_reserved(reply);
     }
 
-    /// The record that was written.
+    /// The finished record.
     pub(crate) fn finish(self) -> Record
         ensures replies { result.replies.items ≡ self.replies.items }
         ensures sent { map (λ t. t.items) result.sent.items ≡ map (λ lane. lane.messages) self.sent }
@@ -71,7 +71,7 @@ impl Notes {
 ghost use Rattle.chip_world.specs.Run.{claimed_edge, taken_edge, is_claim_of, is_take_of, count_among, Counts};
 ghost use Rattle.chip_world.specs.Run.{CountsMore};
 
-/// How many events of a list are about each edge.
+/// The number of events of a list on each edge.
 #[derive(Drop)]
 struct Tally {
     claims: Vec<usize>,
@@ -114,7 +114,7 @@ fn taken_edge(event: &Event) -> Option<u64>
     }
 }
 
-/// Counts one more for an edge, if it is there.
+/// Adds one to an edge's count, if the edge is there.
 fn count_one(counts: &mut Vec<usize>, edge: Option<u64>)
     requires { (e : ℕ) → e < length counts.old.items → slice_index counts.old.items e < 2 ^ 63 }
     ensures { CountsMore edge counts.old.items counts.new.items }
@@ -131,7 +131,7 @@ impl World {
     ghost use Rattle.chip_world.specs.World.{SomeLogLeaves, WhateverLog};
     ghost use Rattle.chip_world.specs.Run.{HasRooms, IsNotedUpTo, RunsEvents};
 
-    /// An empty record, with room for all that these events may bring.
+    /// An empty record, with room for the results of these events.
     fn blank_notes(&self, alloc: Global, events: &[Event]) -> Result<Notes, AllocError>
         ensures some { SomeLogLeaves self.now }
         ensures rooms { IfOk result (HasRooms events.now) }
@@ -153,8 +153,7 @@ impl World {
         })
     }
 
-    /// Makes these events, one after another. All memory is taken before the first one: if it runs out, the world is as
-    /// it was.
+    /// Makes these events, in order. All memory is taken before the first one: without it the world is unchanged.
     pub fn run(&mut self, alloc: Global, events: &[Event]) -> Result<Record, AllocError>
         ensures { MatchResult result
             (λ r. WhateverLog self.old (λ g log. RunsEvents g log events.now self.new r))

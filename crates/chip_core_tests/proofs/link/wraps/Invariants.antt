@@ -1,4 +1,4 @@
--- The head takes at most one message in each turn of a loop, so it stays far below the most that it may take.
+-- The head takes at most one message in each pass of a loop, so it stays far below its maximum.
 use Rattle.std.proofs.Common.{◌+◌, ◌≤◌}
 use Rattle.chip_core_tests.proofs.link.wraps.Given as goal
 

@@ -7,7 +7,7 @@ use Rattle.chip_crew.proofs.GatheringLemmas.{gathers_more}
 use Rattle.chip_crew.proofs.PlacesLemmas.{merges, have_room}
 use Rattle.chip_crew.proofs.gathering.join_pass.Goals as goal
 
--- what one worker more had is gathered
+-- what one more worker had is gathered
 one_joined : (asked : Asked) (old theirs new : Ledger) (row now : Vec ActorKnown) (kept : Option ActorKnown)
     (more : List ActorKnown) → new ≡ both_ledgers old theirs → HasJust theirs kept
     → gave_turns theirs + kept_turns kept ≤ got_turns theirs + asked.plan.turns

@@ -14,7 +14,7 @@ use Rattle.chip_crew.proofs.joining.start.Goals as goal
 share_send : (ν : NamedLft) (B : RattleType) (r : Ghosts B.Denot) → IsSend (share.the_row ν B r)
 share_send ν B r = search (crosses, sendable, net_crosses, seat.the_send, queue.the_sync, actor_send, frees, send, sync) depth 60
 
--- a worker may take its whole task, where its duties may go along
+-- a worker may take its whole task, if its duties may move too
 worker_send : (ν : NamedLft) (B G D : RattleType) (r : Ghosts B.Denot) (s : gate.Ghosts G.Denot) → IsSync B → IsSync G
     → IsSend D → IsSend (worker.the_row ν B G D r s)
 worker_send ν B G D r s names asks duties =
@@ -22,7 +22,7 @@ worker_send ν B G D r s names asks duties =
     shr_send ℓ κ (shared.the_row μ B G r s) (search (sharing.the_sync)) in
     declared_send (worker.the_type ν B G D r s) (search (crosses, sendable, lent, share_send, duties))
 
--- and hand all of it back
+-- and give all of it back
 result_send : (ν : NamedLft) (B D : RattleType) (r : Ghosts B.Denot) → IsSend D → IsSend (result.the_row ν B D r)
 result_send ν B D r duties = declared_send (result.the_type ν B D r) (search (crosses, sendable, share_send, duties))
 

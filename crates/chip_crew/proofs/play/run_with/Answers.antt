@@ -6,7 +6,7 @@ use Rattle.chip_crew.proofs.FinishingLemmas.{may_begin, plan_fits, finished_by, 
 use Rattle.chip_crew.proofs.LeadingLemmas.{none_sealed, may_seal}
 use Rattle.chip_crew.proofs.play.run_with.Goals as goal
 
--- there are feeds where what they are is known
+-- there are feeds where their list is known
 copied_some : (feeds : Option (Bor (List (ℕ × ℕ)))) → is_some feeds ≡ is_some (option_copied feeds)
 copied_some None = refl
 copied_some (Some feeds) = refl

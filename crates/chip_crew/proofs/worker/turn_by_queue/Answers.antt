@@ -4,7 +4,7 @@ use Rattle.chip_crew.proofs.PlacesLemmas.{puts}
 use Rattle.chip_crew.proofs.DealingLemmas.{still_ours}
 use Rattle.chip_crew.proofs.worker.turn_by_queue.Goals as goal
 
--- what is not pushed is the actor still
+-- an actor that is not pushed is unchanged
 back_ours : (crew : CrewId) (a : ActorKnown) (r : Result (Unit {0}) ActorKnown) → IsOurs crew a → (P : Unit {0} → Type 0)
     (Q : ActorKnown → Type 0) → MatchResult r P (λ x. (x ≡ a) × Q x) → IfSome (result_err r) (IsOurs crew)
 back_ours crew a (Ok done) ours P Q back = tt

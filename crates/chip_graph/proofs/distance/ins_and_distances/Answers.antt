@@ -13,7 +13,7 @@ use Rattle.chip_graph.proofs.distance.ins_and_distances.Goals.{After-index, Afte
 some_left : (c : After-index) → c.loop-next.next < length c.loop-next.search.reached.items
 some_left c = omega (arith, c.loop-next.search.reached.ok.0)
 
--- what holds of the vertex whose turn it is
+-- the invariant for the vertex whose turn it is
 turn : (c : After-index) → IsReached
     (record { vertices = c.args.vertices; sink = c.args.sink; edges = c.args.edges.now }) c.loop-next.next
     c.index.result.now

@@ -24,7 +24,7 @@ takes c = next (at_net c.args.net.now) (lent c) c.loop-index-2.actors c.loop-ind
     (omega arith) c.deref_mut-in-loop-index-2.result.now c.index-actors-index-in-loop-index-2.result
     (c.deref_mut-in-loop-index-2.ensures.value ∙ c.actor-in-loop-index-2.view_is)
 
--- as it was before its part was taken
+-- the actor before its part was taken
 was : (c : After-take_back-arg-1) → (a : ActorKnown) × (slice_get c.args.actors.now c.loop-index-2.index ≡ Some a)
     × (c.deref_mut-in-loop-index-2.result.now ≡ seatless a)
 was c = map_at seatless c.args.actors.now c.loop-index-2.index c.deref_mut-in-loop-index-2.result.now (takes c).0

@@ -16,7 +16,7 @@ fired_is c = ap (λ (t : ReadingsState). t.fired) c.fired.view_is
 are : (c : After-deref_mut) → AreGiven c.args.actor.net.setting (root_part c.args.actor) c.given.result.now
 are c = c.given.ensures c.args.actor.net.setting (root_part c.args.actor) c.into_receipt-state.ensures.state
 
--- the game that was played
+-- the game played
 abbrev played : After-deref_mut → ChipGame
 played c = game c.into_receipt-state.ensures.setting (reading c) c.given.result.now (are c)
 

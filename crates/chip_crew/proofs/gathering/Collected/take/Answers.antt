@@ -7,7 +7,7 @@ use Rattle.chip_crew.proofs.TurnLemmas.{are_made}
 use Rattle.chip_crew.proofs.gathering.Collected.take.Goals.{in-Queue+in-Queue-back, in-Dealt+in-Dealt-back+in-Ok}
 use Rattle.chip_crew.proofs.gathering.Collected.take.Goals as goal
 
--- the run of the next worker comes behind those that are there
+-- the run of the next worker comes after those that are there
 row_longer : (crew : CrewId) (worker : ℕ) (row actors : List ActorKnown) (room more : ℕ) → IsRow crew worker row room
     → AreActorsOf crew worker actors → room ≤ more → IsRow crew (worker + 1) (row ++ actors) more
 row_longer crew worker row actors room more is are grown =

@@ -6,7 +6,7 @@ use Rattle.chip_crew.proofs.worker.Worker.work.Goals.{then-loop-turns-test+then-
 use Rattle.chip_crew.proofs.worker.Worker.work.Goals.{then-loop-turns-test+then-not-load+else-made-round+then-end_round}
 use Rattle.chip_crew.proofs.worker.Worker.work.Goals as goal
 
--- what a worker hands back that made its turns and did its duties
+-- what a worker gives back that made its turns and did its duties
 has_worked : {B D : Type 0} (asked : Asked) (can : NetId → D → Type 0) (before : ℕ → D → D → Type 0)
     (after : D → D → Type 0) (worker : ℕ) (own : Share B) (begun : D) (s t : Share B) (d e : D) (p q : Bool)
     (n m round : ℕ)

@@ -9,7 +9,7 @@ use Rattle.chip_detect.proofs.detector.Detect.acked_at.Goals as goal
 use Rattle.chip_detect.proofs.detector.Detect.acked_at.Goals.{After-add_answers_at}
 use Rattle.chip_detect.proofs.detector.Detect.acked_at.Goals.{else-eq-via-then-eq+else-open_at-eq0, else-eq-via-else-eq}
 
--- the books as the call found them
+-- the books before the call
 abbrev old : After-add_answers_at → Books
 old c = record { ins = c.self.inside.ins; outs = c.self.inside.outs; parent = c.self.inside.parent }
 
@@ -20,7 +20,7 @@ into c = subst (λ (b : Books). Contains (in_edges b) c.args.slot.edge) (sym c.s
 allowed : (c : After-add_answers_at) → c.args.count ≤ may_ack (old c) c.args.slot.edge true
 allowed c = subst (λ (b : Books). c.args.count ≤ may_ack b c.args.slot.edge true) (sym c.self.view_is) c.requires.allowed
 
--- nothing is owed on the parent edge any more
+-- nothing is owed on the parent edge
 free : (c : After-add_answers_at) → option_eq nat_eq c.self.inside.parent (Some c.args.slot.edge) ≡ true
     → open_on c.add_answers_at.new.self c.args.slot.edge ≡ 0
     → IsSound (record (old c) { ins = c.add_answers_at.new.self; parent = None })

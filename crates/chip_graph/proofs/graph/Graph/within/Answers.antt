@@ -22,7 +22,7 @@ are_edges : (c : In_ok-counts)
     → AreEdges (made c.args.vertices c.args.sink c.as_slice-rows.result.now)
 are_edges c = edges_ok c.args.vertices c.args.sink 0 c.as_slice-rows.result.now c.in_ok-counts.ensures.0
 
--- there are few vertices and edges
+-- the numbers of vertices and edges are bounded
 few_vertices : (c : In_ok-check_sizes) → c.args.vertices ≤ max_vertices
 few_vertices c = omega (
   arith,

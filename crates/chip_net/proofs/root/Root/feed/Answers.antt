@@ -17,7 +17,7 @@ may c = record {
   given = c.in_ok-may_feed.ensures.2;
 }
 
--- there is as much room as before
+-- there is the same room as before
 room : (c : In_ok-may_feed) (n : NetId) → n ≡ c.deref_mut-actor.result.now.net
     → c.self.inside.readings.value ≡ no_readings n.setting.game.graph.vertices
 room c n same = rw (same, c.deref_mut-actor.ensures.value) c.self.invariant.1
@@ -30,7 +30,7 @@ invariant_of-self-in_default c =
     let d = (goal.at.invariant_of-self-in_default c).In_ok-may_feed in
     (free1 (may d) c.make.ensures.made, room d c.make.new.self.net (rw c.make.ensures.made.record_is))
 
--- the look saw an empty cell, and its answer is the place
+-- the look saw an empty cell, and returned the place
 pub make-requires-2-clause-due : goal.make-requires-2-clause-due
 make-requires-2-clause-due c = due2 (may (goal.at.make-requires-2-clause-due c).In_ok-may_feed) c.make.ensures.made
     (look_done _ _ c.in-Done.place (sym c.in-Done.is ∙ c.make.ensures.reply_is)).0

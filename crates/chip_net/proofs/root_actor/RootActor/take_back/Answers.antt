@@ -8,7 +8,7 @@ use Rattle.chip_net.proofs.root_actor.RootActor.take_back.Goals as goal
 here : (c : After-into_seat) → c.args.stopper.net.setting ≡ c.self.inside.setting.value
 here c = rw (c.requires.stopper, ← c.requires.net, ← c.self.view_is)
 
--- its part stands alone in its seat
+-- its seat has only its part
 alone_is : (c : After-into_seat) → IsAlone (stopper c.self.inside.setting.value) c.into_seat.result.me.0
 alone_is c = rw (here c) at
     (alone_by (stopper c.args.stopper.net.setting) c.into_seat.result.me.0 c.args.stopper.did c.into_seat.ensures.part)

@@ -30,7 +30,7 @@ step-requires c =
     meets_event s.0 s.1 (the_view c.self.inside) s.2 c.in-Some.vertex is.1 c.index_mut-actor.result.now
     c.index_mut-actor.ensures.value c.fired_word-fired.result c.fired_word-fired.ensures c.args.event is.0
 
--- whatever log the world stood for, the event was made after it
+-- the event was made after every log that the world represents
 made : (c : After-step) → (g : Setting) (log : Log) → StandsForLog g log (the_view c.self.inside)
     → MakesStep g log c.args.event
     (record (the_view c.self.inside) {

@@ -5,7 +5,7 @@ use Rattle.chip_world.proofs.Names.{StandsForLog}
 use Rattle.chip_world.proofs.world.World.chips_after.Goals.{After-deref_mut}
 use Rattle.chip_world.proofs.world.World.chips_after.Goals as goal
 
--- what was given is the start of the game that was played
+-- what was given is the start of the game played
 start_is : (c : After-deref_mut) → (g : Setting) (log : Log) → StandsForLog g log c.args.self.now
     → c.given-given.result.now ≡ (played_game g log).start
 start_is c g log old =
@@ -19,7 +19,7 @@ after_from-requires-clause-few_chips c =
     rw (start_is d some.0 some.1 some.2)
     (given_within some.0 some.2.is_setting.game some.2.is_setting.some_ring some.1 some.2.legal)
 
--- the game of the graph and of what was given is the one that was played
+-- the game of the graph and of what was given is the one played
 game_is : (c : After-deref_mut) → (g : Setting) (log : Log) → StandsForLog g log c.args.self.now
     → game_from c.graph-graph.result.now c.given-given.result.now g.game.limit ≡ played_game g log
 game_is c g log old =

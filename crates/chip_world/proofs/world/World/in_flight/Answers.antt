@@ -2,7 +2,7 @@ use Rattle.chip_world.proofs.Names.{◌≤◌, ◌^◌, ℕ, arith, edge_counts,
 use Rattle.chip_world.proofs.FlightLemmas.{flight_more}
 use Rattle.chip_world.proofs.world.World.in_flight.Goals as goal
 
--- no more messages are delivered than sent, and not many are sent
+-- at most the sent messages are delivered, and their number is bounded
 record InRange (first claims : ℕ) : Type 0 where
   behind : first ≤ claims
   few : claims ≤ 2 ^ 40

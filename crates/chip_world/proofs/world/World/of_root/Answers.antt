@@ -3,7 +3,7 @@ use Rattle.chip_world.proofs.Names.{WorldState, StandsForLog, MakesStep, the_vie
 use Rattle.chip_world.proofs.StepLemmas.{root_refuses, root_can_perform, root_can_apply, root_makes}
 use Rattle.chip_world.proofs.world.World.of_root.Goals as goal
 
--- the event is the root's in every setting that the world stands for
+-- the event is the root's in every setting that the world represents
 own : (x : Event) (g : Setting) (log : Log) (old inside : WorldState) → inside ≡ old → StandsForLog g log inside
     → is_of_root old.setting x ≡ true → is_of_root g x ≡ true
 own x g log old inside view stands is = rw (← view, stands.setting) at is
@@ -24,7 +24,7 @@ apply-requires c =
     root_can_apply some.0 some.1 (the_view c.self.inside) some.2 c.args.event mine c.requires.act c.in-Ok.act
     c.in-Ok.ensures c.perform-seen.result c.perform-seen.ensures.seen
 
--- whatever log the world stood for, it made one step of it
+-- it made one step of every log that the world represents
 made : (c : goal.After-apply) → (g : Setting) (log : Log) → StandsForLog g log (the_view c.self.inside)
     → MakesStep g log c.args.event
     (record (the_view c.self.inside) { words = c.perform-seen.new.self; root = c.apply.new.self }) c.apply.result

@@ -3,7 +3,7 @@ use Rattle.chip_world.proofs.Names.{Log, step, WorldState, StandsForLog, the_vie
 use Rattle.chip_world.proofs.StepLemmas.{seal_makes}
 use Rattle.chip_world.proofs.world.World.seal.Goals as goal
 
--- whatever log the world stood for, it made one step of it
+-- it made one step of every log that the world represents
 made : (c : goal.After-from_word) → (g : Setting) (log : Log) → StandsForLog g log (the_view c.self.inside)
     → StandsForLog g (step g log (Seal c.args.edge)).0 (record (the_view c.self.inside) { words = c.seal.new.self })
     × (Done c.from_word.result.claims ≡ (step g log (Seal c.args.edge)).1)

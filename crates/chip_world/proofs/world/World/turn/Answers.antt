@@ -16,7 +16,7 @@ turn-requires c =
     meets_turn s.0 s.1 (the_view c.self.inside) s.2 c.args.vertex s.3 c.index_mut-actor.result.now
     c.index_mut-actor.ensures.value c.fired_word-fired.result c.fired_word-fired.ensures
 
--- whatever log the world stood for, the turn was made after it
+-- the turn was made after every log that the world represents
 made : (c : After-turn) → (g : Setting) (log : Log) → StandsForLog g log (the_view c.self.inside)
     → c.args.vertex < g.game.graph.vertices
     → (after : Log) × StandsForLog g after

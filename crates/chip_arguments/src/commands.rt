@@ -363,9 +363,9 @@ Example: chipfire replay graph.json chips.csv trace.csv",
 
 static RESUME: CommandRow = CommandRow {
     name: "resume",
-    about: "Goes on with a play from its report, and writes the report of this sitting",
+    about: "Goes on with a play from its report, and writes the report of this stage",
     after_help: "\
-The limit counts the firings of this sitting alone. A report does not name its graph, so
+The limit counts the firings of this stage alone. A report does not name its graph, so
 name the one that it was played on.
 
 Exit status: 0 no vertex can fire; 2 the limit stopped the vertices that the report lists
@@ -380,8 +380,8 @@ static VERIFY: CommandRow = CommandRow {
     about: "Says whether a report is true of a game: its counts, chips and halted vertices",
     after_help: "\
 `verified` means that every play of this game within this limit fires each vertex as often in
-all, leaves the same chips, and halts the same vertices by the limit. If a sitting was
-stopped, or a vertex fired more often than the limit in several sittings, a report may be
+all, leaves the same chips, and halts the same vertices by the limit. If a stage was
+stopped, or a vertex fired more often than the limit in several stages, a report may be
 right and have fault 53.
 
 Exit status: 0 the report is true; 1 a fault, which `chipfire explain N` explains: 53 if it

@@ -59,7 +59,7 @@ claim and each feed needs a clear of its own.
 
 static NOT_CLAIMED: Explanation = row!(12 NotClaimed NOWHERE:
     "no message is claimed on the edge and not put", "\
-Each claim that answered `sent`, and each feed of a root edge, needs one put after it.
+Each claim that returned `sent`, and each feed of a root edge, needs one put after it.
 ");
 
 static NO_CAUSE: Explanation = row!(13 NoCause NOWHERE: "the vertex has no cause to halt", "\

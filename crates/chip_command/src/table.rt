@@ -326,14 +326,14 @@ Only callers of the library chip_net meet this. Try again after the vertex made 
 
 static BOOKS: Explanation = row!(46 Books NOWHERE:
     "no such edge, a count is too high, or the books of the part are not sound", "\
-Only callers of libchipfire meet this. `chipfire_books_check` looks at all edges of the part:
+Only callers of libchipfire meet this. `chipfire_books_check` reads all edges of the process:
 each slice ascends by edges, which are below 2^64 - 1, no more is answered than there was,
 and a part has a parent exactly if it owes something there.
 ");
 
 static NOT_YET: Explanation = row!(47 NotYet NOWHERE:
     "not all of these messages may be acknowledged yet", "\
-Only callers of libchipfire meet this. `chipfire_may_ack` tells how many may be. The message
+Only callers of libchipfire meet this. `chipfire_may_ack` returns how many may be. The message
 that engaged a part waits until the part is passive, owes nothing else and has no deficit.
 ");
 
@@ -358,7 +358,7 @@ file of the earlier command.
 static DIFFERS: Explanation = row!(53 Differs VERTEX:
     "the report is not of this game, and v is the least vertex that differs", "\
 The game fires v more or less often in all, leaves it other chips, or halts it when the
-report does not. Name the graph, the chips and the --limit of the report. If a sitting was
+report does not. Name the graph, the chips and the --limit of the report. If a stage was
 stopped, or several had limits of their own, the report may be right and differ:
 `chipfire verify` plays without a stop, by one limit.
 ");
@@ -378,7 +378,7 @@ n may be 0: then some chips were not fed.
 
 static GATE_SHUT: Explanation = row!(62 GateShut NOWHERE:
     "a worker was not let into its next turn", "\
-Only callers of the libraries meet this. The gate that they gave to the crew answered false.
+Only callers of the libraries meet this. The gate that they gave to the crew returned false.
 ");
 
 static LOST: Explanation = row!(63 Lost VERTEX:

@@ -91,7 +91,7 @@ class Report(Drawn):
 
     @property
     def total(self) -> tuple[int, ...]:
-        """How often each vertex fired in this sitting and those before it."""
+        """How often each vertex fired in this stage and those before it."""
         return tuple(map(operator.add, self.prior, self.fired)) if self.prior else self.fired
 
     @property
@@ -101,7 +101,7 @@ class Report(Drawn):
 
     @property
     def odometer(self) -> Configuration:
-        """How often each vertex but the sink fired, by names, in this sitting and those before it."""
+        """How often each vertex but the sink fired, by names, in this stage and those before it."""
         return Configuration(self._known_graph(), self.total)
 
     def _known_graph(self) -> Graph:

@@ -7,10 +7,9 @@
  *     auto fell = pile.drop(1);
  *     chipfire::Books books(ins, outs);               the counters of a process (docs/tasks/detect-your-own.md)
  *
- * What each call does, which numbers it takes, and what it answers, chipfire.h says. Numbers that a call reads may be a
+ * chipfire.h says what each call does, which numbers it takes, and what it returns. Numbers that a call reads may be a
  * vector, an array, a list in braces, or a pointer with a length. A fault is thrown as chipfire::Error, and changes nothing
- * but where chipfire.h says so. These calls take memory: none may be made in the forked child of a process that has
- * threads. */
+ * unless chipfire.h says so. These calls take memory: make none in the forked child of a process that has threads. */
 #ifndef CHIPFIRE_HPP
 #define CHIPFIRE_HPP
 
@@ -33,13 +32,13 @@
 
 namespace chipfire {
 
-/// How often a vertex may fire at most; there are no more chips of a game either.
+/// The largest number of firings of a vertex, and of chips in a game.
 constexpr std::uint64_t max_limit = std::uint64_t{1} << 40;
 
-/// The fault of a process that sends while it is passive, as `chipfire judge` names it.
+/// The fault of a process that sends while it is passive, as of `chipfire judge`.
 constexpr std::uint64_t fault_passive = 32;
 
-/// A fault, with its number, its place as chipfire.h says where that is, and its text.
+/// A fault: its number, its place (chipfire.h says of what), and its text.
 class Error : public std::runtime_error {
 public:
     Error(std::uint64_t fault, std::uint64_t place, const std::string &text)
@@ -137,7 +136,7 @@ inline void must(std::uint64_t fault, std::uint64_t place = 0)
     if (fault != CHIPFIRE_OK) throw Error(fault, place);
 }
 
-/// Calls a function of the library on a graph, with what it takes behind that, and throws its fault.
+/// Calls a function of the library on a graph, with the arguments that follow the graph, and throws its fault.
 template <class Function, class... Words>
 void call(Function function, const Graph &graph, Words... words)
 {
@@ -148,14 +147,14 @@ void call(Function function, const Graph &graph, Words... words)
     must(fault, place);
 }
 
-/// How many configurations so many numbers are: a rest makes one more, which the library refuses.
+/// The number of configurations in `numbers` numbers. A remainder makes one more, which the library refuses.
 inline std::size_t rows(const Graph &graph, std::size_t numbers)
 {
     const std::uint64_t vertices = std::max(graph.vertices(), std::uint64_t{1});
     return static_cast<std::size_t>(numbers / vertices + (numbers % vertices != 0));
 }
 
-/// A configuration of zeros, if the graph has not too many vertices for one.
+/// A configuration of zeros, unless the graph has too many vertices for one.
 inline std::vector<std::uint64_t> zeros(const Graph &graph)
 {
     if (graph.vertices() > std::uint64_t{1} << 21) throw Error(CHIPFIRE_FAULT_VERTICES, 0);
@@ -172,38 +171,38 @@ std::vector<std::uint64_t> replaced(Function function, const Graph &graph, std::
 
 }  // namespace detail
 
-/// Games at their ends: chips and firings by vertex, of one game behind those of another, and of each how many vertices the
-/// limit stopped.
+/// Games at their ends: chips and firings by vertex, one game after another, and for each game the number of vertices that
+/// the limit stopped.
 struct Games {
     std::vector<std::uint64_t> chips, fired, stopped;
 };
 
-/// What drops set off: of each how often vertices fired, how many different ones, and how many chips came to the sink.
+/// Avalanches of drops: of each the firings, the vertices that fired, and the chips that reached the sink.
 struct Drops {
     explicit Drops(std::size_t count) : sizes(count), extents(count), losts(count) {}
 
     std::vector<std::uint64_t> sizes, extents, losts;
 };
 
-/// The same of one drop.
+/// The avalanche of one drop.
 struct Drop {
     std::uint64_t size, extent, lost;
 };
 
-/// Drops with what else is measured of them: for how many rounds each lasts, and the vertices that it fires with how often
-/// each, which end at its number in `ends` and begin where those of the drop before end. What is not asked for is empty.
+/// Avalanches with more measures: the rounds that each lasts, and the vertices that it fires with their firings. Those of a
+/// drop end at its number in `ends`, and begin where those of the drop before end. What is not asked for is empty.
 struct Measures : Drops {
     explicit Measures(std::size_t count) : Drops(count) {}
 
     std::vector<std::uint64_t> durations, ends, vertices, times;
 };
 
-/// The least burning script, and how many chips it takes from each vertex on balance.
+/// The least burning script, and the chips that it takes from each vertex on balance.
 struct Burning {
     std::vector<std::uint64_t> script, chips;
 };
 
-/// Fault 13 of drops on a pile: the limit stopped one. It has the rows of those that were made before.
+/// Fault 13 of drops on a pile: the limit stopped one. It has the rows of the drops before that.
 class Stopped : public Error {
 public:
     Stopped(std::uint64_t count, Drops made) : Error(CHIPFIRE_FAULT_STOPPED, count), made_(std::move(made)) {}
@@ -214,7 +213,7 @@ private:
     Drops made_;
 };
 
-/// Plays games in memory of the caller (chipfire_stabilize_all).
+/// Plays games in the caller's memory (chipfire_stabilize_all).
 inline void stabilize_all(const Graph &graph, Room chips, Room fired, Room stopped, std::uint64_t limit = max_limit,
                           Numbers guesses = {})
 {
@@ -233,7 +232,7 @@ inline Games stabilize_all(const Graph &graph, std::vector<std::uint64_t> chips,
     return games;
 }
 
-/// Plays a game in memory of the caller, and drops amounts[i] chips on vertex at[i], one i after another
+/// Plays a game in the caller's memory, and drops amounts[i] chips on vertex at[i], one i after another
 /// (chipfire_avalanches).
 inline Drops avalanches(const Graph &graph, Room chips, Numbers at, Numbers amounts, std::uint64_t limit = max_limit)
 {
@@ -243,7 +242,7 @@ inline Drops avalanches(const Graph &graph, Room chips, Numbers at, Numbers amou
     return drops;
 }
 
-/// Says whether counts and chips are those at the end of a game.
+/// Returns whether counts and chips are those at the end of a game.
 inline bool verify(const Graph &graph, Numbers chips, Numbers fired, Numbers ends, std::uint64_t limit = max_limit)
 {
     try {
@@ -264,7 +263,7 @@ inline Burning burning(const Graph &graph)
     return found;
 }
 
-/// Says which configurations are recurrent: 1 for each that is, else 0.
+/// Returns 1 for each configuration that is recurrent, and 0 for each other one.
 inline std::vector<std::uint64_t> are_recurrent(const Graph &graph, Numbers chips)
 {
     std::vector<std::uint64_t> flags(detail::rows(graph, chips.size()));
@@ -298,7 +297,7 @@ inline std::vector<std::uint64_t> identity(const Graph &graph)
     return chips;
 }
 
-/// Draws so many random recurrent configurations of a seed, one behind the other, from the one with this number on.
+/// Draws `count` random recurrent configurations of a seed, one after another, from number `first` on.
 inline std::vector<std::uint64_t> random_recurrent(const Graph &graph, std::uint64_t seed, std::size_t count = 1,
                                                    std::uint64_t first = 0)
 {
@@ -311,11 +310,11 @@ inline std::vector<std::uint64_t> random_recurrent(const Graph &graph, std::uint
     return chips;
 }
 
-/// A pile that is kept: chips on a graph, on which more are dropped. It owns its memory, and moves. One thread at a time
-/// calls. On a pile that was moved from there is fault 14.
+/// A pile that is kept: chips on a graph, on which more are dropped. It owns its memory, and moves. Only one thread may
+/// call at a time. Calls on a pile that was moved from throw fault 14.
 class Pile {
 public:
-    /// Makes a pile. It plays nothing.
+    /// Makes a pile. Plays nothing.
     Pile(const Graph &graph, Numbers chips, std::uint64_t limit = max_limit)
         : vertices_(static_cast<std::size_t>(graph.vertices())), pile_(new chipfire_pile{})
     {
@@ -327,13 +326,13 @@ public:
         detail::must(fault, place);
     }
 
-    /// Puts other chips there, with counts 0. It plays nothing.
+    /// Puts other chips there, with counts 0. Plays nothing.
     void put(Numbers chips, std::uint64_t limit = max_limit)
     {
         detail::must(chipfire_pile_put(its(), limit, chips.data(), chips.size()));
     }
 
-    /// Plays on by about so many visits; whether the play has still to end.
+    /// Plays on by about this number of visits to vertices and edges. Returns whether the play has still to end.
     bool play(std::uint64_t visits = UINT64_MAX)
     {
         std::uint64_t left = 0;
@@ -365,7 +364,7 @@ public:
         return set_off;
     }
 
-    /// Drops that are measured: what they fire, and if it is asked for, for how many rounds (chipfire_pile_measure).
+    /// Drops chips as `drops` does, and returns what they fire, and their durations if asked for (chipfire_pile_measure).
     Measures measure(Numbers at, Numbers amounts, bool timed = false)
     {
         Measures found(at.size());
@@ -448,23 +447,23 @@ struct Acknowledged {
 };
 
 /// The books of a process: its counters for the detector of Dijkstra and Scholten. docs/tasks/detect-your-own.md says what
-/// is proved, and which duties are the caller's.
+/// is proved, and which duties the caller has.
 ///
-/// The duties are calls, and nobody else can see to their moment:
+/// The duties are calls, whose moments matter:
 ///
 ///     sent(edge)           before the message can be got
 ///     got(edge)            with the message, before it is worked on
-///     add_work(), done()   when more is to be done, and behind the work on a message or on what was added
+///     add_work(), done()   when more is to be done, and after the work on a message or on what was added
 ///     acknowledge()        at any time: the counts go to the tails of their edges
 ///     settled(edge, count) at any time, with what acknowledge() of the edge's head returned
 ///     is_over()            of the root alone
 ///
-/// Any threads may call. A process is at work on each message from `got` to `done`, and passive when it is at work on
-/// nothing. The root alone begins at work, on one piece, and no edge leads to it. What is refused is thrown as an Error whose
-/// place is the process, and changes nothing: fault 46 for an edge, a count or a piece of work that is none, and 32 if the
-/// process sends, or has more to do, while it is passive.
+/// Any thread may call. A process works on each message from `got` to `done`, and is passive while it works on nothing. The
+/// root alone begins at work, on one piece, and no edge leads to it. A refusal is thrown as an Error whose place is the
+/// process, and changes nothing: fault 46 for an edge, a count or a piece of work that does not exist, and 32 if the process
+/// sends, or has more to do, while it is passive.
 ///
-/// `log` gets a row `process,kind,channel` for `chipfire judge` at each duty. It stays as long as the books.
+/// `log` gets a row `process,kind,channel` for `chipfire judge` at each duty. It must outlive the books.
 class Books {
 public:
     Books(std::vector<std::uint64_t> ins, std::vector<std::uint64_t> outs, bool is_root = false, std::uint64_t process = 0,
@@ -514,7 +513,7 @@ public:
         note("receive", edge);
     }
 
-    /// Notes that so much more is to be done, each until a `done` of its own.
+    /// Notes that `pieces` more pieces of work are to be done, each until a `done` of its own.
     void add_work(std::uint64_t pieces = 1)
     {
         const std::lock_guard<std::mutex> held(lock_);
@@ -530,8 +529,8 @@ public:
         if (--work_ == 0) note("passive");
     }
 
-    /// Acknowledges all that may be. Of each edge with something new: how many of its messages are acknowledged so far. A
-    /// later count of an edge makes an earlier one needless.
+    /// Acknowledges all that may be. Returns, for each edge with something new, the number of its messages acknowledged so
+    /// far. A later number of an edge replaces an earlier one.
     std::vector<Acknowledged> acknowledge()
     {
         const std::lock_guard<std::mutex> held(lock_);
@@ -547,8 +546,8 @@ public:
         return found;
     }
 
-    /// Notes how many messages of an edge are acknowledged so far, as its head says or said before. Returns how many of these
-    /// are new.
+    /// Notes the number of messages of an edge that its head has acknowledged so far, now or earlier. Returns how many of
+    /// these are new.
     std::uint64_t settled(std::uint64_t edge, std::uint64_t count)
     {
         const std::lock_guard<std::mutex> held(lock_);
@@ -559,7 +558,7 @@ public:
         return more;
     }
 
-    /// Whether all is over, as the root sees it.
+    /// Whether the computation is over. Only the root may ask.
     bool is_over()
     {
         const std::lock_guard<std::mutex> held(lock_);
@@ -571,7 +570,7 @@ public:
         return over != 0;
     }
 
-    /// How many acknowledgements the process waits for.
+    /// The number of acknowledgements that the process waits for.
     std::uint64_t deficit() const
     {
         const std::lock_guard<std::mutex> held(lock_);
@@ -626,7 +625,7 @@ private:
         point();
     }
 
-    /// Acknowledges what may be on an edge.
+    /// Acknowledges what may be acknowledged on an edge.
     void acknowledge(std::uint64_t edge, std::vector<Acknowledged> &found)
     {
         std::uint64_t count = 0, word = 0;
@@ -655,7 +654,7 @@ private:
         throw Error(fault, process_, "fault " + std::to_string(fault) + ": process " + std::to_string(process_) + ": " + why);
     }
 
-    /// Writes so many rows, if there is a log.
+    /// Writes a row `times` times, if there is a log.
     void note(const char *kind, std::uint64_t channel = 0, std::uint64_t times = 1)
     {
         if (log_ == nullptr) return;
@@ -668,7 +667,7 @@ private:
     chipfire_books books_{nullptr, 0, nullptr, 0, CHIPFIRE_NEUTRAL, 0, 0};
     bool is_root_, has_claimed_ = false;
     std::uint64_t process_;
-    /// How many messages and pieces of work the process is at work on.
+    /// The messages and pieces of work that the process works on.
     std::uint64_t work_ = is_root_ ? 1 : 0;
     /// The edges with messages that are not acknowledged.
     std::set<std::uint64_t> open_;

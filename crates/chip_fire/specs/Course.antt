@@ -10,7 +10,8 @@ use Rattle.chip_fire.specs.declared.course.Searching.{Searching}
 pub record IsSearching (g : ChipGame) (fired : List ℕ) (s : Searching) : Type 0 where
   pub played_few : FewVisits g [] fired 0 (s.alone + s.beside) true
   pub begun : 16 * places g ≤ s.searched
-  pub search_share : s.searched ≤ 160 * places g + 2 * s.alone + s.beside
+  pub ahead_few : s.ahead ≤ 16384 * places g
+  pub search_share : s.searched ≤ s.ahead + 2 * s.alone + s.beside
   pub play_share : s.beside ≤ s.searched + 5 * places g + (s.alone + s.beside) / 4
   pub turn : s.turn_end ≤ s.searched + 4 * places g + (s.alone + s.beside) / 4
 

@@ -1,4 +1,4 @@
-//! A search for counts beside a play: each has its turns, and both make as many visits.
+//! A search for counts beside a play: it begins, and then both have turns and make as many visits.
 
 ghost use Rattle.std.specs.Prelude.{◌≡◌, ◌+◌, ◌*◌, ◌/◌, ◌≤◌, [], true, IfSome, IsTrue};
 ghost use Rattle.chip_fire.specs.Rounds.{OnlyRise, GoesRound};
@@ -8,7 +8,7 @@ ghost use Rattle.chip_fire.specs.Course.{IsCourse, IsSearching};
 use crate::course::{Course, Searching};
 use crate::play::Play;
 use crate::soon::visits_at_all;
-use crate::tuning::{PART_OF_TURN, STRETCH, TURN};
+use crate::tuning::{MOST_AHEAD, PART_OF_TURN, STRETCH, TURN};
 use crate::watch::Watch;
 use chip_guess::{AHEAD, Hierarchy, Search};
 use std::alloc::Global;
@@ -49,16 +49,56 @@ impl Play<'_> {
         let ahead = visits_at_all(graph).saturating_mul(AHEAD);
         let hierarchy = Hierarchy::new(alloc, graph, searched, ahead)?;
         let before = Vec::from_slice(alloc, &self.fired).ok()?;
+        let ahead = self.ahead(hierarchy.is_symmetric(), alone, *searched);
         let search = Search::new(alloc, hierarchy, self.game, &before).ok()?;
         let searching = Searching {
             search: Box::new(alloc, search).ok()?,
             before,
             alone,
+            ahead,
             beside: 0,
             turn_end: 0,
             searched: *searched,
         };
         Box::new(alloc, searching).ok()
+    }
+
+    /// How many visits a search makes before the play has its turns, if it has made `searched`. On an undirected graph
+    /// these are as many as the play needs to dissipate the chips that cannot stay, by what it has dissipated in the
+    /// `alone` visits so far: the chips cross the border more slowly as time goes on, by the square root of it.
+    fn ahead(&self, is_symmetric: bool, alone: u64, searched: u64) -> u64
+        requires few { searched ≤ 160 * places self.now.game }
+        ensures enough { searched ≤ result }
+        ensures most { result ≤ 16384 * places self.now.game }
+    {
+        let all = visits_at_all(self.game.graph());
+        let least = all.saturating_mul(AHEAD).max(searched);
+        if !is_symmetric {
+            return least;
+        }
+        let ratio = self.chips_too_many() / self.dissipated_chips().max(1);
+        let needed = alone.saturating_mul(ratio).saturating_mul(ratio) / 2;
+        needed.min(all.saturating_mul(MOST_AHEAD)).max(least)
+    }
+
+    /// How many chips more the vertices have than they may keep at the end, up to 2^64 - 1.
+    fn chips_too_many(&self) -> u64 {
+        let graph = self.game.graph();
+        let mut chips = 0u64;
+        let mut room = 0u64;
+        for vertex in 0..graph.vertices() {
+            if vertex != graph.sink() {
+                chips = chips.saturating_add(self.chips[vertex as usize]);
+                room = room.saturating_add(graph.out_degree(vertex).saturating_sub(1));
+            }
+        }
+        chips.saturating_sub(room)
+    }
+
+    /// How many chips have come to the sink.
+    fn dissipated_chips(&self) -> u64 {
+        let sink = self.game.graph().sink() as usize;
+        self.chips[sink].saturating_sub(self.game.start()[sink])
     }
 
     /// Goes on by a part of the play's turn, or by one of the search's. The play goes on at the counts that were found, if
@@ -129,7 +169,7 @@ impl Play<'_> {
         ensures searching { IsTrue result → IsSearching self.old.game self.new.fired searching.new }
     {
         let before = searching.searched;
-        let due = share_of_search(visits_at_all(self.game.graph()), searching);
+        let due = share_of_search(searching);
         let next = searching.search.visits_of_next().max(STRETCH);
         let part = before.saturating_add(next).min(due);
         let is_over = searching.search.go_on(
@@ -220,13 +260,14 @@ impl Play<'_> {
     }
 }
 
-/// How many visits a search may have made in all, on a game with `all` vertices and edges.
-fn share_of_search(all: u64, searching: &Searching) -> u64
-    requires { searching.now.searched ≤ 160 * all + 2 * searching.now.alone + searching.now.beside }
+/// How many visits a search may have made in all.
+fn share_of_search(searching: &Searching) -> u64
+    requires { searching.now.searched ≤ searching.now.ahead + 2 * searching.now.alone + searching.now.beside }
     ensures enough { searching.now.searched ≤ result }
-    ensures share { result ≤ 160 * all + 2 * searching.now.alone + searching.now.beside }
+    ensures share { result ≤ searching.now.ahead + 2 * searching.now.alone + searching.now.beside }
 {
-    all.saturating_mul(AHEAD)
+    searching
+        .ahead
         .saturating_add(searching.alone.saturating_mul(2))
         .saturating_add(searching.beside)
         .max(searching.searched)

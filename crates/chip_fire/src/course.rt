@@ -48,7 +48,9 @@ pub struct Searching {
     pub(crate) before: Vec<u64>,
     /// How many visits the play had made then.
     pub(crate) alone: u64,
-    /// How many it has made since.
+    /// How many the search makes before the play has turns, but for two for each of these.
+    pub(crate) ahead: u64,
+    /// How many the play has made since.
     pub(crate) beside: u64,
     /// At how many of these its turn ends.
     pub(crate) turn_end: u64,

@@ -6,6 +6,10 @@ pub(crate) const FIRST_VISITS: u64 = 16;
 /// How many visits to each vertex and edge are too few to search counts: grid-six and random-graph with limits.
 pub(crate) const FEW_VISITS: u64 = 480;
 
+/// How many visits to each vertex and edge a search makes at most before the play has turns: the identity of 1,000 by
+/// 1,000.
+pub(crate) const MOST_AHEAD: u64 = 16384;
+
 /// How many visits to each vertex and edge the play makes in each of its turns beside a search.
 pub(crate) const TURN: u64 = 4;
 

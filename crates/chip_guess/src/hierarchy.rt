@@ -59,6 +59,11 @@ impl Hierarchy {
         Some(hierarchy)
     }
 
+    /// Whether the graph is undirected, but for its edges into the sink.
+    pub fn is_symmetric(&self) -> bool {
+        self.kind == Kind::Symmetric
+    }
+
     /// The graph alone, without aggregates.
     pub(crate) fn flat(alloc: Global, graph: &Graph) -> Result<Hierarchy, AllocError> {
         let finest = Box::new(alloc, Level::of(alloc, graph, true)?)?;

@@ -59,20 +59,6 @@ def commands(page, program):
     return said, {it.name: sorted(shown(option) for option in it.options if option.long != "help") for it in its}
 
 
-def options(page, program):
-    """The options of the page's table, and all of the program's; those that take a number with its range and default."""
-    said = {}
-    for cell, _, most, usual in rows(page, 4):
-        if re.fullmatch(r"`--[^`]+`", cell):
-            said[cell.strip("`")] = (most, re.sub("[,`]", "", usual)) if " to " in most else None
-    _, its = usage.read_program(program)
-    ranges = {}
-    for option in (option for it in its for option in it.options if option.long != "help"):
-        found = re.search(r"(\d+ to [\d^]+) \[default: (.*)\]", option.text)
-        ranges[shown(option)] = found and found.groups()
-    return said, ranges
-
-
 def rules(page, _program):
     """The rules of the page, and those of the Python package."""
     said = {}
@@ -103,5 +89,5 @@ def faults_of(program, table):
 
 
 def tests(program):
-    for table in (commands, options, statuses, statuses_of_all, rules, faults):
+    for table in (commands, statuses, statuses_of_all, rules, faults):
         yield table.__name__.replace("_", " "), functools.partial(faults_of, program, table)

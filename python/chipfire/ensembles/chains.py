@@ -304,8 +304,8 @@ def chains(
     Returns
     -------
     Chains or Histograms
-        The results, with a row for each chain. A drop takes 24 bytes, or 32 with its duration, and a vertex 16 bytes in
-        each chain.
+        The results, with a row for each chain. A drop takes 24 bytes, or 32 with its duration, and a vertex 8 bytes in
+        each chain. While threads play, a vertex takes up to 24 bytes in each chain, or 32 if `chips` are given.
 
     Raises
     ------

@@ -94,14 +94,18 @@ def targets(page):
             yield target, place, heading
 
 
+def has_heading(page, name):
+    """Returns whether a page has the heading that a link names so."""
+    return name in map(slug, re.findall("^#+ (.*)$", text_of(page), re.MULTILINE))
+
+
 def dead(page):
     """Returns the targets of a page's links that are not there."""
-    found = []
-    for target, place, heading in targets(page):
-        headings = {slug(it) for it in re.findall("^#+ (.*)$", text_of(place), re.MULTILINE)} if heading else {""}
-        if place not in tracked() or heading not in headings:
-            found.append(target)
-    return found
+    return [
+        target
+        for target, place, heading in targets(page)
+        if place not in tracked() or heading and not has_heading(place, heading)
+    ]
 
 
 def wrong_page(page):
@@ -115,7 +119,7 @@ def unreached():
     """Returns the pages that are not reached from README.md in two steps."""
     reached = {"README.md"}
     for _ in range(STEPS):
-        reached |= {place for page in reached for _, place, _ in targets(page) if place.endswith(".md")}
+        reached |= {place for page in reached for _, place, _ in targets(page) if place in pages()}
     return [f"README.md does not lead to {it} in {STEPS} steps" for it in pages() if it not in {*reached, FRONT}]
 
 

@@ -1,8 +1,8 @@
 /* libchipfire: chip-firing games (abelian sandpiles), played by proved functions, and a termination detector for your
  * own computation.
  *
- * A graph is its number of vertices, its sink, and three slices with one number per edge, as in a sparse matrix in
- * coordinates: the tail, the head, and how many chips one firing of the tail sends to the head. A slice is a pointer
+ * A graph is its number of vertices, its sink, and three arrays with one number per edge, as in a sparse matrix in
+ * coordinates: the tail, the head, and how many chips one firing of the tail sends to the head. An array is a pointer
  * followed by a length, in numbers. All numbers are uint64_t.
  *
  *     vertices     1 to 2^21, numbered from 0
@@ -13,14 +13,14 @@
  *     limit        how often each vertex may fire, 0 to 2^40
  *
  * Each call returns a status: 0 for success, else the number of the first fault, which `chipfire explain NUMBER`
- * explains. On a fault *place says where it is, or 0 if it has no place, and all slices are unchanged.
+ * explains. On a fault *place says where it is, or 0 if it has no place, and all arrays are unchanged.
  *
  *     1 vertices, 2 sink, 3 number of edges                              no place
  *     4 end of an edge, 5 mult, 6 loop, 7 edge out of the sink           the edge, from 0
  *     8 no walk leads to the sink                                        the least such vertex
  *     9 chips are not one number per vertex; of many games: 12           no place
  *     10 more than 2^40 chips, 11 limit                                  the game, drop or configuration, from 0
- *     12 slices that belong together have different lengths              no place
+ *     12 arrays that belong together have different lengths              no place
  *     13 the limit stopped the play of a drop, or of the game before it  the drop, or 0; or the configuration
  *     14 there is no pile                                                no place
  *     26 a drop on no vertex                                             the drop
@@ -33,7 +33,7 @@
  *
  * The caller must ensure this, which no call can check:
  *
- *   - Each slice has its length, and what is written overlaps nothing else. Only a slice of length 0 may be null.
+ *   - Each array has its length, and what is written overlaps nothing else. Only an array of length 0 may be null.
  *   - One call at a time writes to one memory. Otherwise calls may run on any threads at once: only piles are kept from
  *     one call to the next.
  *   - No call is made from a signal handler, or in the forked child of a process with threads, except chipfire_version,
@@ -92,7 +92,7 @@ static inline const char *chipfire_strerror(uint64_t status)
     case CHIPFIRE_FAULT_START_LENGTH: return "the chips are not one number for each vertex";
     case CHIPFIRE_FAULT_TOTAL: return "there are more than 1099511627776 chips in all";
     case CHIPFIRE_FAULT_LIMIT: return "the firing limit is above 1099511627776";
-    case CHIPFIRE_FAULT_LENGTHS: return "slices that belong together have other lengths";
+    case CHIPFIRE_FAULT_LENGTHS: return "arrays that belong together have other lengths";
     case CHIPFIRE_FAULT_STOPPED: return "the limit stopped the play";
     case CHIPFIRE_FAULT_NO_PILE: return "there is no pile";
     case CHIPFIRE_FAULT_VERTEX: return "the drop falls on no vertex";
@@ -164,7 +164,7 @@ uint64_t chipfire_verify(uint64_t vertices, uint64_t sink,
  * Configurations on one graph: numbers of chips by vertex, configuration after configuration. Numbers at the sink do
  * not count, and 0 is written there. Each call stabilizes some configurations. Each of these may have up to 2^40 chips
  * off the sink, and each vertex may fire up to 2^40 times: else there is fault 10 or 13, at the configuration, or at 0.
- * On a fault all slices are unchanged. */
+ * On a fault all arrays are unchanged. */
 
 /* Finds the least burning script: how often each vertex fires when a recurrent configuration burns.
  *
@@ -260,7 +260,7 @@ uint64_t chipfire_random_recurrent(uint64_t vertices, uint64_t sink,
  * The game and all its drops together, from chipfire_pile_new or chipfire_pile_put on, have at most 2^40 chips, those
  * on the sink too, and share the limit.
  *
- * Each call returns 0 or the number of the first fault; 14 precedes all others. On a fault the pile and all slices are
+ * Each call returns 0 or the number of the first fault; 14 precedes all others. On a fault the pile and all arrays are
  * unchanged, except on 13: the limit stopped a play or a drop. Then graph and limit stay, chips and counts are those at
  * which the play stopped, and every later play, and every drop with no other fault, returns 13 until chipfire_pile_put.
  *
@@ -302,7 +302,7 @@ uint64_t chipfire_pile_drop(struct chipfire_pile *pile, uint64_t vertex, uint64_
                             uint64_t *size, uint64_t *extent, uint64_t *lost);
 
 /* Plays to the end, then makes a chipfire_pile_drop of amounts[i] chips on vertex at[i] for each i in order. The other
- * slices get what those of chipfire_avalanches get. Only plays allocate memory. With no drops it only plays.
+ * arrays get what those of chipfire_avalanches get. Only plays allocate memory. With no drops it only plays.
  *
  * All drops are checked before the first one falls: 12, 26 and 10 change nothing. If the limit stops a play, that is
  * 13, and *place is the number of drops made: only their rows are written. */
@@ -314,11 +314,11 @@ uint64_t chipfire_pile_drops(struct chipfire_pile *pile,
                              uint64_t *losts, size_t losts_len,
                              uint64_t *place);
 
-/* Makes drops as chipfire_pile_drops does, and measures more of each in four slices, of length 0 if not asked for.
+/* Makes drops as chipfire_pile_drops does, and measures more of each in four arrays, of length 0 if not asked for.
  *
  * durations  one number per drop, or none: gets its number of rounds, in each of which each legal vertex fires once; 0
  *            if nothing fires
- * ends       one number per drop, or none: gets where the vertices that it fires end in the next slice. Those of the
+ * ends       one number per drop, or none: gets where the vertices that it fires end in the next array. Those of the
  *            first drop begin at 0
  * vertices   gets the vertices that fire, each once in a drop, in any order; length 0 without ends
  * times      as many numbers as vertices: gets how often each of them fires in the drop
@@ -363,11 +363,11 @@ void chipfire_pile_free(struct chipfire_pile *pile);
  * (Dijkstra and Scholten). docs/DETECTOR.md explains how, and docs/tasks/detect-your-own.md lists the duties of a
  * process.
  *
- * The books of a process are two slices with one tally per edge, for the edges into the process and those out of it,
+ * The books of a process are two arrays with one tally per edge, for the edges into the process and those out of it,
  * and its parent edge. They are your memory: nothing is kept from one call to the next. At first all counts are 0, and
  * the parent is CHIPFIRE_NEUTRAL.
  *
- *     edge    its number, below 2^64 - 1. Each slice ascends by edges, names none twice, and has at most 2^23 + 1
+ *     edge    its number, below 2^64 - 1. Each array ascends by edges, names none twice, and has at most 2^23 + 1
  *     counts  up to 2^40
  *     flags   0 is false, and all else true. What is written is 0 or 1
  *

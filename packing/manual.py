@@ -19,6 +19,12 @@ EXIT = "Exit status: "
 FORMATS, HEADER = "docs/FORMATS.md", "include/chipfire.h"
 MARKS = re.compile(r"`([^`]+)`|\*\*([^*]+)\*\*|\*([^*]+)\*")
 LINK = re.compile(r"\[([^\]]+)\]\([^)]+\)")
+#: Of the header: a comment that begins a line, a line of one about an argument, the body of a function, and what the
+#: compiler alone reads.
+COMMENT = re.compile(r"^/\*(.*?)\*/", re.MULTILINE | re.DOTALL)
+ARGUMENT = re.compile(r"^(\w+)  +(?=\S)", re.MULTILINE)
+BODY = re.compile(r"\n\{\n.*?^\}$", re.MULTILINE | re.DOTALL)
+NO_DECLARATION = re.compile(r'^(?:#(?:if|else|endif).*|extern "C" \{|\})$\n?', re.MULTILINE)
 
 
 def escaped(text):
@@ -113,18 +119,17 @@ def marked(text):
 
 
 def table_lines(rows):
-    """Returns a table of Markdown as a list. Its first cell is the head of an entry, and so is a name after a number."""
-    titles, entries = rows[0], []
-    for row in rows[2:]:
-        half = len(row) // 2
-        parts = [row[:half], row[half:]] if titles[:half] == titles[half:] else [row]
-        for part in parts:
-            heads = 2 if titles[0] == "Number" else 1
-            named = [
-                f"{title}: {cell}." for title, cell in zip(titles[heads:], part[heads:]) if cell
-            ]
-            text = part[-1] if len(part) == heads + 1 else " ".join(named)
-            entries += [".TP", marked(" ".join(part[:heads])), marked(text or "none")]
+    """Returns a table of Markdown as a list. Its first cell is the head of an entry, and so is a name after a number. Of two
+    halves side by side, with the same titles, the right one follows the left one."""
+    titles, _, *rows = rows
+    half = len(titles) // 2
+    if titles[:half] == titles[half:]:
+        rows = [*(row[:half] for row in rows), *(row[half:] for row in rows)]
+    heads, entries = 2 if titles[0] == "Number" else 1, []
+    for row in filter(any, rows):
+        named = [f"{title}: {cell}." for title, cell in zip(titles[heads:], row[heads:]) if cell]
+        text = row[-1] if len(row) == heads + 1 else " ".join(named)
+        entries += [".TP", marked(" ".join(row[:heads])), marked(text or "none")]
     return entries
 
 
@@ -157,20 +162,32 @@ def formats_page(text, version, day):
     return lines + see_also(("chipfire", 1))
 
 
+def comment_block(text):
+    """Returns a block of a comment of the header: a heading, a list, what is not filled, or a paragraph."""
+    if text.startswith("---- "):
+        return [f".SS {escaped(text.removeprefix('---- '))}"]
+    if text.startswith("    "):
+        return [".PP", ".nf", escaped(text), ".fi"]
+    if text.startswith("  - "):
+        its = re.split(r"\n?^  - ", text, flags=re.MULTILINE)[1:]
+        return [line for it in its for line in (".IP \\(bu 2", escaped(" ".join(it.split())))]
+    if ARGUMENT.match(text):
+        its = ARGUMENT.split(text)[1:]
+        pairs = zip(its[::2], its[1::2])
+        return [line for name, it in pairs for line in entry(escaped(name), " ".join(it.split()))]
+    return [".PP", escaped(" ".join(text.split()))]
+
+
 def comment_lines(text):
-    """Returns a comment of the header: paragraphs, and lines that are not filled if they are indented."""
-    lines = [re.sub(r"^ ?\*? ?", "", it) for it in text.split("\n")]
-    found = []
-    for block in re.split(r"\n\s*\n", "\n".join(lines)):
-        parts = re.findall(r"(?:^(?!   ).*\n?)+|(?:^   .*\n?)+", block, re.MULTILINE)
-        for part in parts:
-            is_filled = not part.startswith("   ")
-            found += (
-                [".PP", escaped(" ".join(part.split()))]
-                if is_filled
-                else [".PP", ".nf", escaped(part.rstrip()), ".fi"]
-            )
-    return found
+    """Returns a comment of the header."""
+    text = re.sub(r"^ ?\*? ?", "", text, flags=re.MULTILINE).rstrip()
+    return [line for it in re.split(r"\n\s*\n", text) for line in comment_block(it)]
+
+
+def code_lines(text):
+    """Returns the declarations of a part of the header, if it has any, without bodies and what is for the compiler."""
+    code = NO_DECLARATION.sub("", BODY.sub(";", text)).strip("\n")
+    return [".PP", ".nf", *map(bold, code.split("\n")), ".fi"] if code else []
 
 
 def library_page(text, version, day):
@@ -183,25 +200,11 @@ def library_page(text, version, day):
         "Link with \\fB\\-lchipfire\\fR.",
         ".SH DESCRIPTION",
     ]
-    parts = re.split(r"/\*(.*?)\*/", text, flags=re.DOTALL)
+    parts = COMMENT.split(text)
     lines += comment_lines(parts[1])
     lines.append(".SH DECLARATIONS")
     for comment, code in zip(parts[3::2], parts[4::2]):
-        lines += comment_lines(comment)
-        code = re.sub(
-            r"^#(?:ifdef|endif|if|else).*\n|^extern \"C\" \{\n|^\}\n",
-            "",
-            code.strip("\n"),
-            flags=re.MULTILINE,
-        )
-        code = re.sub(r"\n\{\n.*?^\}$", ";", code, flags=re.MULTILINE | re.DOTALL)
-        if code.strip():
-            lines += [
-                ".PP",
-                ".nf",
-                *(bold(it) if it else "" for it in code.rstrip().split("\n")),
-                ".fi",
-            ]
+        lines += comment_lines(comment) + code_lines(code)
     return lines + see_also(("chipfire", 1))
 
 

@@ -17,6 +17,7 @@ ROOT = os.path.dirname(os.path.dirname(os.path.dirname(os.path.realpath(__file__
 #: Text between backquotes, with the link around it if there is one.
 CITED = re.compile(r"(\[)?`([^`\n]+)`(?(1)(\]\([^)\s]+\))?)")
 LINK = re.compile(r"(?<!!)\[[^\]]*\]\(([^)\s]+)\)", re.DOTALL)
+#: A path has a slash, or the ending of a file of the repository.
 PATH = re.compile(r"[\w.-]*/[\w./-]*|[\w-]+\.(?:antt|rt|md|py|cases|txt|edit|deb)")
 #: What is no text: blocks between fences, and indented ones.
 BLOCKS = re.compile(r"^```.*?^```$|^(?: {4}|\t)[^\n]*$", re.MULTILINE | re.DOTALL)
@@ -27,18 +28,23 @@ STEPS = 2
 
 
 @functools.cache
-def tracked():
-    """Returns the paths of the repository's files and of their folders."""
+def files():
+    """Returns the paths of the repository's files."""
     words = ["git", "-C", ROOT, "ls-files", "--cached", "--others", "--exclude-standard"]
     listed = subprocess.run(words, check=True, stdout=subprocess.PIPE, encoding="utf-8").stdout
-    files = {it for it in listed.splitlines() if os.path.isfile(f"{ROOT}/{it}")}
-    folders = {it.rsplit("/", n)[0] for it in files for n in range(1, it.count("/") + 1)}
-    return files | folders
+    return [it for it in listed.splitlines() if os.path.isfile(f"{ROOT}/{it}")]
+
+
+@functools.cache
+def tracked():
+    """Returns the paths of the repository's files and of their folders."""
+    folders = {it.rsplit("/", n)[0] for it in files() for n in range(1, it.count("/") + 1)}
+    return {*files(), *folders}
 
 
 def pages():
     """Returns the pages."""
-    return sorted(it for it in tracked() if it.endswith(".md"))
+    return sorted(it for it in files() if it.endswith(".md"))
 
 
 @functools.cache
@@ -94,14 +100,18 @@ def targets(page):
             yield target, place, heading
 
 
+def has_heading(page, name):
+    """Returns whether a page has the heading that a link names so."""
+    return name in map(slug, re.findall("^#+ (.*)$", text_of(page), re.MULTILINE))
+
+
 def dead(page):
     """Returns the targets of a page's links that are not there."""
-    found = []
-    for target, place, heading in targets(page):
-        headings = {slug(it) for it in re.findall("^#+ (.*)$", text_of(place), re.MULTILINE)} if heading else {""}
-        if place not in tracked() or heading not in headings:
-            found.append(target)
-    return found
+    return [
+        target
+        for target, place, heading in targets(page)
+        if place not in tracked() or heading and not has_heading(place, heading)
+    ]
 
 
 def wrong_page(page):
@@ -115,7 +125,7 @@ def unreached():
     """Returns the pages that are not reached from README.md in two steps."""
     reached = {"README.md"}
     for _ in range(STEPS):
-        reached |= {place for page in reached for _, place, _ in targets(page) if place.endswith(".md")}
+        reached |= {place for page in reached for _, place, _ in targets(page) if place in pages()}
     return [f"README.md does not lead to {it} in {STEPS} steps" for it in pages() if it not in {*reached, FRONT}]
 
 

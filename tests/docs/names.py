@@ -6,15 +6,13 @@ A page is a Markdown file of the repository. What it cites stands between backqu
 import functools
 import os
 import re
-import subprocess
 
 import definitions  # (what a statement rests on)
 import prove  # (which crate stands on which)
+from links import PATH, files, text_of
 from paths import ROOT
 
 CITED = re.compile(r"`([^`\n]+)`")
-#: A path has a slash, or the ending of a file of the repository.
-PATH = re.compile(r"[\w.-]*/[\w./-]*|[\w-]+\.(?:antt|rt|md|py|cases|txt|edit|deb)")
 #: A name of the sources, with what it is in: `laws::sittings`, `Root::poll`, `Cursor.Take`.
 NAME = re.compile(r"[A-Za-z_]\w*(?:(?:::|\.)[A-Za-z_]\w*)*!?")
 SOURCES = (".rt", ".antt", ".py", ".js", ".ts", ".edit", ".cases", ".txt", ".json", ".csv", ".cpp", ".c", ".toml")
@@ -28,14 +26,6 @@ MADE = ("target", "dist", "out", "release")
 THREADS = ("docs/BENCHMARKS.md", "docs/NET.md", "crates/chip_arguments/src/commands.rt")
 #: What a page of examples/ says that goes into packages, where docs/ does not.
 NOT_PACKED = "are there, and not in packages"
-
-
-@functools.cache
-def files():
-    """Returns the paths of the repository's files."""
-    listed = subprocess.run(["git", "-C", ROOT, "ls-files", "--cached", "--others", "--exclude-standard"],
-                            check=True, capture_output=True, encoding="utf-8")
-    return [it for it in listed.stdout.splitlines() if os.path.isfile(f"{ROOT}/{it}")]
 
 
 @functools.cache
@@ -69,12 +59,6 @@ def is_there(path, page):
 def is_known(name):
     """Returns whether each part of a name stands in the sources."""
     return words().issuperset(re.findall(r"\w+", name))
-
-
-def text_of(page):
-    """Returns the text of a page."""
-    with open(f"{ROOT}/{page}", encoding="utf-8") as file:
-        return file.read()
 
 
 def rows(page):

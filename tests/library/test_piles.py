@@ -70,8 +70,8 @@ class Pile:
         return status, place.now()[0], list(zip(*(it.now() for it in rows)))
 
     def measure(self, drops, timed=False, room=None):
-        """Returns the status, the place, and what is written: all rows, durations, ends, and what fired; room is for so many
-        vertices, and None if that is not asked."""
+        """Returns the status, the place, and what is written: all rows, durations, ends, and what fired; `room` is how many
+        vertices there is room for, and None if that is not asked."""
         columns = [Slice(it) for it in zip(*drops)] if drops else [Slice([]), Slice([])]
         many = [len(drops)] * 3 + [len(drops) * timed, 0 if room is None else len(drops)] + 2 * [room or 0]
         written, place = [Slice([GUARD] * it) for it in many], Slice([7])
@@ -121,7 +121,7 @@ class Piles(unittest.TestCase):
         return pile
 
     def expect_drops(self, pile, chips, drops, limit):
-        """Looks that a pile that was just begun has the chips, the counts and the avalanches of firing one by one."""
+        """Checks that a pile that was just begun has the chips, the counts and the avalanches of firing one by one."""
         graph = pile.graph
         self.assertEqual(pile.now(), [chips, [0] * graph.vertices])
         chips, fired, stopped, _ = stepped(graph, chips, limit)
@@ -136,7 +136,7 @@ class Piles(unittest.TestCase):
             self.assertEqual(pile.now(), [chips, fired])
 
     def expect_one_call(self, pile, chips, drops, limit):
-        """Looks that one call for drops does what firing one by one does, on a pile that was just begun."""
+        """Checks that one call for drops does what firing one by one does, on a pile that was just begun."""
         chips, fired, stopped, _ = stepped(pile.graph, chips, limit)
         rows = []
         for vertex, amount in drops:
@@ -154,7 +154,7 @@ class Piles(unittest.TestCase):
         self.assertEqual(pile.now(), [chips, fired])
 
     def expect_measures(self, pile, chips, drops, limit, timed=False, room=None):
-        """Looks that drops on a pile that was just begun are measured as firing one by one, and round by round, does it."""
+        """Checks that drops on a pile that was just begun are measured as firing one by one, and round by round, does it."""
         graph = pile.graph
         chips, fired, stopped, _ = stepped(graph, chips, limit)
         rows, lengths, ends, where, times = [], [], [], [], []
@@ -187,7 +187,7 @@ class Piles(unittest.TestCase):
         self.assertEqual(pile.now(), [chips, fired])
 
     def expect_portions(self, pile, visits, ends, stopped):
-        """Plays a pile that was just begun by so many visits a call: counts rise in each until all is as at the end."""
+        """Plays a pile that was just begun by `visits` visits a call: counts rise in each until all is as at the end."""
         before = pile.now()
         self.assertEqual(pile.play(0), (0, 1))
         self.assertEqual(pile.now(), before)
@@ -208,7 +208,7 @@ class Piles(unittest.TestCase):
         return portions
 
     def expect_nothing_new(self, pile, fault, call, *words):
-        """Looks that a call has a fault and leaves the pile as it was."""
+        """Checks that a call has a fault and leaves the pile as it was."""
         before = pile.now()
         found = call(*words)
         self.assertEqual(found[0] if isinstance(found, tuple) else found, fault)

@@ -19,9 +19,9 @@ SCHEDULES = {
     "engaged-twice": ("detector/engaged-twice.json", "detector/two-chips.csv"),
 }
 SITTINGS = {
-    "first": ("sittings/chips.csv", "--limit", "1"),
-    "second": ("--resume", "sittings/first.json", "--limit", "1"),
-    "third": ("--resume", "sittings/second.json"),
+    "first": ("stages/chips.csv", "--limit", "1"),
+    "second": ("--resume", "stages/first.json", "--limit", "1"),
+    "third": ("--resume", "stages/second.json"),
 }
 
 
@@ -42,7 +42,7 @@ def told():
         model = ["../python/chipfire/lab/model.py", graph, chips]
         yield f"detector/{name}.txt", [*model, f"detector/{name}.csv", *options]
     for name, options in SITTINGS.items():
-        yield f"sittings/{name}.json", ["play.py", "triangle/graph.json", *options]
+        yield f"stages/{name}.json", ["play.py", "triangle/graph.json", *options]
 
 
 def faults_of(answer, words):

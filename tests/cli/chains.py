@@ -1,9 +1,9 @@
-"""Random plays in several sittings: what `plain` or `simulate` writes, and then `resume`, and what all of them come to.
+"""Random plays in several stages: what `plain` or `simulate` writes, and then `resume`, and what all of them come to.
 
-The games are small and drawn at random. The first sitting ends by a random limit, or by a random edge that is sealed;
+The games are small and drawn at random. The first stage ends by a random limit, or by a random edge that is sealed;
 each further one goes on from the report that the program wrote, with a random limit, and the last one without a limit.
 What must come is known from examples/play.py and chipfire.model, which share nothing with the program: the report
-of each sitting, and that all sittings together are a play that is never stopped.
+of each stage, and that all stages together are a play that is never stopped.
 """
 import json
 import subprocess
@@ -39,7 +39,7 @@ def status_of(report):
 
 
 class Chain:
-    """One play in several sittings, with the files of each in a folder."""
+    """One play in several stages, with the files of each in a folder."""
 
     def __init__(self, program, room, draw):
         self.program, self.room, self.draw = program, room, draw
@@ -61,7 +61,7 @@ class Chain:
         return written, [] if got == expected else [f"{arguments}: expected {expected}, got {got}"]
 
     def first(self):
-        """The first sitting: the report that was written, and what is wrong with it."""
+        """The first stage: the report that was written, and what is wrong with it."""
         if self.draw.random() < 0.25:
             return self.sealed()
         limit, chips = self.draw.randint(0, 6), list(self.chips)
@@ -71,7 +71,7 @@ class Chain:
         return self.differences(words, f"{wanted}\n", status_of(wanted))
 
     def sealed(self):
-        """A first sitting with an edge that is sealed before anything is sent on it."""
+        """A first stage with an edge that is sealed before anything is sent on it."""
         edge = self.draw.randrange(len(self.graph["edges"]))
         self.write("schedule.csv", f"event,at,count\nseal,{edge},0\n")
         core = model().Core(self.graph, self.chips, NO_LIMIT, 1)
@@ -83,8 +83,8 @@ class Chain:
         written, faults = self.differences(words, wanted, status_of(report))
         return written[written.rfind("{") :], faults
 
-    def sittings(self):
-        """All sittings one after another; what is wrong with any of them, and with their sum."""
+    def stages(self):
+        """All stages one after another; what is wrong with any of them, and with their sum."""
         report, faults = self.first()
         limits = [self.draw.randint(0, 8) for _ in range(self.draw.randint(1, 5))]
         for limit in [*limits, NO_LIMIT]:
@@ -98,12 +98,12 @@ class Chain:
         return faults or self.sum_of(json.loads(report))
 
     def sum_of(self, last):
-        """What is wrong with the sum of all sittings, of which this is the last one's report."""
+        """What is wrong with the sum of all stages, of which this is the last one's report."""
         chips = list(self.chips)
         fired = play.play(self.graph, chips, NO_LIMIT, self.draw)
         in_all = [a + b for a, b in zip(last["prior"], last["fired"])]
         is_well = (in_all, last["chips"]) == (fired, chips)
-        shown = f"all sittings give {in_all} and {last['chips']}, one play gives {fired} and {chips}"
+        shown = f"all stages give {in_all} and {last['chips']}, one play gives {fired} and {chips}"
         return [] if is_well else [shown]
 
 
@@ -116,4 +116,4 @@ def faults_of(draw, program, kind, asked):
 
 
 def tests(program):
-    return listed.drawn(GAMES, "chain", faults_of, program, Chain, Chain.sittings)
+    return listed.drawn(GAMES, "chain", faults_of, program, Chain, Chain.stages)

@@ -2,7 +2,7 @@
 
 The games are small and drawn at random, and so are the events, those of a turn and of a feed more often than others.
 What must come is known from chipfire.model, which shares nothing with the program: each reply, and the report. Of
-a play that closes and that no seal stopped, examples/play.py says besides what one sitting makes of all chips together.
+a play that closes and that no seal stopped, examples/play.py says besides what one stage makes of all chips together.
 """
 import json
 

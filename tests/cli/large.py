@@ -195,8 +195,8 @@ def played(room, limit=NO_LIMIT):
     return subprocess.run([player(), "graph.json", "chips.csv", str(limit)], **how).stdout
 
 
-def sittings(room, game, kind, whole):
-    """A play in two sittings, the first of which has a limit, and the counts of both as guesses: arguments and faults."""
+def stages(room, game, kind, whole):
+    """A play in two stages, the first of which has a limit, and the counts of both as guesses: arguments and faults."""
     limit = 1 + game.below(3)
     first = played(room, limit)
     for command in ["plain graph.json chips.csv --large", THREADS]:
@@ -282,7 +282,7 @@ def play_random(program, number):
             yield THREADS, room.faults_of(THREADS, whole)
         turn = number // len(KINDS) % 3
         if turn == 0:
-            yield from sittings(room, game, kind, whole)
+            yield from stages(room, game, kind, whole)
         elif turn == 1:
             yield from looked_at(room, game)
         else:

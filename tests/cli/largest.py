@@ -29,7 +29,7 @@ def rows_of(header, rows):
 
 
 def report(chips, fired, over=(), prior=None):
-    """The report of a game that stopped so, of version 2 where there are sittings before."""
+    """The report of a game that stopped so, of version 2 where there are stages before."""
     more = {"version": 1} if prior is None else {"prior": prior, "version": 2}
     end = {"chips": chips, "closed": not over, "fired": fired, "over": list(over), "sealed": []}
     return compact({**end, **more}) + "\n"

@@ -198,7 +198,7 @@ def tests(program):
         ("plain tells how a search goes on", guessed),
         ("avalanches tells how a drop goes on, after its rows", functools.partial(told, output=rows), "avalanches"),
         ("a long play answers the same", same, "plain"),
-        ("a long sitting answers the same", same, "resume"),
+        ("a long stage answers the same", same, "resume"),
         ("a long drop answers the same", same, "avalanches"),
         ("a play stopped by its limit answers the same", same, "plain", "--limit", "200000000"),
         ("a fault stands behind what was told", same, "run", *turns),

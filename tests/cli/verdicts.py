@@ -1,7 +1,7 @@
 """Reports of random games, true ones and others, and what `verify` says of them.
 
 The games are small and drawn at random, with a limit or without. What must come is known from examples/play.py: its
-report is verified, also where some of its firings are told as those of earlier sittings, and of any other report the
+report is verified, also where some of its firings are told as those of earlier stages, and of any other report the
 least vertex is told at which it has another count, other chips, or another place in a list of halted vertices.
 """
 import json
@@ -18,7 +18,7 @@ SECONDS = 60
 
 
 def report_of(told):
-    """A report as a text, of version 2 where it has firings of earlier sittings."""
+    """A report as a text, of version 2 where it has firings of earlier stages."""
     said = {**told, "closed": not told["over"] + told["sealed"], "version": 2 if "prior" in told else 1}
     return json.dumps(said, separators=(",", ":"), sort_keys=True) + "\n"
 

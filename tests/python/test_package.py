@@ -188,7 +188,7 @@ class Stages(WithFolder):
         second = chipfire.resume(TRIANGLE, first, limit=1)
         third = chipfire.resume(TRIANGLE, second)
         for report, name in [(first, "first"), (second, "second"), (third, "third")]:
-            self.assertEqual(report.text(), text_of(f"{EXAMPLES}/sittings/{name}.json"))
+            self.assertEqual(report.text(), text_of(f"{EXAMPLES}/stages/{name}.json"))
         self.assertEqual((third.total, third.closed, third.odometer), ((3, 1, 0), True, {0: 3, 1: 1}))
 
     def test_a_report_goes_through_a_file(self):
@@ -222,7 +222,7 @@ class Stages(WithFolder):
         # (0 fired once and 1 has not got its chip: it would have begun with -1)
         self.assertFalse(chipfire.Report((0, 0, 1), (1, 0, 0)).fits(TRIANGLE))
         for name in ("first", "second", "third"):
-            chipfire.Report.read(f"{EXAMPLES}/sittings/{name}.json", TRIANGLE)
+            chipfire.Report.read(f"{EXAMPLES}/stages/{name}.json", TRIANGLE)
         sealed = chipfire.simulate(TRIANGLE, [5, 0, 0], chipfire.Schedule().seal(1), rounds=10).report
         sealed.write(self.file("report.json"))
         self.assertEqual(chipfire.Report.read(self.file("report.json"), TRIANGLE), sealed)

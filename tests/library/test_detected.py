@@ -15,7 +15,6 @@ import tempfile
 import threading
 import time
 import types
-import unittest
 
 import chipfire
 import ways

@@ -15,7 +15,7 @@ import unittest
 import chipfire
 import contents
 import library
-from library import BUILT, LARGEST, ROOT, Graph, Room, avalanches, called, need, stabilize_all, verify
+from library import BUILT, LARGEST, ROOT, Room, avalanches, called, need, stabilize_all, verify
 from test_books import NEUTRAL
 from test_games import drawn, grid, spoilt, stepped
 from test_piles import Pile

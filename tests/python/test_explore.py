@@ -23,7 +23,7 @@ from chipfire.lab import model
 from chipfire.lab import schedules
 from chipfire.lab import states
 from small_graphs import directed_graphs
-from students import EARLY, GAMES, MISSED, NOT_LOCAL, REFUSED, RIGHT, STUDENTS
+from students import GAMES, NOT_LOCAL, REFUSED, RIGHT, STUDENTS
 
 SOAK = bool(os.environ.get("CHIPFIRE_SOAK"))
 #: How many states of a game the search of this file visits, and how many random schedules are drawn of a right class.

@@ -12,7 +12,6 @@ import io
 import json
 import os
 import re
-import sys
 import tempfile
 import unittest
 import unittest.mock

@@ -3,7 +3,6 @@ import math
 import random
 import unittest
 from collections import Counter
-from fractions import Fraction
 
 import chipfire
 from chipfire.ensembles import goodness

@@ -16,7 +16,6 @@ import sqlite3
 import subprocess
 import sys
 import tempfile
-import threading
 import unittest
 from collections import Counter
 from unittest import mock
@@ -25,7 +24,6 @@ import chipfire
 from chipfire.ensembles import player, spread
 from chipfire.ensembles.checkpoint import Checkpoint
 from chipfire.progress import Progress
-from test_counts import slow_report
 from test_drops import slow_rows
 from test_ensembles import IS_HERE, MULTIGRAPH
 from test_sandpiles import has

@@ -9,6 +9,7 @@ import tempfile
 import unittest
 
 import chipfire
+from test_sandpiles import has
 
 HERE = os.path.dirname(os.path.realpath(__file__))
 ROOT = os.path.dirname(os.path.dirname(HERE))
@@ -95,15 +96,6 @@ class Examples(unittest.TestCase):
             found = runner.run(parser.get_doctest(text, {"chipfire": chipfire}, name, None, 0), out=told.append)
             self.assertEqual((found.failed, "".join(told)), (0, ""), name)
             self.assertTrue(found.attempted or name == "from_sage", name)
-
-
-def has(library):
-    """Returns whether this Python has a library."""
-    try:
-        __import__(library)
-    except ImportError:
-        return False
-    return True
 
 
 class Reference(unittest.TestCase):

@@ -37,11 +37,15 @@ def try_in(folder):
         raise Refused("the package for browsers and Node does not start in Node")
 
 
+def made_in(folder):
+    """Returns the files that were made in the folder `WEB` of another, bytes by names."""
+    return {name: content(f"{folder}/{WEB}/{name}") for name in os.listdir(f"{folder}/{WEB}")}
+
+
 def built_in(folder):
     """Returns what was made in the folder `WEB` of another, bytes by the words of PROVED."""
-    names = os.listdir(f"{folder}/{WEB}")
-    files = {name: content(f"{folder}/{WEB}/{name}") for name in names}
-    return {MODULE: files[MODULE], NPM: npm.packed(files), BOARD: files[BOARD]}
+    made = made_in(folder)
+    return {MODULE: made[MODULE], NPM: npm.packed(made), BOARD: made[BOARD]}
 
 
 def files(built):
@@ -64,5 +68,5 @@ def lay_out(folder, built):
 
 def differing(built, folder):
     """Returns the names of the files that are others in what was made, or in the folder `WEB` of another."""
-    ours, here = files(built), files(built_in(folder))
+    ours, here = files(built), made_in(folder)
     return sorted(name for name in {*ours, *here} if ours.get(name) != here.get(name))

@@ -234,9 +234,6 @@ class Compared(Comparing):
     def test_another_file_of_the_same_tools(self):
         for name in os.listdir(f"{built()}/js"):
             answer = self.compare(released(), self.another(f"js/{name}"))
-            if name == "package.json":
-                self.assertEqual(answer.returncode, 1)
-                continue
             self.fails(answer, f"the same kit and wasm-opt version 1 .made up. made another {name} here from the same sources")
 
     def test_other_tools(self):

@@ -19,6 +19,12 @@ EXIT = "Exit status: "
 FORMATS, HEADER = "docs/FORMATS.md", "include/chipfire.h"
 MARKS = re.compile(r"`([^`]+)`|\*\*([^*]+)\*\*|\*([^*]+)\*")
 LINK = re.compile(r"\[([^\]]+)\]\([^)]+\)")
+#: Of the header: a comment that begins a line, a line of one about an argument, the body of a function, and what the
+#: compiler alone reads.
+COMMENT = re.compile(r"^/\*(.*?)\*/", re.MULTILINE | re.DOTALL)
+ARGUMENT = re.compile(r"^(\w+)  +(?=\S)", re.MULTILINE)
+BODY = re.compile(r"\n\{\n.*?^\}$", re.MULTILINE | re.DOTALL)
+NO_DECLARATION = re.compile(r'^(?:#(?:if|else|endif).*|extern "C" \{|\})$\n?', re.MULTILINE)
 
 
 def escaped(text):
@@ -157,20 +163,32 @@ def formats_page(text, version, day):
     return lines + see_also(("chipfire", 1))
 
 
+def comment_block(text):
+    """Returns a block of a comment of the header: a heading, a list, what is not filled, or a paragraph."""
+    if text.startswith("---- "):
+        return [f".SS {escaped(text.removeprefix('---- '))}"]
+    if text.startswith("    "):
+        return [".PP", ".nf", escaped(text), ".fi"]
+    if text.startswith("  - "):
+        its = re.split(r"\n?^  - ", text, flags=re.MULTILINE)[1:]
+        return [line for it in its for line in (".IP \\(bu 2", escaped(" ".join(it.split())))]
+    if ARGUMENT.match(text):
+        its = ARGUMENT.split(text)[1:]
+        pairs = zip(its[::2], its[1::2])
+        return [line for name, it in pairs for line in entry(escaped(name), " ".join(it.split()))]
+    return [".PP", escaped(" ".join(text.split()))]
+
+
 def comment_lines(text):
-    """Returns a comment of the header: paragraphs, and lines that are not filled if they are indented."""
-    lines = [re.sub(r"^ ?\*? ?", "", it) for it in text.split("\n")]
-    found = []
-    for block in re.split(r"\n\s*\n", "\n".join(lines)):
-        parts = re.findall(r"(?:^(?!   ).*\n?)+|(?:^   .*\n?)+", block, re.MULTILINE)
-        for part in parts:
-            is_filled = not part.startswith("   ")
-            found += (
-                [".PP", escaped(" ".join(part.split()))]
-                if is_filled
-                else [".PP", ".nf", escaped(part.rstrip()), ".fi"]
-            )
-    return found
+    """Returns a comment of the header."""
+    text = re.sub(r"^ ?\*? ?", "", text, flags=re.MULTILINE).rstrip()
+    return [line for it in re.split(r"\n\s*\n", text) for line in comment_block(it)]
+
+
+def code_lines(text):
+    """Returns the declarations of a part of the header, if it has any, without bodies and what is for the compiler."""
+    code = NO_DECLARATION.sub("", BODY.sub(";", text)).strip("\n")
+    return [".PP", ".nf", *map(bold, code.split("\n")), ".fi"] if code else []
 
 
 def library_page(text, version, day):
@@ -183,25 +201,11 @@ def library_page(text, version, day):
         "Link with \\fB\\-lchipfire\\fR.",
         ".SH DESCRIPTION",
     ]
-    parts = re.split(r"/\*(.*?)\*/", text, flags=re.DOTALL)
+    parts = COMMENT.split(text)
     lines += comment_lines(parts[1])
     lines.append(".SH DECLARATIONS")
     for comment, code in zip(parts[3::2], parts[4::2]):
-        lines += comment_lines(comment)
-        code = re.sub(
-            r"^#(?:ifdef|endif|if|else).*\n|^extern \"C\" \{\n|^\}\n",
-            "",
-            code.strip("\n"),
-            flags=re.MULTILINE,
-        )
-        code = re.sub(r"\n\{\n.*?^\}$", ";", code, flags=re.MULTILINE | re.DOTALL)
-        if code.strip():
-            lines += [
-                ".PP",
-                ".nf",
-                *(bold(it) if it else "" for it in code.rstrip().split("\n")),
-                ".fi",
-            ]
+        lines += comment_lines(comment) + code_lines(code)
     return lines + see_also(("chipfire", 1))
 
 

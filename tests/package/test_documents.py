@@ -93,6 +93,12 @@ class Manual(made.Test):
         self.assertGreater(len(declared), 20)
         self.assertEqual([it for it in declared if it not in page], [])
 
+    def test_that_of_the_library_lists_arguments_and_has_nothing_for_the_compiler(self):
+        page = self.page(section=3)
+        self.assertRegex(page, r"\n {7}guesses\s+none; or as many as chips: ")
+        self.assertRegex(page, r"\n +uint64_t owed; +/\* how many messages ")
+        self.assertNotIn("#endif", page)
+
     def test_that_of_files_has_each_part_and_fault(self):
         text = made.read(f"{made.ROOT}/docs/FORMATS.md").decode()
         page = self.page(section=5)

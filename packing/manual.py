@@ -119,18 +119,17 @@ def marked(text):
 
 
 def table_lines(rows):
-    """Returns a table of Markdown as a list. Its first cell is the head of an entry, and so is a name after a number."""
-    titles, entries = rows[0], []
-    for row in rows[2:]:
-        half = len(row) // 2
-        parts = [row[:half], row[half:]] if titles[:half] == titles[half:] else [row]
-        for part in parts:
-            heads = 2 if titles[0] == "Number" else 1
-            named = [
-                f"{title}: {cell}." for title, cell in zip(titles[heads:], part[heads:]) if cell
-            ]
-            text = part[-1] if len(part) == heads + 1 else " ".join(named)
-            entries += [".TP", marked(" ".join(part[:heads])), marked(text or "none")]
+    """Returns a table of Markdown as a list. Its first cell is the head of an entry, and so is a name after a number. Of two
+    halves side by side, with the same titles, the right one follows the left one."""
+    titles, _, *rows = rows
+    half = len(titles) // 2
+    if titles[:half] == titles[half:]:
+        rows = [*(row[:half] for row in rows), *(row[half:] for row in rows)]
+    heads, entries = 2 if titles[0] == "Number" else 1, []
+    for row in filter(any, rows):
+        named = [f"{title}: {cell}." for title, cell in zip(titles[heads:], row[heads:]) if cell]
+        text = row[-1] if len(row) == heads + 1 else " ".join(named)
+        entries += [".TP", marked(" ".join(row[:heads])), marked(text or "none")]
     return entries
 
 

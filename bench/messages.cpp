@@ -38,7 +38,7 @@ private:
     std::deque<std::uint64_t> numbers_;
 };
 
-/// Hands numbers over until they are so great.
+/// Hands numbers over until they reach the count.
 static void hand_over(std::uint64_t count)
 {
     Line lines[2];
@@ -53,7 +53,7 @@ struct Process {
     std::uint64_t in, out;
 };
 
-/// Has the tail of an edge know what its head has acknowledged.
+/// Passes what a process may acknowledge on to the tails of the edges.
 static void acknowledge(Process &head, Process &tail, chipfire::Books &root)
 {
     for (const auto &[edge, count] : head.books.acknowledge()) {
@@ -61,7 +61,7 @@ static void acknowledge(Process &head, Process &tail, chipfire::Books &root)
     }
 }
 
-/// Hands numbers over until they are so great, with books; whether the root knows the end.
+/// Hands numbers over until they reach the count, with books. Returns whether the root knows the end.
 static bool hand_over_in_books(std::uint64_t count)
 {
     chipfire::Books root({}, {begins}, true);
@@ -87,7 +87,7 @@ static bool hand_over_in_books(std::uint64_t count)
     return root.is_over();
 }
 
-/// The microseconds of each of so many messages since then.
+/// Returns the microseconds of each of `count` messages since `begun`.
 static double micros_since(std::chrono::steady_clock::time_point begun, std::uint64_t count)
 {
     const std::chrono::duration<double, std::micro> taken = std::chrono::steady_clock::now() - begun;

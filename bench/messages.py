@@ -22,6 +22,7 @@ import chipfire  # (frame has Python find it)
 
 #: The two processes.
 NAMES = ("left", "right")
+COMPILE = ["g++", "-std=c++17", "-O2", f"-I{frame.ROOT}/include"]
 
 
 def hand_over(inbox, outbox, most):
@@ -74,19 +75,9 @@ def detected_seconds(backend, messages):
     return seconds
 
 
-def cpp_rows(program, messages):
+def cpp_row(books, messages):
     """What messages.cpp prints: the microseconds without and with books."""
-    built, folder = f"{frame.ROOM}/messages", os.path.dirname(program)
-    words = [
-        "g++",
-        "-O2",
-        "-std=c++17",
-        f"-I{frame.ROOT}/include",
-        f"{frame.BENCH}/messages.cpp",
-        f"{folder}/libchipfire.a",
-    ]
-    subprocess.run([*words, "-o", built], check=True)
-    said = subprocess.run([built, str(messages)], check=True, stdout=subprocess.PIPE, text=True)
+    said = subprocess.run([books, str(messages)], check=True, stdout=subprocess.PIPE, text=True)
     return [float(number) for number in said.stdout.split()]
 
 
@@ -111,7 +102,9 @@ def main():
             for _ in range(asked.turns)
         ]
         show(name, *(min(column) / asked.messages * 1e6 for column in zip(*turns)))
-    turns = [cpp_rows(asked.program, 50 * asked.messages) for _ in range(asked.turns)]
+    library = f"{os.path.dirname(asked.program)}/libchipfire.a"
+    books = frame.compiled(COMPILE, "messages.cpp", "messages", [library])
+    turns = [cpp_row(books, 50 * asked.messages) for _ in range(asked.turns)]
     show("queues of C++, in one thread", *map(min, zip(*turns)))
 
 

@@ -1,9 +1,9 @@
-/* libchipfire: chip-firing games (abelian sandpiles), played by proved functions, and behind them a detector of the end of
+/* libchipfire: chip-firing games (abelian sandpiles), played by proved functions, and after them a detector of the end of
  * your own computation.
  *
- * A graph is its number of vertices, its sink, and three slices with one number for each edge, as a sparse matrix in
- * coordinates has them: the tail, the head, and how many chips one firing of the tail sends to the head. A slice is a
- * pointer and behind it a length, in numbers. All numbers are uint64_t.
+ * A graph is its number of vertices, its sink, and three arrays with one number for each edge, as a sparse matrix in
+ * coordinates has them: the tail, the head, and how many chips one firing of the tail sends to the head. An array is passed
+ * as a pointer and, after it, its length in numbers. All numbers are uint64_t.
  *
  *     vertices     1 to 2^21, numbered from 0
  *     sink         a vertex: it has no edge out, and never fires
@@ -12,8 +12,8 @@
  *     chips        one number for each vertex, the sink too: up to 2^40 in all
  *     limit        how often each vertex may fire, 0 to 2^40
  *
- * Each call answers a status: 0 for success, else the number of the first fault, which `chipfire explain NUMBER` tells.
- * On a fault *place says where it is, or 0 if it is nowhere, and all slices stay as they were.
+ * Each call returns a status: 0 for success, else the number of the first fault, which `chipfire explain NUMBER` explains.
+ * On a fault *place says where it is, or 0 if it is nowhere, and all arrays stay as they were.
  *
  *     1 vertices, 2 sink, 3 number of edges                              no place
  *     4 end of an edge, 5 mult, 6 loop, 7 edge out of the sink           the edge, from 0
@@ -33,7 +33,7 @@
  *
  * The caller sees to this, which no call can check:
  *
- *   - Each slice has its length, and what is written overlaps nothing else. Only a slice of length 0 may be null.
+ *   - Each array has its length, and what is written overlaps nothing else. Only an array of length 0 may be null.
  *   - One call at a time writes to one memory. Apart from that calls may run on any threads at once: nothing but piles is
  *     kept from one to the next.
  *   - No call from a signal handler, nor in the forked child of a process that has threads. There chipfire_version,
@@ -52,7 +52,7 @@ extern "C" {
 #define CHIPFIRE_VERSION UINT64_C(10000)
 uint64_t chipfire_version(void);
 
-/* What calls answer: success, or a fault by the name that `chipfire explain` has for it. */
+/* What calls return: success, or a fault by the name that `chipfire explain` has for it. */
 enum chipfire_status {
     CHIPFIRE_OK = 0,
     CHIPFIRE_FAULT_VERTICES = 1,
@@ -106,8 +106,8 @@ static inline const char *chipfire_strerror(uint64_t status)
 
 /* Plays many games on one graph, each to its end, or until its limit lets no vertex fire that could.
  *
- * chips    of one game behind those of another: at the start, and then at the end
- * guesses  none; or as many as chips: counts at which the play of each game may begin, whatever they are. The answer
+ * chips    of one game after those of another: at the start, and then at the end
+ * guesses  none; or as many as chips: counts at which the play of each game may begin, whatever they are. The result
  *          is the same, and sooner there if they are near
  * fired    as many as chips: gets how often each vertex fired
  * stopped  one for each game: gets how many vertices could fire at the end, and had fired as often as the limit allows */
@@ -129,7 +129,7 @@ uint64_t chipfire_stabilize_all(uint64_t vertices, uint64_t sink,
  * extents  gets how many different vertices fired
  * losts    gets how many chips they brought to the sink; a chip that is dropped on the sink is not among them
  *
- * The limit is for all plays together. Where it stops one there is no answer: that is fault 13. */
+ * The limit is for all plays together. Where it stops one there is no result: that is fault 13. */
 uint64_t chipfire_avalanches(uint64_t vertices, uint64_t sink,
                              const uint64_t *tails, size_t tails_len,
                              const uint64_t *heads, size_t heads_len,
@@ -143,7 +143,7 @@ uint64_t chipfire_avalanches(uint64_t vertices, uint64_t sink,
                              uint64_t *losts, size_t losts_len,
                              uint64_t *place);
 
-/* Says whether counts and chips are those at the end of a game: 0 if chipfire_stabilize_all answers them too. If they are
+/* Says whether counts and chips are those at the end of a game: 0 if chipfire_stabilize_all returns them too. If they are
  * right, that is no long play.
  *
  * chips    at the start
@@ -161,10 +161,10 @@ uint64_t chipfire_verify(uint64_t vertices, uint64_t sink,
 
 /* ---- Recurrent configurations
  *
- * Configurations on one graph: numbers of chips by vertex, those of one behind those of another. Numbers at the sink do
+ * Configurations on one graph: numbers of chips by vertex, those of one after those of another. Numbers at the sink do
  * not count, and 0 is written there. Each call stabilizes some configurations, and each of these has up to 2^40 chips off
  * the sink, and lets no vertex fire more than 2^40 times: else there is fault 10 or 13, at the configuration, or at 0. On
- * a fault all slices stay as they were. */
+ * a fault all arrays stay as they were. */
 
 /* Finds the least burning script: how often each vertex fires when a recurrent configuration burns.
  *
@@ -190,7 +190,7 @@ uint64_t chipfire_are_recurrent(uint64_t vertices, uint64_t sink,
                                 uint64_t *flags, size_t flags_len,
                                 uint64_t *place);
 
-/* Puts in place of each of so many configurations the one recurrent configuration that is equivalent to it. */
+/* Puts in place of each configuration the one recurrent configuration that is equivalent to it. There are rows of them. */
 uint64_t chipfire_recurrent(uint64_t vertices, uint64_t sink,
                             const uint64_t *tails, size_t tails_len,
                             const uint64_t *heads, size_t heads_len,
@@ -199,7 +199,7 @@ uint64_t chipfire_recurrent(uint64_t vertices, uint64_t sink,
                             uint64_t *chips, size_t chips_len,
                             uint64_t *place);
 
-/* Puts in place of each of so many configurations the one superstable configuration that is equivalent to it. */
+/* Puts in place of each configuration the one superstable configuration that is equivalent to it. There are rows of them. */
 uint64_t chipfire_superstable(uint64_t vertices, uint64_t sink,
                               const uint64_t *tails, size_t tails_len,
                               const uint64_t *heads, size_t heads_len,
@@ -208,8 +208,8 @@ uint64_t chipfire_superstable(uint64_t vertices, uint64_t sink,
                               uint64_t *chips, size_t chips_len,
                               uint64_t *place);
 
-/* Puts in place of each of so many configurations the recurrent one whose stable sum with it is the identity, if it is
- * recurrent; else that of its recurrent representative. */
+/* Puts in place of each configuration the recurrent one whose stable sum with it is the identity, if it is recurrent; else
+ * that of its recurrent representative. There are rows of them. */
 uint64_t chipfire_inverse(uint64_t vertices, uint64_t sink,
                           const uint64_t *tails, size_t tails_len,
                           const uint64_t *heads, size_t heads_len,
@@ -228,8 +228,8 @@ uint64_t chipfire_identity(uint64_t vertices, uint64_t sink,
                            uint64_t *chips, size_t chips_len,
                            uint64_t *place);
 
-/* Draws so many random recurrent configurations, with 0 at the sink. They have the numbers first, first + 1, .., and that of
- * a number follows from graph and seed alone.
+/* Draws random recurrent configurations, rows of them, with 0 at the sink. They have the numbers first, first + 1, .., and
+ * that of a number follows from graph and seed alone.
  *
  * Where each edge that does not lead to the sink has one back with the same multiplicity, all recurrent configurations are
  * equally probable, which is not proved. On other graphs they are recurrent, and not evenly drawn.
@@ -363,18 +363,18 @@ void chipfire_pile_free(struct chipfire_pile *pile);
 
 /* ---- The end of your own computation
  *
- * Parts send one another messages, and want to know when none is on its way and nobody is at work (Dijkstra and Scholten).
- * docs/DETECTOR.md says how, and docs/tasks/detect-your-own.md which duties a part has.
+ * Processes send one another messages, and want to know when none is in transit and nobody is at work (Dijkstra and
+ * Scholten). docs/DETECTOR.md says how, and docs/tasks/detect-your-own.md which duties a process has.
  *
- * The books of a part are two slices with a tally for each edge, of those into the part and of those out of it, and its
+ * The books of a process are two arrays with a tally for each edge, of those into it and of those out of it, and its
  * parent edge. They are memory of yours: nothing is kept from one call to the next. At first all counts are 0, and the
  * parent is CHIPFIRE_NEUTRAL.
  *
- *     edge    its number, below 2^64 - 1. Each slice ascends by edges, names none twice, and has 2^23 + 1 at most
+ *     edge    its number, below 2^64 - 1. Each array ascends by edges, names none twice, and has 2^23 + 1 at most
  *     counts  up to 2^40
  *     flags   0 is false, and all else true. What is written is 0 or 1
  *
- * Each call answers 0, or 46 or 47, and then nothing has changed:
+ * Each call returns 0, or 46 or 47, and then nothing has changed:
  *
  *     46      there is no such edge, or a count is too high, or the books are not sound, if that is seen
  *     47      not all of these messages may be acknowledged yet
@@ -386,25 +386,25 @@ void chipfire_pile_free(struct chipfire_pile *pile);
  *
  * The caller sees to this too, which no call can check:
  *
- *   - One call at a time works on the books of one part.
+ *   - One call at a time works on the books of one process.
  *   - A message is noted as sent before it can be got, and as got before it is worked on. None is lost or comes twice.
  *   - The tail of an edge learns how many messages were acknowledged only after chipfire_acked, or
- *     chipfire_books_acknowledge, has answered 0.
- *   - A part that says that it is passive sends nothing, and only a message wakes it. Only the root begins at work, and no
- *     edge leads to the root. */
+ *     chipfire_books_acknowledge, has returned 0.
+ *   - A process that says that it is passive sends nothing, and only a message wakes it. Only the root begins at work, and
+ *     no edge leads to the root. */
 struct chipfire_tally {
     uint64_t edge;      /* the number of the edge */
     uint64_t messages;  /* how many messages were got on it (in), or sent (out) */
     uint64_t answered;  /* how many of these are acknowledged (in), or known to be (out) */
 };
 
-/* The parent of a part that no message engages: the number of no edge. */
+/* The parent of a process that no message engages: the number of no edge. */
 #define CHIPFIRE_NEUTRAL UINT64_MAX
 
 /* Notes a message that was sent on the edge. */
 uint64_t chipfire_sent(struct chipfire_tally *outs, size_t outs_len, uint64_t edge);
 
-/* Notes a message that came on the edge. It engages a neutral part: the edge becomes its parent. */
+/* Notes a message that came on the edge. It engages a neutral process: the edge becomes its parent. */
 uint64_t chipfire_got(struct chipfire_tally *ins, size_t ins_len, uint64_t *parent, uint64_t edge);
 
 /* Writes how many messages of the edge may be acknowledged now. */
@@ -421,13 +421,13 @@ uint64_t chipfire_acked(struct chipfire_tally *ins, size_t ins_len,
  * writes how many of these are new. */
 uint64_t chipfire_settled(struct chipfire_tally *outs, size_t outs_len, uint64_t edge, uint64_t word, uint64_t *more);
 
-/* Writes how many acknowledgements the part waits for. */
+/* Writes how many acknowledgements the process waits for. */
 uint64_t chipfire_deficit(const struct chipfire_tally *outs, size_t outs_len, uint64_t *count);
 
 /* Asked of the root: writes whether all is over. It is once the root sends no more and waits for no acknowledgement. */
 uint64_t chipfire_is_over(const struct chipfire_tally *outs, size_t outs_len, uint64_t ended, uint64_t *over);
 
-/* Says whether the books of a part are sound. */
+/* Says whether the books of a process are sound. */
 uint64_t chipfire_books_check(const struct chipfire_tally *ins, size_t ins_len,
                               const struct chipfire_tally *outs, size_t outs_len, uint64_t parent);
 
@@ -439,12 +439,12 @@ uint64_t chipfire_books_check(const struct chipfire_tally *ins, size_t ins_len,
  *     chipfire_books_open(&books);            fills in the sums
  *     chipfire_books_sent(&books, edge);      and so on
  *
- * They do on the tallies what the calls above do. They answer 0 or 46, and at 46 nothing has changed. They write the
+ * They do on the tallies what the calls above do. They return 0 or 46, and at 46 nothing has changed. They write the
  * tallies, parent, owed and deficit, and all of these may be read between calls. An edge with counts 0 may be added to a
  * side, also in other memory, without chipfire_books_open. If the sums are not those of the tallies, a call touches no
- * other memory, lets no sum pass below 0 or above 2^64 - 1, and what it answers means nothing. */
+ * other memory, lets no sum pass below 0 or above 2^64 - 1, and what it returns means nothing. */
 struct chipfire_books {
-    struct chipfire_tally *ins;   /* the edges into the part */
+    struct chipfire_tally *ins;   /* the edges into the process */
     size_t ins_len;
     struct chipfire_tally *outs;  /* the edges out of it */
     size_t outs_len;
@@ -462,7 +462,7 @@ uint64_t chipfire_books_verify(const struct chipfire_books *books);
 /* Notes a message that was sent on the edge. */
 uint64_t chipfire_books_sent(struct chipfire_books *books, uint64_t edge);
 
-/* Notes a message that came on the edge. It engages a neutral part. */
+/* Notes a message that came on the edge. It engages a neutral process. */
 uint64_t chipfire_books_got(struct chipfire_books *books, uint64_t edge);
 
 /* Acknowledges as many messages of the edge as chipfire_may_ack would write. Writes their number, which may be 0, and as
@@ -474,7 +474,7 @@ uint64_t chipfire_books_acknowledge(struct chipfire_books *books, uint64_t edge,
  * writes how many of these are new. */
 uint64_t chipfire_books_settled(struct chipfire_books *books, uint64_t edge, uint64_t word, uint64_t *more);
 
-/* Asked of the root: writes whether all is over. It always answers 0. */
+/* Asked of the root: writes whether all is over. It always returns 0. */
 uint64_t chipfire_books_is_over(const struct chipfire_books *books, uint64_t ended, uint64_t *over);
 
 #ifdef __cplusplus

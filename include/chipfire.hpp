@@ -7,7 +7,7 @@
  *     auto fell = pile.drop(1);
  *     chipfire::Books books(ins, outs);               the counters of a process (docs/tasks/detect-your-own.md)
  *
- * What each call does, which numbers it takes, and what it answers, chipfire.h says. Numbers that a call reads may be a
+ * What each call does, which numbers it takes, and what it returns, chipfire.h says. Numbers that a call reads may be a
  * vector, an array, a list in braces, or a pointer with a length. A fault is thrown as chipfire::Error, and changes nothing
  * but where chipfire.h says so. These calls take memory: none may be made in the forked child of a process that has
  * threads. */
@@ -137,7 +137,7 @@ inline void must(std::uint64_t fault, std::uint64_t place = 0)
     if (fault != CHIPFIRE_OK) throw Error(fault, place);
 }
 
-/// Calls a function of the library on a graph, with what it takes behind that, and throws its fault.
+/// Calls a function of the library on a graph, with what it takes after that, and throws its fault.
 template <class Function, class... Words>
 void call(Function function, const Graph &graph, Words... words)
 {
@@ -172,7 +172,7 @@ std::vector<std::uint64_t> replaced(Function function, const Graph &graph, std::
 
 }  // namespace detail
 
-/// Games at their ends: chips and firings by vertex, of one game behind those of another, and of each how many vertices the
+/// Games at their ends: chips and firings by vertex, of one game after those of another, and of each how many vertices the
 /// limit stopped.
 struct Games {
     std::vector<std::uint64_t> chips, fired, stopped;
@@ -298,7 +298,7 @@ inline std::vector<std::uint64_t> identity(const Graph &graph)
     return chips;
 }
 
-/// Draws so many random recurrent configurations of a seed, one behind the other, from the one with this number on.
+/// Draws `count` random recurrent configurations of a seed, one after the other, from the one numbered `first` on.
 inline std::vector<std::uint64_t> random_recurrent(const Graph &graph, std::uint64_t seed, std::size_t count = 1,
                                                    std::uint64_t first = 0)
 {
@@ -454,7 +454,7 @@ struct Acknowledged {
 ///
 ///     sent(edge)           before the message can be got
 ///     got(edge)            with the message, before it is worked on
-///     add_work(), done()   when more is to be done, and behind the work on a message or on what was added
+///     add_work(), done()   when more is to be done, and after the work on a message or on what was added
 ///     acknowledge()        at any time: the counts go to the tails of their edges
 ///     settled(edge, count) at any time, with what acknowledge() of the edge's head returned
 ///     is_over()            of the root alone
@@ -655,7 +655,7 @@ private:
         throw Error(fault, process_, "fault " + std::to_string(fault) + ": process " + std::to_string(process_) + ": " + why);
     }
 
-    /// Writes so many rows, if there is a log.
+    /// Writes `times` rows, if there is a log.
     void note(const char *kind, std::uint64_t channel = 0, std::uint64_t times = 1)
     {
         if (log_ == nullptr) return;

@@ -64,7 +64,7 @@ static void expect(int is_so, int line)
     }
 }
 
-/* Looks that a call has a fault at a place, and has written nothing else. */
+/* Checks that a call has a fault at a place, and has written nothing else. */
 static void expect_fault(uint64_t (*call)(struct call *), struct call c, uint64_t fault, uint64_t place, int line)
 {
     struct call before = c;
@@ -271,7 +271,7 @@ static uint64_t pile_drops_in_place(struct call *c)
     return pile_drops(&kept, c);
 }
 
-/* Looks that a pile has these chips and counts. */
+/* Checks that a pile has these chips and counts. */
 static void expect_pile(struct chipfire_pile *pile, const uint64_t *chips, const uint64_t *fired, int line)
 {
     uint64_t now[N] = {GUARD, GUARD, GUARD};

@@ -121,7 +121,7 @@ class Piles(unittest.TestCase):
         return pile
 
     def expect_drops(self, pile, chips, drops, limit):
-        """Looks that a pile that was just begun has the chips, the counts and the avalanches of firing one by one."""
+        """Checks that a pile that was just begun has the chips, the counts and the avalanches of firing one by one."""
         graph = pile.graph
         self.assertEqual(pile.now(), [chips, [0] * graph.vertices])
         chips, fired, stopped, _ = stepped(graph, chips, limit)
@@ -136,7 +136,7 @@ class Piles(unittest.TestCase):
             self.assertEqual(pile.now(), [chips, fired])
 
     def expect_one_call(self, pile, chips, drops, limit):
-        """Looks that one call for drops does what firing one by one does, on a pile that was just begun."""
+        """Checks that one call for drops does what firing one by one does, on a pile that was just begun."""
         chips, fired, stopped, _ = stepped(pile.graph, chips, limit)
         rows = []
         for vertex, amount in drops:
@@ -154,7 +154,7 @@ class Piles(unittest.TestCase):
         self.assertEqual(pile.now(), [chips, fired])
 
     def expect_measures(self, pile, chips, drops, limit, timed=False, room=None):
-        """Looks that drops on a pile that was just begun are measured as firing one by one, and round by round, does it."""
+        """Checks that drops on a pile that was just begun are measured as firing one by one, and round by round, does it."""
         graph = pile.graph
         chips, fired, stopped, _ = stepped(graph, chips, limit)
         rows, lengths, ends, where, times = [], [], [], [], []
@@ -208,7 +208,7 @@ class Piles(unittest.TestCase):
         return portions
 
     def expect_nothing_new(self, pile, fault, call, *words):
-        """Looks that a call has a fault and leaves the pile as it was."""
+        """Checks that a call has a fault and leaves the pile as it was."""
         before = pile.now()
         found = call(*words)
         self.assertEqual(found[0] if isinstance(found, tuple) else found, fault)

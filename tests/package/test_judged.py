@@ -98,13 +98,13 @@ class Checked(made.Test):
         return made.package(top or made.home(), "--check", path)
 
     def takes(self, path, top=None):
-        """Looks that a file is taken, and returns what is said."""
+        """Checks that a file is taken, and returns what is said."""
         answer = self.check(path, top)
         self.assertEqual((answer.returncode, answer.stderr), (0, ""), path)
         return answer.stdout
 
     def refuses(self, path, why, top=None):
-        """Looks that a file is refused, with one line that says why."""
+        """Checks that a file is refused, with one line that says why."""
         answer = self.check(path, top)
         self.assertEqual((answer.returncode, answer.stdout), (1, ""), path)
         self.assertTrue(answer.stderr.startswith(f"package: {path}: "), answer.stderr)

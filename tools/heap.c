@@ -100,7 +100,7 @@ static void *cut(struct block *before, size bytes)
     return (char *)it + HEAD;
 }
 
-/* Returns memory for so many bytes, or 0 where there is none. */
+/* Returns memory for the bytes that are asked for, or 0 where there is none. */
 static void *take(word asked)
 {
     if (asked > MOST) return 0;

@@ -16,7 +16,7 @@ __attribute__((constructor)) static void keep(int given, char **its)
     words = its;
 }
 
-/* Copies an argument without its end, and answers its length, or why not: then as much is there as there is room for. */
+/* Copies an argument without its end, and returns its length, or why not: then what there is room for is copied. */
 ssize_t rattle_arg(size_t at, char *to, size_t room)
 {
     size_t length = 0;

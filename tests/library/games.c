@@ -1,8 +1,8 @@
-/* Plays games that standard input has, one after another, each by one call, and writes what the call answers.
+/* Plays games that standard input has, one after another, each by one call, and writes what the call returns.
  *
  * A game is a row of numbers: the vertices, the sink, the limit, the number of edges, the three columns of the edges, how
- * many chips there are, and the chips. An answer is a row too: the status, the place, the chips, the counts, and how many
- * vertices the limit stopped. */
+ * many chips there are, and the chips. What is written is a row too: the status, the place, the chips, the counts, and how
+ * many vertices the limit stopped. */
 #include <chipfire.h>
 #include <inttypes.h>
 #include <stdio.h>

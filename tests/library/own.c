@@ -8,19 +8,19 @@
 
 enum { ROOM = 8, KEPT = 100, ALIGNMENT = 8 };
 
-struct answer {
+struct memory {
     size_t is_there;
     unsigned char *at;
 };
 
-struct answer rattle_alloc(size_t bytes, size_t alignment);
-struct answer rattle_realloc(void *at, size_t kept, size_t bytes, size_t alignment);
+struct memory rattle_alloc(size_t bytes, size_t alignment);
+struct memory rattle_realloc(void *at, size_t kept, size_t bytes, size_t alignment);
 void rattle_dealloc(void *at);
 ssize_t rattle_arg(size_t at, char *to, size_t room);
 int32_t rattle_errno(void);
 void rattle_set_errno(int32_t error);
 
-static void tell_arguments(size_t count)
+static void print_arguments(size_t count)
 {
     for (size_t at = 0; at <= count + 1; at++)
         for (size_t room = 0; room <= ROOM; room++) {
@@ -31,46 +31,46 @@ static void tell_arguments(size_t count)
         }
 }
 
-/* Tells of an answer, whose place is an aligned one. */
-static void tell(const char *name, size_t bytes, struct answer its)
+/* Prints what a call returned, and whether the place is aligned. */
+static void print_memory(const char *name, size_t bytes, struct memory its)
 {
     printf("%s %zu: %zu, %s\n", name, bytes, its.is_there, (uintptr_t)its.at % ALIGNMENT == 0 ? "aligned" : "not aligned");
 }
 
-/* Tells how many bytes are as they were written. */
-static void tell_kept(const unsigned char *at)
+/* Prints how many bytes are as they were written. */
+static void print_kept(const unsigned char *at)
 {
     size_t kept = 0;
     while (kept < KEPT && at[kept] == kept) kept++;
     printf("%zu kept\n", kept);
 }
 
-static void tell_memory(void)
+static void try_memory(void)
 {
     const size_t sizes[] = {0, 1, KEPT, 1 << 20};
     for (size_t i = 0; i < sizeof sizes / sizeof *sizes; i++) {
-        struct answer its = rattle_alloc(sizes[i], ALIGNMENT);
-        tell("alloc", sizes[i], its);
+        struct memory its = rattle_alloc(sizes[i], ALIGNMENT);
+        print_memory("alloc", sizes[i], its);
         memset(its.at, 1, sizes[i]);
         rattle_dealloc(its.at);
     }
-    struct answer its = rattle_alloc(KEPT, ALIGNMENT);
+    struct memory its = rattle_alloc(KEPT, ALIGNMENT);
     for (size_t i = 0; i < KEPT; i++) its.at[i] = (unsigned char)i;
     const size_t moved[] = {1 << 20, KEPT, 1 << 22};
     for (size_t i = 0; i < sizeof moved / sizeof *moved; i++) {
         its = rattle_realloc(its.at, KEPT, moved[i], ALIGNMENT);
-        tell("realloc", moved[i], its);
-        tell_kept(its.at);
+        print_memory("realloc", moved[i], its);
+        print_kept(its.at);
     }
     printf("%zu\n", rattle_realloc(its.at, KEPT, SIZE_MAX / 2, ALIGNMENT).is_there);
-    tell_kept(its.at);
+    print_kept(its.at);
     its = rattle_realloc(its.at, KEPT, 0, ALIGNMENT);
-    tell("realloc", 0, its);
+    print_memory("realloc", 0, its);
     rattle_dealloc(its.at);
     printf("%zu\n", rattle_alloc(SIZE_MAX / 2, ALIGNMENT).is_there);
 }
 
-static void tell_errors(void)
+static void try_errors(void)
 {
     rattle_set_errno(ENOENT);
     printf("%d %d\n", rattle_errno(), errno == ENOENT);
@@ -81,8 +81,8 @@ static void tell_errors(void)
 int main(int count, char **words)
 {
     (void)words;
-    tell_arguments((size_t)count);
-    tell_memory();
-    tell_errors();
+    print_arguments((size_t)count);
+    try_memory();
+    try_errors();
     return 0;
 }

@@ -54,7 +54,7 @@ def starting(*words):
 def try_in(folder):
     """Refuses what was made in a folder of another, if it does not start."""
     words = starting(f"{folder}/{FOLDER}/{PROGRAM}", "--version")
-    if not scripts.answers(words, f"chipfire {version()}\n"):
+    if not scripts.prints(words, f"chipfire {version()}\n"):
         raise Refused(f"the program for aarch64 does not start by {STARTS}")
 
 

@@ -29,7 +29,7 @@ def run(names, folder, title):
             raise Refused(f"{title[0].lower()}{title[1:]} could not be made")
 
 
-def answers(words, wanted, **how):
+def prints(words, wanted, **how):
     """Returns whether a command ends well, and prints this."""
     how = {"stdin": subprocess.DEVNULL, "stdout": subprocess.PIPE, "encoding": "utf-8", **how}
     ran = subprocess.run(words, **how)

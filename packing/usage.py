@@ -73,7 +73,7 @@ def read_help(name, text):
     )
 
 
-def answer(program, *words):
+def output_of(program, *words):
     """Returns what the program writes on standard output."""
     return subprocess.run(
         [program, *words], check=True, capture_output=True, encoding="utf-8"
@@ -82,10 +82,10 @@ def answer(program, *words):
 
 def read_program(program):
     """Returns the program's own help and that of each of its commands."""
-    whole = read_help("", answer(program, "--help"))
-    return whole, [read_help(name, answer(program, name, "--help")) for name in whole.commands]
+    whole = read_help("", output_of(program, "--help"))
+    return whole, [read_help(name, output_of(program, name, "--help")) for name in whole.commands]
 
 
 def version_of(program):
     """Returns the version that the program reports."""
-    return answer(program, "--version").split()[1]
+    return output_of(program, "--version").split()[1]

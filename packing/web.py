@@ -33,7 +33,7 @@ def tools():
 def try_in(folder):
     """Refuses the package in a folder of another, if it does not start in Node, or reports another version."""
     words = ["node", "--input-type=module", "--eval", PRINTS, f"file://{folder}/{WEB}/chipfire.js"]
-    if not scripts.answers(words, f"{version()}\n"):
+    if not scripts.prints(words, f"{version()}\n"):
         raise Refused("the package for browsers and Node does not start in Node")
 
 

@@ -1,4 +1,4 @@
-"""How many tests each group has at least, by tests/counts.txt: so many ran or were skipped by name."""
+"""How many tests each group has at least, by tests/counts.txt: those that ran or were skipped by name."""
 
 import paths
 
@@ -13,7 +13,7 @@ def least():
 
 
 def wrong(group, way, count):
-    """Returns what is wrong with so many tests of a group that went a way, as sentences."""
+    """Returns what is wrong with this number of tests of a group that went a way, as sentences."""
     wanted = least().get((group, way))
     if wanted is None:
         return [f"tests/counts.txt has no row for {group} {way}".rstrip()]

@@ -154,12 +154,12 @@ class Recorder:
             config.hook.pytest_deselected(items=left)
 
     def pytest_collectreport(self, report):
-        self.note(report, is_told=False)
+        self.note(report, is_whole=False)
 
     def pytest_runtest_logreport(self, report):
-        self.note(report, is_told=report.when == "call")
+        self.note(report, is_whole=report.when == "call")
 
-    def note(self, report, is_told):
+    def note(self, report, is_whole):
         """Notes what a report says; that all went well only where it is one of a whole test."""
         name = self.name_of(report.nodeid)
         self.outcomes.took[name] += getattr(report, "duration", 0)
@@ -169,7 +169,7 @@ class Recorder:
             self.outcomes.add(name, SKIPPED, report.longrepr[2].removeprefix("Skipped: "))
         elif report.failed:
             self.outcomes.add(name, FAILED, report.longreprtext)
-        elif is_told:
+        elif is_whole:
             self.outcomes.add(name, PASSED)
 
 

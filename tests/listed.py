@@ -46,8 +46,8 @@ def named(sets):
 
 
 def drawn(count, seed, faults_of, *more):
-    """Yields so many tests of what is drawn at random, whose names are their numbers. The function takes the generator,
-    and what else is said."""
+    """Yields `count` tests of what is drawn at random, whose names are their numbers. The function takes the generator,
+    and what else is given."""
     for number in range(count):
         yield str(number), functools.partial(of_seed, f"{seed} {number}", faults_of, *more)
 
@@ -83,7 +83,7 @@ def shrunk(faults_of):
         found[:] = faults_of(draw)
         assert not found
 
-    # (what it tells is in `found`; what is wrong now and then may be told as one more error)
+    # (what it finds is in `found`; what is wrong now and then may be reported as one more error)
     with contextlib.suppress(Exception), contextlib.redirect_stdout(io.StringIO()):
         try_one()
     return found
@@ -114,14 +114,14 @@ def faults_of(test):
 def has_words(name, words):
     """Whether a name has these words, in small letters or capitals; a number at their ends is a whole one."""
     before = r"(?<!\d)" if words[:1].isdigit() else ""
-    behind = r"(?!\d)" if words[-1:].isdigit() else ""
-    return re.search(before + re.escape(words) + behind, name, re.IGNORECASE) is not None
+    after = r"(?!\d)" if words[-1:].isdigit() else ""
+    return re.search(before + re.escape(words) + after, name, re.IGNORECASE) is not None
 
 
 def is_named(name, start):
     """Whether a name, or what follows its set, begins so; a number at the end is a whole one."""
-    behind = r"(?!\d)" if start[-1:].isdigit() else ""
-    wanted = re.compile(re.escape(start) + behind)
+    after = r"(?!\d)" if start[-1:].isdigit() else ""
+    wanted = re.compile(re.escape(start) + after)
     return bool(wanted.match(name) or wanted.match(name.partition("::")[2]))
 
 

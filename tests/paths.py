@@ -1,4 +1,4 @@
-"""Where the tests, what they test and what tells the right answers lie. Nothing else in tests/ edits `sys.path`."""
+"""Where the tests, what they test and what knows the right results lie. Nothing else in tests/ edits `sys.path`."""
 
 import functools
 import importlib.util

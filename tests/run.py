@@ -5,7 +5,7 @@
 
 GROUPS are these, all of them if none is named:
 
-    cli       the command line: cases, random games, large ones, what is told and written
+    cli       the command line: cases, random games, large ones, what is reported and written
     python    python/chipfire and examples/python, by each way of ways.py, on the system's Python if it has one
     docs      what the pages show, in a fresh clone; what they cite; the tables of docs/FORMATS.md
     hostile   mutated files, refused memory, failing reads and writes, the system around the program
@@ -112,12 +112,12 @@ class Job:
     is_long: bool = False
 
     def place(self):
-        """Where it stands among what takes longest, or behind all of that."""
+        """Where it stands among what takes longest, or after all of that."""
         words = [self.group, f"{self.group} {self.of_set}"]
         return min((LONGEST.index(it) for it in words if it in LONGEST), default=len(LONGEST))
 
-    def told(self):
-        """What tells it from others."""
+    def title(self):
+        """What distinguishes it from others."""
         of_python = [self.way, self.python] if self.group == "python" else []
         return ", ".join([f"{self.group} {self.of_set}", *of_python])
 
@@ -311,7 +311,7 @@ def show(its, result):
     words = (job.PASSED, job.FAILED, job.SKIPPED)
     said = ", ".join(f"{result.count(word)} {word}" for word in words)
     time_of_it = f"{result.seconds:.1f} s, {result.used:.1f} s of processors"
-    print(f"== {its.told()}: {said} by {result.reader} in {time_of_it}")
+    print(f"== {its.title()}: {said} by {result.reader} in {time_of_it}")
     for name, (word, text) in result.outcomes.items():
         if word == job.SKIPPED:
             print(f"SKIPPED {name}: {text}")
@@ -348,12 +348,12 @@ def run_all(jobs, program, lanes):
 
 
 def show_durations(results, count):
-    """Shows the processes that used most of the processors, so many of them, and the tests that took longest."""
+    """Shows the `count` processes that used most of the processors, and the `count` tests that took longest."""
     print(f"== the {count} processes with most seconds of processors")
     for its, result in sorted(results, key=lambda it: -it[1].used)[:count]:
-        print(f"{result.used:8.1f} s {its.told()}")
+        print(f"{result.used:8.1f} s {its.title()}")
     tests = [
-        (seconds, f"{its.told().partition(' ')[0]} {name}")
+        (seconds, f"{its.title().partition(' ')[0]} {name}")
         for its, result in results
         for name, seconds in result.took.items()
     ]

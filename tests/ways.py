@@ -16,8 +16,8 @@ import without
 
 WAYS = PROCESS, LIBRARY, WITHOUT = ("process", "library", "without")
 SHARED, STATIC = "libchipfire.so", "libchipfire.a"
-#: The modules that test what the library answers, and those that ask for what may be hidden. All go by the process, but
-#: for those of which no process answers anything.
+#: The modules that test what the library returns, and those that ask for what may be hidden. All go by the process, but
+#: for those in which no process returns anything.
 BY_LIBRARY = (
     "test_broken",
     "test_configurations",

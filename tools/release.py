@@ -79,7 +79,7 @@ def starts(path, version):
     """Returns whether a program starts here, and reports this version."""
     try:
         words, wanted = [path, "--version"], f"chipfire {version}\n"
-        return scripts.answers(words, wanted, stderr=subprocess.DEVNULL)
+        return scripts.prints(words, wanted, stderr=subprocess.DEVNULL)
     except OSError:
         return False
 
@@ -90,7 +90,7 @@ def loads(path, version):
     first, second, third = map(int, version.split("."))
     number = first * 10**6 + second * 1000 + third
     words = [sys.executable, "-c", prints, path]
-    return scripts.answers(words, f"{number}\n", stderr=subprocess.DEVNULL)
+    return scripts.prints(words, f"{number}\n", stderr=subprocess.DEVNULL)
 
 
 def laid_out(folder):

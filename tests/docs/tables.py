@@ -90,7 +90,7 @@ def faults(page, program):
     for numbers, names, *_ in rows(page, 3):
         if re.fullmatch(r"\d+(, \d+)*", numbers):
             said.update(zip(map(int, numbers.split(", ")), re.findall(r"`([^`]+)`", names)))
-    listed = re.findall(r"^fault (\d+) ([^:]+): .", usage.answer(program, "explain"), re.MULTILINE)
+    listed = re.findall(r"^fault (\d+) ([^:]+): .", usage.output_of(program, "explain"), re.MULTILINE)
     return sorted(said), [(int(number), name) for number, name in listed]
 
 

@@ -30,6 +30,13 @@ FLAGS = ("-std=c11", "-O2", "-fPIC", "-Wall", "-Wextra", "-Werror", "-c")
 SYSTEM, HEAP = "os", "malloc"
 
 
+def file_of(name):
+    """Returns where a file of the machine's is."""
+    path = found(name)
+    need(path, f"{TOOL} finds no {name}")
+    return path
+
+
 def compiled(name, room):
     """Returns the object file of C code in this folder."""
     to = f"{room}/{name}.o"
@@ -42,7 +49,7 @@ def link_libraries(room, folder):
     proved, heap = f"{room}/proved.a", f"{room}/heap.a"
     compile_crate("chip_exports", TARGET, f"{kit()}/toolchain", proved, *PROCESSOR)
     tool("llvm-ar", "qcsD", heap, compiled(HEAP, room))
-    link_shared(proved, heap, found(C_LIBRARY), room, f"{folder}/{SHARED}")
+    link_shared(proved, heap, file_of(C_LIBRARY), room, f"{folder}/{SHARED}")
     link_static(proved, heap, room, f"{folder}/{STATIC}")
     link_soname(folder)
 
@@ -52,7 +59,7 @@ def lay_out_toolchain(room):
     os.makedirs(f"{room}/tools/lib")
     os.symlink(f"{kit()}/toolchain/bin", f"{room}/tools/bin")
     for name in (*OF_C, *OF_COMPILER):
-        os.symlink(found(name), f"{room}/tools/lib/{name}")
+        os.symlink(file_of(name), f"{room}/tools/lib/{name}")
     return f"{room}/tools"
 
 
@@ -66,7 +73,8 @@ def link_program(room, folder):
 
 
 def main(folder):
-    need(not missing(), missing())
+    lacks = missing()
+    need(not lacks, lacks)
     shutil.rmtree(folder, ignore_errors=True)
     os.makedirs(folder)
     with tempfile.TemporaryDirectory(prefix="chipfire-aarch64-") as room:

@@ -108,8 +108,10 @@ def uses(crate, module, name):
 
 def reached(path, names):
     """Returns the places of all definitions on which those with these names in a file rest, themselves among them."""
-    crate, module = re.fullmatch(r"crates/(\w+)/specs/(\w+)\.antt", path).groups()
-    left, found = [place_of(crate, module, it) for it in names], set()
+    known = re.fullmatch(r"crates/(\w+)/specs/(\w+)\.antt", path)
+    if known is None:
+        raise LookupError(f"{path} is not crates/CRATE/specs/MODULE.antt")
+    left, found = [place_of(*known.groups(), it) for it in names], set()
     while left:
         place = left.pop()
         if place not in found:
@@ -130,4 +132,9 @@ def main(path, *names):
 
 
 if __name__ == "__main__":
-    main(*sys.argv[1:])
+    if len(sys.argv) < 3:
+        sys.exit("usage: tools/definitions.py FILE NAME ..")
+    try:
+        main(*sys.argv[1:])
+    except (LookupError, OSError) as error:
+        sys.exit(f"tools/definitions.py: {error}")

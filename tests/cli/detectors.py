@@ -71,7 +71,10 @@ class Process(threading.Thread):
     def work(self):
         """Works on a task."""
         task = self.tasks[-1]
-        for _ in range(FIRST if task == GENERATIONS else self.draw.choice(OTHERS) if task else 0):
+        count = 0
+        if task:
+            count = FIRST if task == GENERATIONS else self.draw.choice(OTHERS)
+        for _ in range(count):
             to = self.draw.choice([it for it in range(PROCESSES) if it != self.number])
             self.run_of.count(1)
             self.post("send", to, task - 1, self.detector.sent())

@@ -116,6 +116,14 @@ class Log:
         return seen
 
 
+def last_line(log, right):
+    """The last line, by the number of right claims."""
+    left = log.left(log.whole)
+    if right or left:
+        return "end claimed" if right else f"end open: {left}"
+    return "end unclaimed" if any(log.flight(log.whole).values()) else "end missed"
+
+
 def lines_of(log, least_of, with_past, first=False):
     """The lines and the status; `least_of` finds the least cut before a claim, of a process at a place and its row. With
     `first` those of the first early claim alone, if there is one."""
@@ -131,9 +139,10 @@ def lines_of(log, least_of, with_past, first=False):
             if left and first:
                 return [*own, "end early"], 2
             lines += own
-    heard, left = not any(log.flight(log.whole).values()), log.left(log.whole)
-    lines.append("end claimed" if right else f"end open: {left}" if left else "end missed" if heard else "end unclaimed")
-    return lines, 2 if early else 0 if right else 3
+    lines.append(last_line(log, right))
+    if early:
+        return lines, 2
+    return lines, 0 if right else 3
 
 
 def judged(log, with_past, first=False, processes=0):

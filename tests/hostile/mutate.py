@@ -71,8 +71,8 @@ def schedule_text(graph, draw):
     listed = []
     for _ in range(draw.randint(0, 40)):
         event = draw.choice(EVENTS + ["take", "fire", "clear", "claim", "put", "feed"])
-        bound = vertices if event in ("fire", "halt", "read") else 1 << 20 if event == "end" else edges + vertices
-        at, count = draw.randrange(bound), draw.choice([0, 1, 1, 1, 2, 3])
+        bounds = {"fire": vertices, "halt": vertices, "read": vertices, "end": 1 << 20}
+        at, count = draw.randrange(bounds.get(event, edges + vertices)), draw.choice([0, 1, 1, 1, 2, 3])
         listed.append((event, at, count))
         if event == "clear" and at >= edges:
             listed += [("feed", at, count), ("put", at, 0)]

@@ -80,7 +80,9 @@ def undirected():
 
 def plain_name(name):
     """A vertex as JSON has it: a pair is a list of two numbers."""
-    return [int(it) for it in name] if isinstance(name, tuple) else name if isinstance(name, str) else int(name)
+    if isinstance(name, tuple):
+        return [int(it) for it in name]
+    return name if isinstance(name, str) else int(name)
 
 
 def numbers(configuration):

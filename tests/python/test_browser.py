@@ -405,9 +405,8 @@ class Choices(InBrowser):
                     early += [done] * chipfire.lab.schedules.is_early(core)
                 now = self.browser.value(self.NOW)
                 self.assertEqual((now["possible"], self.browser.value("at")), ([], done))
-                self.assertEqual(now["end"], f"The root was closed too early, after event {early[0]}." if early else
-                                 "The root is closed: all is over." if core.is_closed() else
-                                 "The root is open, and nothing can happen any more.")
+                end = "The root is closed: all is over." if core.is_closed() else "The root is open, and nothing can happen any more."
+                self.assertEqual(now["end"], f"The root was closed too early, after event {early[0]}." if early else end)
                 found[name, bool(early)] += 1
                 self.shown(core, done)
                 ways.add((name, *picks))

@@ -339,8 +339,9 @@ class Random(unittest.TestCase):
             if isinstance(must[0], int) and must[0] != 70:
                 continue
             self.assertEqual(told(rows, past=True, reactive=True), must, rows)
-            found[must[0] if isinstance(must[0], int) else "early" if "early" in must[0] else must[0].split()[0]] += 1
-        self.assertGreater(min(found[it] for it in ("early", "over", "end", 70)), 5, found)
+            first = str(must[0])
+            found["early" if "early" in first else first.split()[0]] += 1
+        self.assertGreater(min(found[it] for it in ("early", "over", "end", "70")), 5, found)
 
 
 def in_letters(line):
@@ -376,7 +377,9 @@ def reactive(rows):
         elif words[0] == "past":
             words[2] = str(sum(it is not None for it in own[int(words[1])][:int(words[2])]))
         lines += [" ".join(words)] * (words[0] != "past" or words[2] != "0")
-    return [70, must[1], own[must[1]][must[2]]] if must[0] == 70 else must if isinstance(must[0], int) else lines
+    if not isinstance(must[0], int):
+        return lines
+    return [70, must[1], own[must[1]][must[2]]] if must[0] == 70 else must
 
 
 class JsonLines(WithFolder):

@@ -113,6 +113,17 @@ def slowest_heaps(words, program):
         yield from sorted(seconds, key=lambda it: seconds[it] or float("inf"))[-3:]
 
 
+def written(words, program):
+    """Writes the games that are asked for, and returns their names."""
+    if words.growth:
+        return [*grown()]
+    if words.paths:
+        return [*slowest_heaps(words, program)]
+    command = [f"{frame.BENCH}/inputs.py", ROOM, words.seed]
+    ran = subprocess.run(command, stdout=subprocess.PIPE, check=True, text=True)
+    return ["start-up", *(it for it in ran.stdout.split() if not words.game or it in words.game)]
+
+
 def main():
     words = frame.parser(__doc__, turns=7, program=None)
     words.add_argument(
@@ -129,18 +140,7 @@ def main():
 
     program = words.program or frame.built_program()
     frame.compiled(COMPILE, "plain.cpp", "plain")
-    if words.growth or words.paths:
-        names = list(grown() if words.growth else slowest_heaps(words, program))
-    else:
-        ran = subprocess.run(
-            [f"{frame.BENCH}/inputs.py", ROOM, words.seed],
-            stdout=subprocess.PIPE,
-            check=True,
-            text=True,
-        )
-        names = ["start-up"] + [
-            it for it in ran.stdout.split() if not words.game or it in words.game
-        ]
+    names = written(words, program)
 
     print(f"{cpu()}, {os.cpu_count()} processors; {said_by(COMPILE[0], '--version')},", end=" ")
     print(f"`{' '.join(COMPILE[1:])}`; {said_by('rt', 'version')}.")

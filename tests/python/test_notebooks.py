@@ -139,6 +139,7 @@ class Played(unittest.TestCase):
                 store(name, played)
             found = [[*map(shown, cell.outputs)] for cell in code_cells(played)]
         else:
+            self.assertFalse(IS_STORED, "a kernel of Jupyter stores outputs, and there is none")
             importlib.import_module("matplotlib").use("Agg")
             names = {"__name__": "__main__"}
             found = [outputs_here(cell["source"], names) for cell in code_cells(notebook)]

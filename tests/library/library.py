@@ -42,7 +42,7 @@ LIBRARY = loaded()
 
 
 class Slice:
-    """Numbers in memory as C has them, with a guard behind them that no call may write."""
+    """Numbers in memory as C has them, with a guard after them that no call may write."""
 
     GUARD = 0x5A5A5A5A5A5A5A5A
 
@@ -72,9 +72,9 @@ class Graph:
 
 
 def called(function, graph, limit, inputs, outputs):
-    """Returns the status of a call, its place, and what stands in the slices that it may write.
+    """Returns the status of a call, its place, and what stands in the arrays that it may write.
 
-    On a fault these are as they were, which is looked at here. `limit` is None where the call has none, and a tuple where it
+    On a fault these are as they were, which is checked here. `limit` is None where the call has none, and a tuple where it
     has several numbers there."""
     inputs, outputs, place = [Slice(it) for it in inputs], [Slice(it) for it in outputs], Slice([7])
     words = [word for it in (*inputs, *outputs) for word in it.words()]

@@ -1,4 +1,4 @@
-"""One answer by every road: all small games, by the library and by the program, beside all orders in which they can be
+"""One result by every road: all small games, by the library and by the program, beside all orders in which they can be
 played.
 
 The games are those on graphs of two vertices, of three, with each edge as often as `MULTS` says, and up to three chips on
@@ -140,7 +140,7 @@ class Agreement(Room):
         return rows, chips, fired
 
     def assert_rows(self, graph, drops, rows, chips, fired):
-        """The program, one call, and a kept pile tell the rows, and leave chips and counts; the limit stops the play of a
+        """The program, one call, and a kept pile return the rows, and leave chips and counts; the limit stops the play of a
         drop that has no row."""
         is_stopped = len(rows) < len(drops)
         files = [self.graph_file(graph), self.rows_file("none.csv", []), self.rows_file("drops.csv", drops)]

@@ -23,7 +23,7 @@ IS_DONE = f"document.getElementById('stop').disabled && {STATUS} && !{STATUS}.en
 BOX = "document.getElementById('board').getBoundingClientRect()"
 #: A phone, and a screen.
 SIZES = {"phone": (390, 844, True), "screen": (1280, 900, False)}
-#: Texts whose contrast with what is behind them is too low, where a colour is behind them at all.
+#: Texts whose contrast with the colour under them is too low, where there is one at all.
 FAINT = """(() => {
     const parts = (colour) => colour.match(/[\\d.]+/g).slice(0, 3).map((it) => {
         const share = it / 255;

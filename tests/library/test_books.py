@@ -38,7 +38,7 @@ def changed(side, edge, messages, answered):
 
 
 def wanted(call, ins, outs, parent, edge, word, passive):
-    """What a call on sound books answers, and the books after it; it tells KEPT if it writes no number."""
+    """What a call on sound books returns, and the books after it; the number is KEPT if it writes none."""
     refused = 46, KEPT, ins, outs, parent
     side = ins if call in ("got", "may_ack", "acked") else outs
     here = next((it for it in side if it[0] == edge), None)
@@ -64,7 +64,7 @@ def wanted(call, ins, outs, parent, edge, word, passive):
 
 
 def made(call, ins, outs, parent, edge, word, passive):
-    """The same, as the library answers it."""
+    """The same, as the library returns it."""
     sides = [(WORD * (3 * len(side) + 1))(*itertools.chain(*side), KEPT) for side in (ins, outs)]
     (its, lengths), now, told = zip(*((side, len(side) // 3) for side in sides)), WORD(parent), WORD(KEPT)
     of_ins, of_outs = zip(map(ctypes.addressof, its), lengths)

@@ -24,7 +24,7 @@ POOLS = {
         [(GOT, "        late = edge(victim, me);\n"),
          (WORKED, "            const auto its = late;\n            task(me);\n            parts_[me]->books.got(its);\n")],
         f"{PASSIVE}, at its row 0", "end open: message 0 of channel 4 is on its way\n"),
-    # It is refused there too, behind the row `passive`. Where the work sets off nothing, nobody sees it.
+    # It is refused there too, after the row `passive`. Where the work sets off nothing, nobody sees it.
     "passive_amid_the_work": (
         [(WORKED, "            parts_[me]->books.done();\n            task(me);\n")],
         f"{PASSIVE}, at its row 2", "end missed\n"),

@@ -101,7 +101,7 @@ class Judge:
             time.sleep(self.draw.choice([0, 1e-4, 1e-3]))
 
     def row(self, kind, edge, end, count=1):
-        """Writes so many rows of the part at the tail of an edge, end 0, or at its head, end 1."""
+        """Writes `count` rows of the process at the tail of an edge, end 0, or at its head, end 1."""
         self.rows += [f"{self.numbers[self.ends[edge][end]]},{kind},{edge}\n"] * count
 
     def opened(self, edge):
@@ -172,8 +172,8 @@ class Judge:
 
 
 def knights(edits, runs, most_early, folder):
-    """Runs knight.py after edits on 3 by 3 squares so many times, or fewer if so many have ended early. The last leave
-    logs in a folder."""
+    """Runs knight.py after edits on 3 by 3 squares `runs` times, or fewer if `most_early` have ended early. The last
+    leave logs in a folder."""
     judge, example = Judge(), types.ModuleType("knight")
     example.__dict__.update({it: getattr(judge, it) for it in EDITED_IN})
     exec(compile(edited(KNIGHT, KNIGHT_COUNTED + edits), KNIGHT, "exec"), example.__dict__)
@@ -227,7 +227,7 @@ class Steal(Soak):
         self.assertIn("refusal 46: ", ran.stderr)
 
     def outcome(self, name, runs):
-        """Runs steal.c so many times, or a wrong use."""
+        """Runs steal.c `runs` times, or a wrong use."""
         need("gcc")
         with open(f"{self.room}/steal.c", "w", encoding="utf-8") as file:
             file.write(edited(STEAL, STEAL_COUNTED + STEAL_WRONG.get(name, [])))

@@ -14,8 +14,8 @@ from test_detected import COMPILE, LOGS, RUNS, STEAL, STEAL_COUNTED, edited
 from test_games import drawn, spoilt, stepped
 
 GAMES = 500
-#: A program that tells the version of the library.
-TELLS = """
+#: A program that prints the version of the library.
+PRINTS = """
 #include <chipfire.h>
 #include <stdio.h>
 int main(void) { return printf("%d\\n", (int)chipfire_version()) < 0; }
@@ -53,21 +53,21 @@ class Aarch64(Room):
             its = spoilt(draw, graph) if draw.random() < 0.2 else graph
             columns = [number for i in range(3) for number in (edge[i] for edge in its.edges)]
             games.append([its.vertices, its.sink, limit, len(its.edges), *columns, len(chips), *chips])
-            wanted.append(self.answer(its, chips, limit, graph))
+            wanted.append(self.row(its, chips, limit, graph))
         rows = "".join(" ".join(map(str, it)) + "\n" for it in games)
         found = self.played(self.with_shared(f"{ROOT}/tests/library/games.c"), rows)
         self.assertEqual(found, wanted)
         self.assertGreater(len({row[0] for row in wanted}), 5)
 
     def played(self, words, rows):
-        """Returns the rows of numbers that a program answers to these."""
+        """Returns the rows of numbers that a program prints of these."""
         with open(f"{self.room}/games", "w+", encoding="ascii") as file:
             file.write(rows)
         shown = self.runs("sh", "-c", 'exec "$@" <"$0"', f"{self.room}/games", *words)
         return [list(map(int, line.split())) for line in shown.splitlines()]
 
-    def answer(self, graph, chips, limit, right):
-        """Returns the row that this machine answers, which is that of the rules if the graph is right."""
+    def row(self, graph, chips, limit, right):
+        """Returns the row of this machine, which is that of the rules if the graph is right."""
         outputs = [chips, [0] * len(chips), [0]]
         status, place, its = called(LIBRARY.chipfire_stabilize_all, graph, limit, [[]], outputs)
         if graph is right:
@@ -110,7 +110,7 @@ class OwnC(Room):
         self.runs(compiler, "-std=c11", "-O2", self.CALLS, *linked, "-o", path)
         return path
 
-    def test_each_answers_as_the_kit_does(self):
+    def test_each_returns_what_the_kit_s_does(self):
         need("rt", "gcc")
         emulator.need_tools()
         kept = [f"{making.kit()}/c/{name}" for name in ("liblibc_c.a", "libos_c.a")]
@@ -126,11 +126,11 @@ class OldProcessor(Room):
     def programs(self):
         """Yields programs that are linked with each library."""
         need("gcc")
-        with open(f"{self.room}/tells.c", "w", encoding="ascii") as file:
-            file.write(TELLS)
+        with open(f"{self.room}/prints.c", "w", encoding="ascii") as file:
+            file.write(PRINTS)
         shared = [f"-L{BUILT}", "-lchipfire", f"-Wl,-rpath,{BUILT}"]
         for name, linked in (("shared", shared), ("static", [STATIC])):
-            self.runs("gcc", f"-I{INCLUDE}", f"{self.room}/tells.c", *linked, "-o", f"{self.room}/{name}")
+            self.runs("gcc", f"-I{INCLUDE}", f"{self.room}/prints.c", *linked, "-o", f"{self.room}/{name}")
             yield f"{self.room}/{name}"
 
     def test_the_loader_refuses_what_is_linked_with_the_library(self):

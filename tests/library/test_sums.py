@@ -26,7 +26,7 @@ class Books(ctypes.Structure):
 
 
 class Kept:
-    """Books with a guard behind each slice, which no call may write."""
+    """Books with a guard after each array, which no call may write."""
 
     def __init__(self, ins, outs, parent, owed=KEPT, deficit=KEPT):
         self.sides = [(WORD * (3 * len(side) + 1))(*itertools.chain(*side), KEPT) for side in (ins, outs)]
@@ -71,7 +71,7 @@ def sums(ins, outs):
 
 
 def wanted_sums(name, ins, outs, parent, edge, word, passive):
-    """What a step on sound books answers, both numbers that it writes, and the books after it."""
+    """What a step on sound books returns, both numbers that it writes, and the books after it."""
     if name != "acknowledge":
         status, told, *after = wanted(name, ins, outs, parent, edge, word, passive)
         return (status, told, KEPT), (*after, *sums(*after[:2]))

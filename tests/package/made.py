@@ -172,7 +172,7 @@ def build(top, program=PROGRAM):
     write(f"{top}/target/chipfire.stamp", f"{KIT}\n".encode())
 
 
-#: What stands for a cross compiler: it tells its version, and where files lie, beside itself.
+#: What stands for a cross compiler: it prints its version, and where files lie, beside itself.
 COMPILER = """#!/bin/sh
 case $1 in --version) echo '{}' ;; *) echo "${{0%/*}}/lib/${{1#*=}}" ;; esac
 """
@@ -181,14 +181,14 @@ EMULATOR = "#!/bin/sh\nshift 2\nexec \"$@\"\n"
 
 
 @functools.cache
-def made_up_tools(version="wasm-opt version 1 (made up)", tells=None, compiler="gcc 1 (made up)"):
-    """Returns a PATH with a wasm-opt of this version, a Node that tells another, or that of the program, and what stands for a
+def made_up_tools(version="wasm-opt version 1 (made up)", prints=None, compiler="gcc 1 (made up)"):
+    """Returns a PATH with a wasm-opt of this version, a Node that prints another, or that of the program, and what stands for a
     cross compiler and an emulator of aarch64, if one is named."""
-    folder = f"{rooms()}/tools {version} {tells} {compiler}"
+    folder = f"{rooms()}/tools {version} {prints} {compiler}"
     os.makedirs(f"{folder}/lib")
     tools = {
         "wasm-opt": f"#!/bin/sh\necho '{version}'\n",
-        "node": f"#!/bin/sh\necho '{tells or globals()['version']()}'\n",
+        "node": f"#!/bin/sh\necho '{prints or globals()['version']()}'\n",
     }
     if compiler is not None:
         tools |= {"aarch64-linux-gnu-gcc": COMPILER.format(compiler), "qemu-aarch64": EMULATOR}
@@ -337,7 +337,7 @@ def unpacked():
 
 @functools.cache
 def version():
-    """Returns the version that the program tells."""
+    """Returns the version that the program prints."""
     return run(PROGRAM, "--version").stdout.split()[1]
 
 

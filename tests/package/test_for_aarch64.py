@@ -1,4 +1,4 @@
-"""The packages for aarch64 of what was built for it: each is unpacked where there is nothing else, and answers by an
+"""The packages for aarch64 of what was built for it: each is unpacked where there is nothing else, and runs by an
 emulator. (What release and packages do with it is tried by what stands for it: test_released.py.)"""
 import hashlib
 import os

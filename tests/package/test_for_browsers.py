@@ -121,7 +121,7 @@ class NotMade(made.Test):
             shutil.copytree(f"{made_up}/lib", f"{tools}/lib", dirs_exist_ok=True)
 
     def test_where_it_does_not_start_in_Node(self):
-        path = made.made_up_tools(tells="another version")
+        path = made.made_up_tools(prints="another version")
         self.refuses(clone(), "the package for browsers and Node does not start in Node", PATH=path)
 
     def test_where_the_script_fails(self):

@@ -1,4 +1,4 @@
-"""Each package is installed where there is nothing else, and answers."""
+"""Each package is installed where there is nothing else, and plays."""
 import ast
 import glob
 import json
@@ -42,7 +42,7 @@ def grid():
 
 @made.kept
 def game():
-    """Returns the files of the grid and of 4,000 chips in its middle, and what examples/play.py answers to them."""
+    """Returns the files of the grid and of 4,000 chips in its middle, and what examples/play.py prints of them."""
     folder = made.room()
     graph, chips = f"{folder}/graph.json", f"{folder}/chips.csv"
     made.write(graph, json.dumps(grid()).encode())

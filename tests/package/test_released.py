@@ -1,4 +1,4 @@
-"""release/, which ./package --release makes: a clone answers by the program in it at once, and the gate compares it."""
+"""release/, which ./package --release makes: a clone plays by the program in it at once, and the gate compares it."""
 import os
 import resource
 import shutil
@@ -140,7 +140,7 @@ class Elsewhere(made.Test):
             self.assertEqual(answer.stderr, f"{because}{self.said(*system)}\n")
 
     def test_the_first_import(self):
-        """What needs no program works, and what needs one says the same; a clone is not looked at."""
+        """What needs no program works, and what needs one says the same; a clone is not searched."""
         ask = "import chipfire; print(chipfire.order(chipfire.grid(2, 2))); chipfire.check(chipfire.grid(2, 2))"
         for system in self.SYSTEMS:
             where = f"{self.python(*system)}:{made.ROOT}/python"
@@ -285,7 +285,7 @@ class Installed(made.Test):
     """What pip installs of a clone alone."""
 
     def installs(self, what):
-        """Installs by pip without network, and returns what it says, and what the package answers in another folder."""
+        """Installs by pip without network, and returns what it says, and what the package prints in another folder."""
         room = made.virtual_environment()
         said = made.pip(room, "install", "-v", "--no-index", what, check=True)
         return said.stdout + said.stderr, made.run(f"{room}/bin/python", "-c", ASK, cwd=made.rooms()), room

@@ -1,9 +1,10 @@
 """Runs with answers from outside: those that lie under examples/, which tests/cli/answers.py compares with the scripts there.
 
-A command is one more line of `worked_runs`. Words that end as files do are taken from examples/; the word `FILE` is a
-file that the run writes: its traces, or a report after its output.
+A command is one more line in one of the lists that `worked_runs` joins. Words that end as files do are taken from
+examples/; the word `FILE` is a file that the run writes: its traces, or a report after its output.
 """
 import dataclasses
+import functools
 
 import expected
 
@@ -130,17 +131,17 @@ def fault_differences(ran, fault):
     return differences(ran, b"", line_of(fault), 1)
 
 
-def worked_runs(examples):
-    """All the runs, with their files in this folder."""
+def started(examples, name, words, answer=None, **more):
+    """A run with its files in a folder, whose output is that of a file there if one is named."""
+    words = [f"{examples}/{word}" if word.endswith(FILE_ENDS) else word for word in words.split()]
+    if answer:
+        with open(f"{examples}/{answer}", "rb") as file:
+            more["out"] = file.read()
+    return Worked(name, words, **more)
 
-    def run(name, words, answer=None, **more):
-        words = [f"{examples}/{word}" if word.endswith(FILE_ENDS) else word for word in words.split()]
-        if answer:
-            with open(f"{examples}/{answer}", "rb") as file:
-                more["out"] = file.read()
-        return Worked(name, words, **more)
 
-    triangle = "triangle/graph.json triangle/chips.csv"
+def plays(run, triangle):
+    """The runs that play a game, drop on it, or go to recurrent configurations."""
     return [
         run("small triangle", f"plain {triangle}", "triangle/report.json"),
         run("told of", f"plain {triangle} --progress", "triangle/report.json"),
@@ -165,6 +166,12 @@ def worked_runs(examples):
         run("a representative", f"recurrent {triangle}", out=b"vertex,chips\n0,1\n1,0\n2,0\n", status=2),
         run("chips to represent that are a graph", "recurrent triangle/graph.json chain/graph.json", fault="23 Header", status=1),
         run("an identity, large", "identity --large triangle/graph.json", out=b"vertex,chips\n0,1\n1,1\n2,0\n"),
+    ]
+
+
+def readings(run, triangle):
+    """The runs that read what was written of a game, or go on from it."""
+    return [
         run("graph of the chain", "check chain/graph.json", "chain/check.txt"),
         run("graph of the chain, large", "check --large chain/graph.json", "chain/check.txt"),
         run("first stage", "plain triangle/graph.json stages/chips.csv --limit 1", "stages/first.json", status=2),
@@ -183,6 +190,12 @@ def worked_runs(examples):
         run("replayed run", f"replay {triangle} triangle/trace.csv", out=b"fire 0 2\nfire 1 1\n"),
         run("judged", "judge --past logs/early.csv", "logs/early.txt", status=2),
         run("a log that is a graph", "judge triangle/graph.json", fault="23 Header", status=1),
+    ]
+
+
+def on_threads(run, triangle):
+    """The runs on threads."""
+    return [
         run(
             "on two threads",
             f"run {triangle} --trace {FILE}",
@@ -207,6 +220,12 @@ def worked_runs(examples):
             is_steady=False,
             threads=2,
         ),
+    ]
+
+
+def refusals(run):
+    """Runs that are refused."""
+    return [
         run("chips that are a graph", "plain triangle/graph.json chain/graph.json", fault="23 Header", status=1),
         run(
             "feeds that are a graph",
@@ -217,3 +236,9 @@ def worked_runs(examples):
         run("a report that is a graph", "resume triangle/graph.json chain/graph.json", fault="50 NotReport", status=1),
         run("no command", "spin", fault="91 Usage", status=1),
     ]
+
+
+def worked_runs(examples):
+    """All the runs, with their files in this folder."""
+    run, triangle = functools.partial(started, examples), "triangle/graph.json triangle/chips.csv"
+    return [*plays(run, triangle), *readings(run, triangle), *on_threads(run, triangle), *refusals(run)]

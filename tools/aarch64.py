@@ -23,13 +23,7 @@ from packing.build import link_soname
 TARGET = "aarch64-unknown-linux-gnu"
 PROCESSOR = ("--cpu", "generic")
 #: What the kit's linker looks for beside the kit's own tools.
-OF_C = (
-    C_LIBRARY,
-    "libm.so.6",
-    "libc_nonshared.a",
-    "ld-linux-aarch64.so.1",
-    "libgcc_s.so.1",
-)
+OF_C = (C_LIBRARY, "libm.so.6", "libc_nonshared.a", "ld-linux-aarch64.so.1", "libgcc_s.so.1")
 OF_COMPILER = ("Scrt1.o", "crti.o", "crtn.o", "crtbeginS.o", "crtendS.o", "libgcc.a")
 #: How the C code is compiled: position-independent, and alike wherever it lies.
 FLAGS = ("-std=c11", "-O2", "-fPIC", "-Wall", "-Wextra", "-Werror", "-c")
@@ -72,9 +66,7 @@ def lay_out_toolchain(room):
 
 def link_program(room, folder):
     """Links the program."""
-    object_file, code = f"{room}/chipfire.o", [
-        compiled(it, room) for it in (SYSTEM, HEAP)
-    ]
+    object_file, code = f"{room}/chipfire.o", [compiled(it, room) for it in (SYSTEM, HEAP)]
     compile_crate("chipfire", TARGET, f"{kit()}/toolchain", object_file, *PROCESSOR)
     linked = ["--target", TARGET, "--toolchain", lay_out_toolchain(room)]
     linked += ["-o", f"{folder}/{PROGRAM}", object_file, *code]
@@ -86,13 +78,12 @@ def main(folder):
     need(not lacks, lacks)
     shutil.rmtree(folder, ignore_errors=True)
     os.makedirs(folder)
-    with tempfile.TemporaryDirectory(
-        prefix="chipfire-aarch64-"
-    ) as room, ThreadPoolExecutor() as pool:
-        links = [
-            pool.submit(link, tempfile.mkdtemp(dir=room), folder)
-            for link in (link_libraries, link_program)
-        ]
+    with tempfile.TemporaryDirectory(prefix="chipfire-aarch64-") as room:
+        with ThreadPoolExecutor() as pool:
+            links = [
+                pool.submit(link, tempfile.mkdtemp(dir=room), folder)
+                for link in (link_libraries, link_program)
+            ]
         for linked in links:
             linked.result()
 

@@ -176,7 +176,7 @@ def row(name, libraries, program, turns):
     rates = [play.count / it for it in least_of(play, libraries, turns, name)]
     package = shown(max(play.asked(play.count) for _ in range(turns)))
     process = shown(play.asked(plays, program)) if plays else ""
-    cells = [name, *map(shown, rates), f"{rates[0] / rates[1]:.2f}", package, process]
+    cells = [name, *map(shown, rates), f"{rates[1] / rates[0]:.2f}", package, process]
     return f"| {' | '.join(cells)} |"
 
 
@@ -189,7 +189,7 @@ def main():
     chipfire.library.find_program = lambda: asked.program
     libraries = [loaded(f"{os.path.dirname(asked.program)}/libchipfire.so"), loaded(plain)]
     print(
-        "| In a second | library | plain C | library : plain C | Python | program |\n|---|---|---|---|---|---|"
+        "| In a second | library | plain C | time, library : C | Python | program |\n|---|---|---|---|---|---|"
     )
     for name in asked.game or GAMES:
         print(row(name, libraries, asked.program, asked.turns), flush=True)

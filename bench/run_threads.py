@@ -29,11 +29,13 @@ GAMES = {
     "run-six": lambda _: grid(SIDE, {v: 6 for v in range(SIDE * SIDE)}),
     "run-peak": lambda _: grid(SIDE, {SIDE * SIDE // 2: 2**12}),
     "run-random": lambda draw: random_graph(draw, VERTICES),
-    "large-six": grid_six,
+    "grid-six": grid_six,
     "large-peak": lambda _: grid(LARGE_SIDE, {LARGE_SIDE * LARGE_SIDE // 2: 2**14}),
-    "large-random": random_graph,
+    "random-graph": random_graph,
     "huge-six": lambda _: grid(HUGE_SIDE, {v: 6 for v in range(HUGE_SIDE * HUGE_SIDE)}),
 }
+#: The games that one worker, and rings of more than one cell, play only dealt out.
+LARGE = {"grid-six", "large-peak", "random-graph"}
 LIKES = ["crew", "net"]
 CROWD = ["taskset", "-c", "0,1"]
 BUSY = [sys.executable, "-c", "while True: pass"]
@@ -107,7 +109,7 @@ def row(program, game, report, ring, workers, turns):
     """A row of the table."""
     files = [f"{ROOM}/{game}.json", f"{ROOM}/{game}.csv"]
     words = commands(program, files, ring, workers)
-    if game.startswith("huge-") or game.startswith("large-") and (workers == 1 or ring > 1):
+    if game.startswith("huge-") or game in LARGE and (workers == 1 or ring > 1):
         return ["", "", "", *compared(least_of(words[2:], report, turns)), ""]
     least = least_of(words, report, turns)
     return [*compared(least[:2]), *compared(least[2:]), f"{least[2] / least[0]:.2f}"]

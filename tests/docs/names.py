@@ -150,8 +150,7 @@ def costs_of_threads():
     beside rings of 1."""
     plain = {row[0].partition(":")[0].strip(): row[1] for row in rows("docs/BENCHMARKS.md") if len(row) == 4}
     threads = played_by_threads()
-    alike = {"large-six": "grid-six", "large-random": "random-graph"}
-    slower = [min(threads[it, "1"][1]) / milliseconds(plain[name])[0] for it, name in alike.items()]
+    slower = [min(threads[it, "1"][1]) / milliseconds(plain[it])[0] for it in ("grid-six", "random-graph")]
     queue = [its[0][1] / its[0][0] for its in threads.values() if its[0]]
     long = [(its, threads[game, "1"]) for (game, ring), its in threads.items() if ring == "64"]
     rings = [a / b for its, others in long for one, other in zip(its, others) for a, b in zip(one, other)]

@@ -64,8 +64,8 @@ impl Play<'_> {
     }
 
     /// How many visits a search makes before the play has its turns, if it has made `searched`. On an undirected graph
-    /// these are as many as the play needs to dissipate the chips that cannot stay, by what it has dissipated in the
-    /// `alone` visits so far: the chips cross the border more slowly as time goes on, by the square root of it.
+    /// these are twice as many as the play needs to dissipate the chips that cannot stay, by what it has dissipated in
+    /// its `alone` visits so far, if what it dissipates grows as the square root of its visits.
     fn ahead(&self, is_symmetric: bool, alone: u64, searched: u64) -> u64
         requires few { searched ≤ 160 * places self.now.game }
         ensures enough { searched ≤ result }
@@ -77,8 +77,11 @@ impl Play<'_> {
             return least;
         }
         let ratio = self.chips_too_many() / self.dissipated_chips().max(1);
-        let needed = alone.saturating_mul(ratio).saturating_mul(ratio) / 2;
-        needed.min(all.saturating_mul(MOST_AHEAD)).max(least)
+        let needed = alone.saturating_mul(ratio).saturating_mul(ratio);
+        needed
+            .saturating_mul(2)
+            .min(all.saturating_mul(MOST_AHEAD))
+            .max(least)
     }
 
     /// How many chips more the vertices have than they may keep at the end, up to 2^64 - 1.

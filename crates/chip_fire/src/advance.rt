@@ -14,12 +14,14 @@ use chip_guess::{AHEAD, Hierarchy, Search};
 use std::alloc::Global;
 
 impl Play<'_> {
-    /// Begins to search counts after `alone` visits of the play alone. If there is no memory, no counts are searched.
+    /// Begins to search counts after `alone` visits of the play alone, which by these needs about `needed` more. If there
+    /// is no memory, no counts are searched.
     #[tactic(auto, using(crate::proofs::VisitsLemmas::visits_at_end))]
     pub(crate) fn begin_search<W: Watch>(
         &mut self,
         alloc: Global,
         alone: u64,
+        needed: u64,
         visits: &mut u64,
         watch: &mut W,
     ) -> Course
@@ -28,7 +30,7 @@ impl Play<'_> {
         ensures course { IsCourse self.old.game self.new.fired result }
     {
         let mut searched = 0u64;
-        let made = self.make_search(alloc, alone, &mut searched);
+        let made = self.make_search(alloc, alone, needed, &mut searched);
         *visits = visits.saturating_add(searched);
         if let Some(searching) = made {
             return Course::Searches(searching);
@@ -38,7 +40,13 @@ impl Play<'_> {
     }
 
     /// A search for counts from those so far on, if there is memory.
-    fn make_search(&self, alloc: Global, alone: u64, searched: &mut u64) -> Option<Box<Searching>>
+    fn make_search(
+        &self,
+        alloc: Global,
+        alone: u64,
+        needed: u64,
+        searched: &mut u64,
+    ) -> Option<Box<Searching>>
         requires unsearched { searched.old ≡ 0 }
         requires few { FewVisits self.now.game [] self.now.fired 0 alone true }
         ensures begun { 16 * places self.now.game ≤ searched.new }
@@ -46,10 +54,11 @@ impl Play<'_> {
         ensures made { IfSome result (λ boxed. IsSearching self.now.game self.now.fired boxed.value) }
     {
         let graph = self.game.graph();
-        let ahead = visits_at_all(graph).saturating_mul(AHEAD);
-        let hierarchy = Hierarchy::new(alloc, graph, searched, ahead)?;
+        let most = visits_at_all(graph).saturating_mul(AHEAD);
+        let hierarchy = Hierarchy::new(alloc, graph, searched, most)?;
         let before = Vec::from_slice(alloc, &self.fired).ok()?;
-        let ahead = self.ahead(hierarchy.is_symmetric(), alone, *searched);
+        let least = needed.min(most).max(*searched);
+        let ahead = self.ahead(hierarchy.is_symmetric(), alone, least);
         let search = Search::new(alloc, hierarchy, self.game, &before).ok()?;
         let searching = Searching {
             search: Box::new(alloc, search).ok()?,
@@ -63,25 +72,21 @@ impl Play<'_> {
         Box::new(alloc, searching).ok()
     }
 
-    /// How many visits a search makes before the play has its turns, if it has made `searched`. On an undirected graph
-    /// these are twice as many as the play needs to dissipate the chips that cannot stay, by what it has dissipated in
-    /// its `alone` visits so far, if what it dissipates grows as the square root of its visits.
-    fn ahead(&self, is_symmetric: bool, alone: u64, searched: u64) -> u64
-        requires few { searched ≤ 160 * places self.now.game }
-        ensures enough { searched ≤ result }
+    /// How many visits a search makes before the play has its turns: `least`, or more on an undirected graph whose chips
+    /// cannot all stay. There it makes twice as many as the play needs to dissipate these, by what it has dissipated in its
+    /// `alone` visits so far, if what it dissipates grows as the square root of its visits.
+    fn ahead(&self, is_symmetric: bool, alone: u64, least: u64) -> u64
+        requires few { least ≤ 160 * places self.now.game }
+        ensures enough { least ≤ result }
         ensures most { result ≤ 16384 * places self.now.game }
     {
-        let all = visits_at_all(self.game.graph());
-        let least = all.saturating_mul(AHEAD).max(searched);
         if !is_symmetric {
             return least;
         }
+        let most = visits_at_all(self.game.graph()).saturating_mul(MOST_AHEAD);
         let ratio = self.chips_too_many() / self.dissipated_chips().max(1);
         let needed = alone.saturating_mul(ratio).saturating_mul(ratio);
-        needed
-            .saturating_mul(2)
-            .min(all.saturating_mul(MOST_AHEAD))
-            .max(least)
+        needed.saturating_mul(2).min(most).max(least)
     }
 
     /// How many chips more the vertices have than they may keep at the end, up to 2^64 - 1.

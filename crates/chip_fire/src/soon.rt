@@ -60,7 +60,11 @@ impl Play<'_> {
         if goes_on && part < left {
             return Course::WorkList(left - part);
         }
-        if self.waiting_chips() > self.few_chips() {
+        let waits = self.waiting_chips();
+        if waits == 0 {
+            return Course::Rounds;
+        }
+        if waits > self.few_chips() {
             return Course::FewChips(all.saturating_mul(VISITS_OF_FEW));
         }
         self.soon()
@@ -111,7 +115,9 @@ impl Play<'_> {
             if waits > next.waited / 2
                 && !leaves_little(self.game.limit(), &self.fired, next.visits, few)
             {
-                return self.begin_search(alloc, next.visits, visits, watch);
+                let ratio = waits / next.waited.saturating_sub(waits).max(1);
+                let needed = next.visits.saturating_mul(ratio);
+                return self.begin_search(alloc, next.visits, needed, visits, watch);
             }
             next.waited = waits;
             next.end = next.visits.saturating_add(next.work);

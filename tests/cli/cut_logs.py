@@ -1,8 +1,8 @@
 """Logs that are cut off: the verdicts stay.
 
-All logs of missing_rows.py that have an interleaving are cut behind each row of each process, but in front of the first
-row of process 0, which begins active. The rows that can be used at greatest progress are judged by all cuts that can be
-reached (logs.py), and so is the whole log: a claim has the same verdict in both, and an early one the same least past.
+All logs of missing_rows.py that have an interleaving are cut after each row of each process, but in front of the first
+row of process 0, which begins active. The rows of the maximal progress are judged by all cuts that can be reached
+(logs.py), and so is the whole log: a claim has the same verdict in both, and an early one the same causal past.
 Where process 1 begins active and has lost all its rows, an early claim is right: so its first row has to be there.
 """
 import itertools
@@ -49,9 +49,9 @@ def wrong_cuts():
         for first, second in cuts_of(own, other):
             if CLAIM in first:
                 judged += 1
-                told = judgement(logs.Log(rows_of(first, second)), row)
-                if told != wanted:
-                    found.append(f"{own} and {other}: {wanted}, and by {first} and {second}: {told}")
+                found_here = judgement(logs.Log(rows_of(first, second)), row)
+                if found_here != wanted:
+                    found.append(f"{own} and {other}: {wanted}, and by {first} and {second}: {found_here}")
     return found or ([] if judged > 1000 else [f"{judged} claims were judged"])
 
 

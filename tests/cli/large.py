@@ -4,7 +4,7 @@ squares, and the largest that there are, of 2,097,152 vertices and 8,388,608 edg
 Each random game is played on one thread and, but for chains, on two. On one-way graphs a game of few chips is played
 too, and its trace replayed. What must come of them is known from player.c, which shares nothing with the program and is
 built by `cc`. It takes half a minute for the heap, so the digest of its report stands here; a long run of the tests has
-it found once more, and plays more games. The answers of the largest games are known by arithmetic.
+it found once more, and plays more games. The results of the largest games are known by arithmetic.
 """
 import functools
 import hashlib
@@ -277,7 +277,7 @@ def play_random(program, number):
         room = Room(program, folder, game)
         whole = played(room)
         yield "plain --large graph.json chips.csv", room.faults_of("plain --large graph.json chips.csv", whole)
-        # (heaps sink along a chain by so many rounds of turns that the others tell as much in less time)
+        # (a heap sinks along a chain in many rounds of turns; the other kinds show as much in less time)
         if kind != "chain":
             yield THREADS, room.faults_of(THREADS, whole)
         turn = number // len(KINDS) % 3
@@ -307,16 +307,16 @@ def play_heap(program, is_anew):
 
 def play_heap_in_little_memory(program):
     """The heap on the grid in ever more memory, in which it is the same report or fault 90: arguments and faults."""
-    answers = {(DIGEST, "", 0): "a report", (EMPTY, "chipfire: fault 90 NoMemory\n", 1): "no memory"}
+    outcomes = {(DIGEST, "", 0): "a report", (EMPTY, "chipfire: fault 90 NoMemory\n", 1): "no memory"}
     arguments, got = "plain graph.json chips.csv --large", set()
     with tempfile.TemporaryDirectory(prefix="chipfire-large-") as folder:
         room = Room(program, folder, Heap())
         for size in MEMORIES:
             written, errors, status = room.ran(arguments, [sys.executable, LIMITED, f"AS={size << 20}"])
-            answer = hashlib.sha256(written.encode()).hexdigest(), errors, status
-            got.add(answers.get(answer))
-            yield f"{arguments} in {size} MiB", [] if answer in answers else [f"the answer is {answer}"]
-    yield "an answer of each kind", [] if got >= set(answers.values()) else [f"there were {got}"]
+            outcome = hashlib.sha256(written.encode()).hexdigest(), errors, status
+            got.add(outcomes.get(outcome))
+            yield f"{arguments} in {size} MiB", [] if outcome in outcomes else [f"the outcome is {outcome}"]
+    yield "an outcome of each kind", [] if got >= set(outcomes.values()) else [f"there were {got}"]
 
 
 def trace_in_little_memory(program):
@@ -328,7 +328,7 @@ def trace_in_little_memory(program):
         room.write("trace.csv", "an old text")
         got = room.ran(arguments, [sys.executable, LIMITED, f"AS={TRACE_MEMORY << 20}"])
         left = room.read("trace.csv")
-    yield arguments, [] if (got, left) == (wanted, "") else [f"the answer is {got}, and the trace {left[:80]!r}"]
+    yield arguments, [] if (got, left) == (wanted, "") else [f"the outcome is {got}, and the trace {left[:80]!r}"]
 
 
 def play_widest(program):

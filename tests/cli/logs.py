@@ -77,7 +77,7 @@ class Log:
         return found
 
     def left(self, cut):
-        """What is left behind this cut: the least message of the least channel on its way, or the least active process."""
+        """What is left after this cut: the least message of the least channel in transit, or the least active process."""
         ways = sorted(channel for (control, channel), count in self.flight(cut).items() if count and not control)
         if ways:
             return f"message {self.got(cut, ways[0])} of channel {ways[0]} is on its way"
@@ -158,8 +158,8 @@ def judged(log, with_past, first=False, processes=0):
         moments = [cut for cut in cuts if cut[at] == row and any(q == at for q, _ in log.nexts(cut))]
         least = tuple(map(min, *moments)) if len(moments) > 1 else moments[0]
         assert least in moments
-        behind = log.cuts(least[:at] + (row + 1,) + least[at + 1:])
-        assert bool(log.left(least)) == any(log.left(cut) for cut in [*moments, *behind])
+        later = log.cuts(least[:at] + (row + 1,) + least[at + 1:])
+        assert bool(log.left(least)) == any(log.left(cut) for cut in [*moments, *later])
         return least
 
     return lines_of(log, least_of, with_past, first)
@@ -195,7 +195,7 @@ def waits_of(log, furthest):
 
 
 def random_log(draw, most=9, slips=0.05):
-    """A log of up to so many rows and an `active` of each of up to four processes. Slips are how many of them may be
+    """A log of up to `most` rows and an `active` of each of up to four processes. A share `slips` of the rows may be
     wrong."""
     processes = draw.randint(1, 4)
     rows = [(p, "active", 0) for p in range(processes) if draw.random() < 0.5]
@@ -231,7 +231,7 @@ def mixed(draw, rows):
     return [next(each[p]) for p in owners]
 
 
-def answer(program, room, rows, with_past, first=False, processes=0):
+def verdict(program, room, rows, with_past, first=False, processes=0):
     """What the program writes of a log: the lines, the status and the line of its fault."""
     with open(f"{room}/log.csv", "w", encoding="ascii") as file:
         file.write("process,kind,channel\n" + "".join(f"{p},{kind},{channel}\n" for p, kind, channel in rows))
@@ -252,19 +252,19 @@ def expected(rows, with_past, first=False, processes=0):
 
 
 def faults_of(draw, program):
-    """What is wrong with the answers to a random log, and to it mixed in another way."""
+    """What is wrong with the verdicts on a random log, and on the same rows mixed in another way."""
     rows = random_log(draw)
     options = draw.random() < 0.5, draw.random() < 0.3, draw.choice([0, 0, 0, 1, 2, 3, 4, 5])
     faults = []
     with tempfile.TemporaryDirectory(prefix="chipfire-log-") as room:
         for them in (rows, mixed(draw, rows)):
-            must, came = expected(them, *options), answer(program, room, them, *options)
+            must, came = expected(them, *options), verdict(program, room, them, *options)
             if must != came:
                 faults.append(f"{them} with {options}: expected {must}, came {came}")
     if " 70 " in must[2]:
         place = must[2].partition("Stuck ")[2].strip()
         waits = waits_of(*furthest_of(rows))
-        faults += terminal.told_of_waits(program, [f"{p},{kind},{channel}" for p, kind, channel in rows], place, waits)
+        faults += terminal.wrong_waits(program, [f"{p},{kind},{channel}" for p, kind, channel in rows], place, waits)
     return faults
 
 

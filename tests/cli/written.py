@@ -206,7 +206,7 @@ def piped(room):
 
 
 def full(room):
-    """A device that takes nothing is told without a number, since the rows are out."""
+    """A device that takes nothing is reported without a number, since the rows are out."""
     wanted = ROWS, b"chipfire: fault 93 Write\n", 1
     return compared((room.ran([*DROPPED, "/dev/full"]), wanted), (room.more(), []))
 

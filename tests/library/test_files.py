@@ -153,7 +153,7 @@ class Built(Room):
         self.runs("gcc", "-std=c11", "-g", *STRICT, *sanitized, f"{ROOT}/tests/library/calls.c", STATIC, "-o", calls)
         self.assertEqual(self.runs(calls), "")
 
-    def test_the_example_answers_what_the_page_shows(self):
+    def test_the_example_prints_what_the_page_shows(self):
         shown = re.search(r"^\$ target/grid\n(.*?)^(?:\$|```)", text_of(PAGE), re.DOTALL | re.MULTILINE)[1]
         for program in self.programs(EXAMPLE):
             self.assertEqual(self.runs(program), shown)

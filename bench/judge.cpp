@@ -52,7 +52,7 @@ Log read_log(const std::string& text) {
     return log;
 }
 
-// The rows in an order in which each get stands behind its message; a process waits for at most one stream.
+// The rows in an order in which each get stands after its message; a process waits for at most one stream.
 std::vector<Row> ordered(const Log& log) {
     std::vector<Number> first(log.processes + 1), places(log.rows.size());
     for (const Row& row : log.rows) first[row.process + 1]++;

@@ -92,7 +92,7 @@ struct Books {
     std::vector<std::uint8_t> said;  // 0 no row in the past, 1 no row that says, 2 passive, 3 active
 };
 
-// What is left in the least past of the claim at this place, or an empty text.
+// What is left in the causal past of the claim at this place, or an empty text.
 std::string left(const Log& log, const std::vector<Row>& rows, const std::vector<std::uint8_t>& begins, Number at) {
     Books books{std::vector<Number>(log.streams), std::vector<Number>(log.streams), std::vector<Number>(log.streams),
                 std::vector<std::uint8_t>(log.processes)};

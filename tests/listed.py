@@ -21,7 +21,7 @@ import unittest
 import paths
 
 
-#: What Hypothesis has looked at.
+#: What Hypothesis has tried.
 SHRUNK = []
 
 

@@ -17,12 +17,12 @@ def rows_of(own, other):
 
 
 def furthest(log):
-    """Returns the greatest progress: the cut that has no fewer rows of a process than any other."""
+    """Returns the maximal progress: the cut that has no fewer rows of a process than any other."""
     return tuple(map(max, zip(*log.cuts(log.empty))))
 
 
 def judgement(log, row):
-    """Returns what is left when the claim that is this row of process 0 is made, and its least past: nothing if it is
+    """Returns what is left when the claim that is this row of process 0 is made, and its causal past: nothing if it is
     right."""
     if is_right(log, row):
         return None
@@ -31,7 +31,7 @@ def judgement(log, row):
 
 
 def cuts_of(own, other):
-    """Yields the rows of both processes that are used at greatest progress, of each cut of a log."""
+    """Yields the rows of both processes up to the maximal progress, of each cut of a log."""
     for first, second in itertools.product(range(1, len(own) + 1), range(len(other) + 1)):
         most = furthest(logs.Log(rows_of(own[:first], other[:second])))
         yield own[: most[0]], other[: (*most, 0)[1]]

@@ -105,7 +105,7 @@ class Computation:
         return "stuck" if is_silent and not is_closed and not is_due else None
 
     def search(self):
-        """Returns how many worlds were met until one is wrong, what is wrong with it, and after how many events."""
+        """Returns how many worlds were visited until one is wrong, what is wrong with it, and after how many events."""
         left, met = collections.deque([(0, self.start())]), {key_of(self.start())}
         while left:
             events, world = left.popleft()

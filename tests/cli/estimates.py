@@ -18,7 +18,7 @@ GUESSING = re.compile(rb"chipfire: progress: guessing, [0-9]+ steps, this try is
 
 
 def grid(rows, columns):
-    """The edges of a grid that dissipates chips at its border."""
+    """The edges of a grid that dissipates chips at its border, to the sink."""
     sink, edges = rows * columns, []
     for v in range(sink):
         row, column = divmod(v, columns)

@@ -85,7 +85,7 @@ class Log:
         return f"process {active[0]} is active" if active else None
 
     def nexts(self, cut):
-        """The cuts with one row more, which is met."""
+        """The cuts with one row more, which is enabled."""
         flight = self.flight(cut)
         for at, (p, count) in enumerate(zip(self.processes, cut)):
             if count < len(self.steps[p]):
@@ -100,7 +100,7 @@ class Log:
                 raise Fault(34, p)
 
     def reached(self, furthest):
-        """Raises the fault of a log whose greatest progress is this cut, where that is not the whole."""
+        """Raises the fault of a log whose maximal progress is this cut, where that is not the whole."""
         for p, count in zip(self.processes, furthest):
             if count < len(self.steps[p]):
                 raise Fault(70, p, count)
@@ -153,7 +153,7 @@ def judged(log, with_past, first=False, processes=0):
     assert all(all(map(int.__ge__, furthest, cut)) for cut in cuts)
     log.reached(furthest)
 
-    # (where all rows can be met, each cut that can be reached can go on to the whole)
+    # (where the whole can be reached, it can be reached from each cut that can)
     def least_of(at, row):
         moments = [cut for cut in cuts if cut[at] == row and any(q == at for q, _ in log.nexts(cut))]
         least = tuple(map(min, *moments)) if len(moments) > 1 else moments[0]
@@ -166,7 +166,7 @@ def judged(log, with_past, first=False, processes=0):
 
 
 def furthest_of(rows):
-    """A log, and the cut at its greatest progress."""
+    """A log, and the cut at its maximal progress."""
     log = Log(rows)
     return log, max(log.cuts(log.empty), key=sum)
 

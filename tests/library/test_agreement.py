@@ -2,7 +2,7 @@
 played.
 
 The games are those on graphs of two vertices, of three, with each edge as often as `MULTS` says, and up to three chips on
-a vertex. The definition is looked at itself: from each position every legal vertex is fired that the limit still allows,
+a vertex. The definition itself is tried: from each position every legal vertex is fired that the limit still allows,
 and all ways end with the same chips and counts."""
 import itertools
 import json

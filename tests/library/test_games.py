@@ -271,7 +271,7 @@ class Memory(unittest.TestCase):
             self.assertGreater(enough, 0)
             self.assertEqual(found, [90] * enough + [0] * (len(found) - enough))
 
-    def test_sizes_are_looked_at_before_memory_is_taken(self):
+    def test_sizes_are_read_before_memory_is_taken(self):
         """With one edge too many, where no edge can be copied."""
         edges, place, empty = (WORD * (2**23 + 1))(), Slice([7]), Slice([])
         column = ctypes.addressof(edges), len(edges)
@@ -282,13 +282,13 @@ class Memory(unittest.TestCase):
                 self.assertEqual(self.status(function, words, [], 0), fault)
 
     def child(self, function, graph, inputs, outputs, room):
-        """Returns the status of a call in a process that may take `room` bytes more; 255 if other slices were written."""
+        """Returns the status of a call in a process that may take `room` bytes more; 255 if other arrays were written."""
         inputs, outputs, place = [Slice(it) for it in inputs], [Slice(it) for it in outputs], Slice([7])
         words = [*graph.words(), LARGEST, *(word for it in (*inputs, *outputs) for word in it.words()), place.words()[0]]
         return self.status(function, words, outputs, room)
 
     def status(self, function, words, outputs, room):
-        """Returns the same of a call with these words, which may write these slices."""
+        """Returns the same of a call with these words, which may write these arrays."""
         child = os.fork()
         if child == 0:
             # (what other tests gave back may lie free in this process, and would be room too)

@@ -1,4 +1,4 @@
-"""Books with sums: all small ones, each call beside the words of chipfire.h and beside the calls on slices."""
+"""Books with sums: all small ones, each call beside the words of chipfire.h and beside the calls on arrays."""
 import ctypes
 import itertools
 import random
@@ -139,7 +139,7 @@ class Small(unittest.TestCase):
 
 
 class Beside(unittest.TestCase):
-    def test_random_steps_beside_the_calls_on_slices(self):
+    def test_random_steps_beside_the_calls_on_arrays(self):
         for seed in range(300):
             draw = random.Random(seed)
             ins, outs = (tuple((e, 0, 0) for e in sorted(draw.sample(range(9), draw.randint(0, 5)))) for _ in "io")

@@ -73,7 +73,7 @@ struct Worker {
     Queue& queue;
     std::atomic<bool>& stop;
     Actor* kept = nullptr;
-    std::uint64_t in_vain = 0;
+    std::uint64_t idle = 0;
 
     void work() {
         while (!stop.load()) one_turn();
@@ -92,10 +92,10 @@ struct Worker {
         const std::uint64_t work = actor ? actor->turn(words) : 0;
         if (actor && !queue.try_push(actor)) kept = actor;
         if (work != 0) {
-            in_vain = 0;
-        } else if (in_vain++ == queue.capacity()) {
+            idle = 0;
+        } else if (idle++ == queue.capacity()) {
             std::this_thread::yield();
-            in_vain = 0;
+            idle = 0;
         }
     }
 };

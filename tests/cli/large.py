@@ -211,8 +211,8 @@ def stages(room, game, kind, whole):
 
 
 def guessed(room, kind, first, whole):
-    """Counts of all kinds as a guess: arguments and faults. Where edges go both ways, what becomes of the counts of the
-    firings of a play is known: those of its end are certified, and from others it goes on."""
+    """Counts of all kinds as a guess: arguments and faults. Where edges go both ways, the counts at the end of a play are
+    certified, and from its other counts the play goes on."""
     true, some = (json.loads(text)["fired"] for text in (whole, first))
     uses = {"certified": true, "played on" if some != true else "certified": some}
     other = [count // 2 if v % 2 else count + 1 for v, count in enumerate(true)]
@@ -227,8 +227,8 @@ def guessed(room, kind, first, whole):
 
 
 def traced(room, game):
-    """A play of few chips on threads with its trace, by which each vertex fires as often as the report says: arguments and
-    faults. On a one-way graph each chip comes by a vertex at most once, so a vertex has at most two rows for each."""
+    """A play of few chips on threads: in its trace each vertex fires as often as the report says. Arguments and faults.
+    On a one-way graph a chip passes a vertex at most once, so a vertex has at most two rows for each chip."""
     chips = [(game.below(game.vertices), ROWS // 8) for _ in range(4)]
     room.write("chips.csv", rows_of(("vertex", "chips"), sorted(dict(chips).items())))
     whole = played(room)
@@ -251,8 +251,8 @@ def traced(room, game):
 
 
 def left_at_rest(game, sent, chips):
-    """What is left if vertices that do not fire take nothing: on each edge to such a vertex all messages of its tail, which
-    sends one on each of its edges for each row of firings."""
+    """What is left if vertices that do not fire take nothing: all messages on each edge to such a vertex. A tail sends one
+    on each of its edges for each row of firings."""
     counts = [0 if head in sent else sent[tail] for tail, head, _ in game.edges]
     counts += [int(v not in sent and chips.get(v, 0) > 0) for v in range(game.vertices)]
     return [f"left: edge {edge} has {count} messages" for edge, count in enumerate(counts) if count]
@@ -320,8 +320,7 @@ def play_heap_in_little_memory(program):
 
 
 def trace_in_little_memory(program):
-    """A trace of the heap that wants more memory than there is, which is 90 and leaves its file empty: arguments and
-    faults."""
+    """A trace of the heap that needs more memory than there is: fault 90, and an empty file. Arguments and faults."""
     arguments, wanted = f"{THREADS} --trace trace.csv --trace-rows 1048576", ("", "chipfire: fault 90 NoMemory\n", 1)
     with tempfile.TemporaryDirectory(prefix="chipfire-large-") as folder:
         room = Room(program, folder, Heap())

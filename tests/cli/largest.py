@@ -123,8 +123,7 @@ class Room:
             return file.read()
 
     def ran(self, arguments, under=()):
-        """Runs the program, under another one where that is said; what it wrote on standard output and on standard error,
-        and its status."""
+        """Runs the program, or `under` with it. Returns its standard output, its standard error, and its status."""
         how = {"stdin": subprocess.DEVNULL, "stdout": subprocess.PIPE, "stderr": subprocess.PIPE, "timeout": SECONDS}
         done = subprocess.run([*under, self.program, *arguments.split(" ")], cwd=self.folder, **how)
         written, errors = (text.decode(errors="backslashreplace") for text in (done.stdout, done.stderr))

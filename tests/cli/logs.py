@@ -172,8 +172,8 @@ def furthest_of(rows):
 
 
 def waits_of(log, furthest):
-    """The words of where the waits lead from the least process with a row left at this cut. A process waits for the one that
-    sends on the stream of its next row."""
+    """The words on the waits from the least process with a row left at this cut. A process waits for the one that sends on
+    the stream of its next row."""
     made = dict(zip(log.processes, furthest))
     left = {p: log.steps[p][made[p]] for p in log.processes if made[p] < len(log.steps[p])}
     senders = {stream(*step): p for p in log.processes for step in log.steps[p] if delta(step[0]) > 0}

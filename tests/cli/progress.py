@@ -59,8 +59,7 @@ def write_uphill(folder, length):
 
 
 def write_heap(folder):
-    """Writes the game of a heap on a square lattice with loss at its rim, of which it is guessed for seconds how often
-    each vertex fires."""
+    """Writes the game of a heap on a square lattice with loss at its rim. The search of its counts takes seconds."""
     at = lambda row, column: row * SIDE + column if 0 <= row < SIDE > column >= 0 else SIDE * SIDE
     steps = [(1, 0), (-1, 0), (0, 1), (0, -1)]
     squares = [(row, column) for row in range(SIDE) for column in range(SIDE)]
@@ -73,8 +72,7 @@ def write_heap(folder):
 
 
 def guessed(program):
-    """What is wrong with the lines of a long search: the numbers of each kind of line never fall, but those of which the
-    line says that they are of one try."""
+    """What is wrong with the lines of a long search: in each kind of line only the numbers of one try may fall."""
     with tempfile.TemporaryDirectory(prefix="chipfire-progress-") as room:
         write_heap(room)
         words, lines = words_of(program, "plain", "--large", "--progress"), []

@@ -117,8 +117,8 @@ WRONG = {
 
 
 def run(program, words, is_terminal, more=(), **how):
-    """The status of a run, and what it wrote on standard output and on standard error, which may be a terminal. There are the
-    files, and more."""
+    """The status of a run, its standard output, and its standard error, which may be a terminal. `more` are files beside
+    FILES."""
     with tempfile.TemporaryDirectory(prefix="chipfire-terminal-") as room:
         for name, text in [*FILES.items(), *more]:
             with open(f"{room}/{name}", "w", encoding="utf-8") as file:

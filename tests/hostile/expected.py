@@ -451,8 +451,8 @@ def degrees(graph):
 
 
 def play(graph, chips, limit, before=None):
-    """Fires until no vertex may, beyond the counts before; the chips are changed, and the counts and the vertices at
-    the limit come back."""
+    """Fires until no vertex may, beyond the counts before. Changes the chips, and returns the counts and the vertices at
+    the limit."""
     degree, sink = degrees(graph), graph["sink"]
     out = [[] for _ in chips]
     for tail, head, mult in graph["edges"]:
@@ -532,8 +532,8 @@ def burnt(graph, chips):
 
 
 def recurrent(graph, chips):
-    """The same, or the fault of one of three stabilizations: of twice the greatest stable chips, of these chips, and of what
-    is left of these with what the first lost."""
+    """The same, or the fault of one of three stabilizations: of twice the greatest stable chips, of these chips, and of the
+    rest of these with what the first dissipated."""
     twice = [2 * max(count - 1, 0) for count in degrees(graph)]
     lost = [count - left for count, left in zip(twice, settled(graph, twice))]
     settled(graph, [count + more for count, more in zip(settled(graph, chips), lost)])
@@ -699,8 +699,8 @@ def replayed(graph, chips, traces, limit, complete):
 
 
 def faults_of_firings(replay, out, left):
-    """What is wrong with the lines of a replay: each must be the next firing of its vertex, when it may come, before
-    the lines of what is left."""
+    """What is wrong with the lines of a replay: each must be the next firing of its vertex, enabled at that place. The
+    lines of what is left come last."""
     if not out.endswith(left):
         return [f"expected {left!r} at the end of {out!r}"]
     for line in out[: len(out) - len(left)].splitlines(keepends=True):

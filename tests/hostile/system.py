@@ -134,8 +134,8 @@ def size_limits(machine, worked):
 
 
 def odd_files(machine, worked):
-    """A folder cannot be read, and a device without an end is too long; of files too many one cannot be opened, and no
-    further file is needed than the arguments name."""
+    """A folder cannot be read, and a device without an end is too long. Where too many files are open one cannot be opened,
+    and no file is needed but those of the arguments."""
     for place, path in worked.files():
         for odd, fault in ((machine.room, "29 Read"), ("/dev/zero", "30 TooLong"), ("/proc/self/mem", "29 Read")):
 

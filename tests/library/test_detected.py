@@ -86,8 +86,7 @@ def moves_of_a_knight(side):
 
 
 class Judge:
-    """Knows the truth of one run of knight.py after another, and writes the rows of its log: a square is a process, and
-    an edge a channel."""
+    """Counts the open tasks of each run of knight.py, and writes its log: a square is a process, and an edge a channel."""
 
     def __init__(self):
         self.lock, self.draw = threading.Lock(), random.Random("library: knight")

@@ -28,8 +28,8 @@ def grid(side):
 
 
 def stepped(graph, chips, limit, fired=None):
-    """Fires one vertex after another, the last that may fire first. Returns chips, counts, and how many vertices are
-    stopped; then how many chips came to the sink."""
+    """Fires one vertex after another, the last that may fire first. Returns chips, counts, the number of stopped vertices,
+    and the number of chips that the sink got."""
     chips, fired = list(chips), list(fired or [0] * graph.vertices)
     degree, before = [0] * graph.vertices, chips[graph.sink]
     for tail, _, mult in graph.edges:

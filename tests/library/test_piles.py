@@ -70,8 +70,8 @@ class Pile:
         return status, place.now()[0], list(zip(*(it.now() for it in rows)))
 
     def measure(self, drops, timed=False, room=None):
-        """Returns the status, the place, and what is written: all rows, durations, ends, and what fired; `room` is how many
-        vertices there is room for, and None if that is not asked."""
+        """Returns the status, the place, and what is written: all rows, durations, ends, and what fired. There is room for
+        `room` vertices; None leaves them out."""
         columns = [Slice(it) for it in zip(*drops)] if drops else [Slice([]), Slice([])]
         many = [len(drops)] * 3 + [len(drops) * timed, 0 if room is None else len(drops)] + 2 * [room or 0]
         written, place = [Slice([GUARD] * it) for it in many], Slice([7])

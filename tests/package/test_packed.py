@@ -226,7 +226,7 @@ class OneVersion(made.Test):
         self.assertRegex(changes, rf"(?s)\A(# chipfire [\d.]+ \(not yet released\)\n.*?\n)?# chipfire {name}, ")
 
     def test_it_stands_in_one_place(self):
-        """Beside the source that the program has it from, only the changes, the tests of what it prints and a release name it."""
+        """Only the source of the program, the changes, the tests of what it prints and a release have it."""
         version = re.compile(rb"(?<![\w.])%b(?![\w.])" % re.escape(made.version().encode()))
         files = [it for it in made.repository_files() if not it.startswith("release/")]
         having = {name for name in files if version.search(made.read(f"{made.ROOT}/{name}"))}

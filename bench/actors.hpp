@@ -22,7 +22,7 @@ constexpr std::uint64_t by_limit_bit = std::uint64_t{1} << 62;
 constexpr std::uint64_t no_edge = std::numeric_limits<std::uint64_t>::max();
 
 // Where the words of a net lie: those of edges, those of acknowledgements, cells, those of vertices. The root's edges
-// stand behind the graph's.
+// stand after the graph's.
 struct Words {
     std::uint64_t edges, ring;
     std::unique_ptr<Word[]> words;

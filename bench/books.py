@@ -35,7 +35,7 @@ class OnBooks:
             array("Q", [word for edge in range(edges) for word in (edge, 0, 0)]) for _ in range(2)
         ]
         self.sides, self.arrays = sides, [(side.buffer_info()[0], edges) for side in sides]
-        self.parent, self.told = ctypes.c_uint64(2**64 - 1), ctypes.c_uint64()
+        self.parent, self.word = ctypes.c_uint64(2**64 - 1), ctypes.c_uint64()
         words = [word for its in self.arrays for word in its]
         self.books = library.BooksStruct(*words, self.parent.value)
         self.calls.chipfire_books_open(self.books)
@@ -43,18 +43,18 @@ class OnBooks:
     def message(self):
         ins, outs = self.arrays
         self.calls.chipfire_got(*ins, self.parent, self.last)
-        self.calls.chipfire_may_ack(*ins, *outs, self.parent, self.last, 1, self.told)
-        self.calls.chipfire_acked(*ins, *outs, self.parent, self.last, 1, self.told)
+        self.calls.chipfire_may_ack(*ins, *outs, self.parent, self.last, 1, self.word)
+        self.calls.chipfire_acked(*ins, *outs, self.parent, self.last, 1, self.word)
 
     def message_in_sums(self):
         self.calls.chipfire_books_got(self.books, self.last)
-        self.calls.chipfire_books_acknowledge(self.books, self.last, 1, self.told, self.told)
+        self.calls.chipfire_books_acknowledge(self.books, self.last, 1, self.word, self.word)
 
     def is_over(self):
-        self.calls.chipfire_is_over(*self.arrays[1], 1, self.told)
+        self.calls.chipfire_is_over(*self.arrays[1], 1, self.word)
 
     def is_over_in_sums(self):
-        self.calls.chipfire_books_is_over(self.books, 1, self.told)
+        self.calls.chipfire_books_is_over(self.books, 1, self.word)
 
 
 def time_books(library, edges):

@@ -4,8 +4,7 @@
 //     crew GRAPH CHIPS RING WORKERS
 //
 // The actors are those of actors.hpp and wait in one bounded queue. A worker takes one, gives it a turn, and puts it
-// back, and yields after more turns in vain in a row than there are actors; worker 0 polls the root after each of its
-// turns.
+// back, and yields after more idle turns in a row than there are actors; worker 0 polls the root after each of its turns.
 
 #include <atomic>
 #include <cstdint>
@@ -18,8 +17,8 @@
 
 namespace {
 
-// A bounded queue of actors for many threads without a lock. Each slot has a stamp, which tells whether it is free for
-// the push, or full for the pop, that comes to this place next; a place is a lap and, in its low bits, a slot. A call
+// A bounded queue of actors for many threads without a lock. Each slot has a stamp, which says whether it is free for
+// the next push, or full for the next pop, at this place; a place is a lap and, in its low bits, a slot. A call
 // makes one try, and fails where another thread is in its way.
 class Queue {
 public:
@@ -74,7 +73,7 @@ struct Worker {
     Queue& queue;
     std::atomic<bool>& stop;
     Actor* kept = nullptr;
-    std::uint64_t in_vain = 0;
+    std::uint64_t idle = 0;
 
     void work() {
         while (!stop.load()) one_turn();
@@ -93,10 +92,10 @@ struct Worker {
         const std::uint64_t work = actor ? actor->turn(words) : 0;
         if (actor && !queue.try_push(actor)) kept = actor;
         if (work != 0) {
-            in_vain = 0;
-        } else if (in_vain++ == queue.capacity()) {
+            idle = 0;
+        } else if (idle++ == queue.capacity()) {
             std::this_thread::yield();
-            in_vain = 0;
+            idle = 0;
         }
     }
 };

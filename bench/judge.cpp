@@ -52,7 +52,7 @@ Log read_log(const std::string& text) {
     return log;
 }
 
-// The rows in an order in which each get stands behind its message; a process waits for at most one stream.
+// The rows in an order in which each get stands after its message; a process waits for at most one stream.
 std::vector<Row> ordered(const Log& log) {
     std::vector<Number> first(log.processes + 1), places(log.rows.size());
     for (const Row& row : log.rows) first[row.process + 1]++;
@@ -92,7 +92,7 @@ struct Books {
     std::vector<std::uint8_t> said;  // 0 no row in the past, 1 no row that says, 2 passive, 3 active
 };
 
-// What is left in the least past of the claim at this place, or an empty text.
+// What is left in the causal past of the claim at this place, or an empty text.
 std::string left(const Log& log, const std::vector<Row>& rows, const std::vector<std::uint8_t>& begins, Number at) {
     Books books{std::vector<Number>(log.streams), std::vector<Number>(log.streams), std::vector<Number>(log.streams),
                 std::vector<std::uint8_t>(log.processes)};

@@ -112,13 +112,13 @@ def guessed(name, program, turns, patience):
     least = dict.fromkeys(words, math.inf)
     for _ in range(turns):
         for what, command in words.items():
-            seconds, _ = play([program, *command, "--large"], f"{ROOM}/answer", patience) or (
+            seconds, _ = play([program, *command, "--large"], f"{ROOM}/result", patience) or (
                 math.inf,
                 0,
             )
             least[what] = min(least[what], seconds)
             is_report = command[0] == "plain" and seconds < math.inf
-            if is_report and bytes_of(f"{ROOM}/answer") != bytes_of(f"{ROOM}/report.json"):
+            if is_report and bytes_of(f"{ROOM}/result") != bytes_of(f"{ROOM}/report.json"):
                 stop("the reports differ")
     for what, seconds in least.items():
         yield f"| {name} | {what} | {seconds:.2f} s | {seconds / least['check']:.2f} |"

@@ -46,7 +46,7 @@ static void hand_over(std::uint64_t count)
     for (std::uint64_t number = 0; number < count; number++) lines[1 - number % 2].put(lines[number % 2].take() + 1);
 }
 
-/// A process: its books, what comes to it, and the edges from the other and to it.
+/// A process: its books, the messages to it, and the edges from the other and to it.
 struct Process {
     chipfire::Books books;
     Line line;

@@ -31,7 +31,7 @@ HEAPS = range(1500, 8001, 50)
 
 
 def least_times(commands, turns, patience):
-    """The least seconds of each command over the turns, once all have written the same with the same status.
+    """The least seconds of each command over the turns. All have to write the same, with the same status.
 
     None stands for a command that was stopped."""
     least = [float("inf")] * len(commands)

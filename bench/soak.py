@@ -178,8 +178,7 @@ def is_wrong_pool(chipfire, room, turn):
 
 
 def soak_pool(chipfire, _, asked, room):
-    """Runs the pool again and again, and yields how many runs there were, and what is reported of them. It ends with a
-    run that is missed."""
+    """Runs the pool again and again. Yields the number of runs and what they report, and ends after a missed run."""
     library = os.path.join(os.path.dirname(asked.program), "libchipfire.a")
     pool = frame.compiled(COMPILE, "pool.cpp", "pool", [library])
     missed, turn = 0, 0

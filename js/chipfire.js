@@ -93,14 +93,14 @@ class Instance {
     });
     this.view(end, 3).fill(0n);
     const status = this.run(name, ...numbers, end, end + 8n, end + 16n);
-    const told = this.view(end, 3).slice();
+    const report = this.view(end, 3).slice();
     for (const array of written.reverse()) {
       end -= 8n * BigInt(array.length);
       array.set(this.view(end, array.length));
     }
     this.run("free", first);
-    if (status !== 0n) throw new ChipfireFault(Number(status), Number(told[0]));
-    return told;
+    if (status !== 0n) throw new ChipfireFault(Number(status), Number(report[0]));
+    return report;
   }
 }
 

@@ -122,8 +122,8 @@ def by_unittest(asked):
 
 
 def tell_of_classes(cases, outcomes):
-    """Has what came of the set-up of classes stand with all their tests that did not run, as pytest has it, and what
-    came of their end with the last one that ran."""
+    """Gives the outcome of the set-up of a class to all its tests that did not run, as pytest does, and the outcome of its
+    end to the last one that ran."""
     last = {name_of(it).rpartition("::")[0]: name_of(it) for it in cases}
     for case in (it for it in cases if name_of(it) not in outcomes):
         place = f"setUpClass ({name_of(case).rpartition('::')[0]})"

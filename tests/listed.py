@@ -21,7 +21,7 @@ import unittest
 import paths
 
 
-#: What Hypothesis has looked at.
+#: What Hypothesis has tried.
 SHRUNK = []
 
 
@@ -46,15 +46,15 @@ def named(sets):
 
 
 def drawn(count, seed, faults_of, *more):
-    """Yields `count` tests of what is drawn at random, whose names are their numbers. The function takes the generator,
-    and what else is given."""
+    """Yields `count` tests of what is drawn at random; their names are their numbers. `faults_of` gets the generator, and
+    `more`."""
     for number in range(count):
         yield str(number), functools.partial(of_seed, f"{seed} {number}", faults_of, *more)
 
 
 def of_seed(seed, faults_of, *more):
-    """Returns what is wrong with what is drawn by a seed. The first time that something is, it is also shown of the
-    smallest thing that Hypothesis finds to be wrong, if Hypothesis is here."""
+    """Returns what is wrong with what is drawn by a seed. The first time it also shows the faults of the smallest example
+    that Hypothesis finds, if Hypothesis is here."""
     faults = faults_of(random.Random(seed), *more)
     if not faults or (faults_of, more) in SHRUNK:
         return faults

@@ -5,14 +5,14 @@ import unittest
 
 
 @contextlib.contextmanager
-def part(case, message="", **told):
+def part(case, message="", **values):
     """A part of a test, which ends it if it fails, and says first which part it is."""
     try:
         yield
     except unittest.SkipTest:
         raise
     except BaseException:
-        words = [str(message)] * bool(message) + [f"{name}={it!r}" for name, it in told.items()]
+        words = [str(message)] * bool(message) + [f"{name}={it!r}" for name, it in values.items()]
         print("The part that failed:", *words)
         raise
 

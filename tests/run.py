@@ -124,8 +124,8 @@ class Job:
 
 @dataclasses.dataclass
 class Made:
-    """What came of a job: the reader of its tests, what came of each and how long it took, the seconds of the job and those
-    of processors, and what else was shown."""
+    """The outcome of a job: the reader of its tests, the outcome and the time of each, the seconds of the job and those of
+    processors, and what else was shown."""
 
     reader: str
     outcomes: dict
@@ -275,8 +275,8 @@ def names_of_classes(group, choice, program):
 
 
 def dealt(group, modules, lanes):
-    """Deals modules out: a long one is alone, those that share what they make are together, and the others are in as many
-    parts as there are processes, since each part starts a Python."""
+    """Deals modules out. A long one is alone, and those that share what they make are together. The others are in one part
+    for each process, since each part starts a Python."""
     if group in SHARING:
         return [modules] * bool(modules)
     alone = [it for it in modules if f"{group} {it}" in LONGEST]

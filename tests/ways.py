@@ -101,11 +101,11 @@ def carried(folder, program):
     shutil.copy(program, f"{package}/program/chipfire")
     shutil.copy(f"{os.path.dirname(program)}/{SHARED}", f"{package}/program")
     how = {"stdout": subprocess.PIPE, "encoding": "ascii", "check": True}
-    told = subprocess.run([program, "--version"], **how).stdout
+    version_line = subprocess.run([program, "--version"], **how).stdout
     with open(f"{package}/program/{SHARED}", "rb") as file:
         digest = hashlib.sha256(file.read()).hexdigest()
-    stated = f"{told}{SHARED} sha256:{digest}\n"
-    for name, text in (("version", told.split()[-1]), ("program/PROVED", stated)):
+    stated = f"{version_line}{SHARED} sha256:{digest}\n"
+    for name, text in (("version", version_line.split()[-1]), ("program/PROVED", stated)):
         with open(f"{package}/{name}", "w", encoding="ascii") as file:
             file.write(text)
     return folder

@@ -416,12 +416,12 @@ async function openGame(files) {
 /** Puts the board into the address, and what it begins with; chips by hand too, if they are few. */
 function share() {
   const { seed, ...words } = board;
-  const told = new URLSearchParams(words);
-  if (["random", "recurrent"].includes(board.fill)) told.set("seed", seed);
+  const address = new URLSearchParams(words);
+  if (["random", "recurrent"].includes(board.fill)) address.set("seed", seed);
   const placed = [];
   if (isChanged) chips.forEach((count, square) => count && square < squares() && placed.push(`${square}-${count}`));
-  if (isChanged && placed.length <= MOST_PLACED) told.set("chips", placed.join("_"));
-  history.replaceState(null, "", `#${told}`);
+  if (isChanged && placed.length <= MOST_PLACED) address.set("chips", placed.join("_"));
+  history.replaceState(null, "", `#${address}`);
   return placed.length <= MOST_PLACED;
 }
 
@@ -434,16 +434,16 @@ async function copy() {
 
 /** Reads the address: what it says of the board, and chips by hand. */
 function readAddress() {
-  const told = new URLSearchParams(location.hash.slice(1));
+  const address = new URLSearchParams(location.hash.slice(1));
   for (const name of ["lattice", "borders", "fill"]) {
     const values = Array.from(at(name).options, (option) => option.value);
-    if (values.includes(told.get(name))) board[name] = told.get(name);
+    if (values.includes(address.get(name))) board[name] = address.get(name);
   }
   for (const [name, most] of [["rows", 1024], ["columns", 1024], ["amount", 1e9], ["seed", 2 ** 32]]) {
-    const value = Number(told.get(name) ?? NaN);
+    const value = Number(address.get(name) ?? NaN);
     if (Number.isInteger(value) && value >= (name === "amount" ? 0 : 1) && value <= most) board[name] = value;
   }
-  return told.get("chips");
+  return address.get("chips");
 }
 
 /** The chips that an address has one by one. */

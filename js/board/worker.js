@@ -155,7 +155,7 @@ function chipsOf(text, vertices) {
 }
 
 /** What the page may ask for. */
-const ANSWERS = {
+const CALLS = {
   async load({ module }) {
     chipfire = await load(module);
     return { version: chipfire.version };
@@ -203,15 +203,15 @@ const ANSWERS = {
     const json = texts.find((it) => it.trimStart().startsWith("{"));
     const csv = texts.find((it) => it !== json);
     if (!json) throw new Error("a game has graph.json, and chips.csv beside it");
-    const told = JSON.parse(json);
-    const board = boardOf(told);
-    return { board, chips: csv === undefined ? new Float64Array(told.vertices) : chipsOf(csv, told.vertices) };
+    const saved = JSON.parse(json);
+    const board = boardOf(saved);
+    return { board, chips: csv === undefined ? new Float64Array(saved.vertices) : chipsOf(csv, saved.vertices) };
   },
 };
 
-async function answer(data) {
+async function handle(data) {
   try {
-    postMessage({ id: data.id, ...(await ANSWERS[data.ask](data)) });
+    postMessage({ id: data.id, ...(await CALLS[data.ask](data)) });
   } catch (error) {
     postMessage({ id: data.id, error: error.text ?? error.message });
   }
@@ -219,5 +219,5 @@ async function answer(data) {
 
 let last = Promise.resolve();
 onmessage = ({ data }) => {
-  last = last.then(() => answer(data));
+  last = last.then(() => handle(data));
 };

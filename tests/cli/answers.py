@@ -1,4 +1,4 @@
-"""The answers that lie beside the games of examples/: they are those that examples/play.py and chipfire.model find."""
+"""The results that lie beside the games of examples/: they are those that examples/play.py and chipfire.model find."""
 
 import functools
 import os
@@ -18,7 +18,7 @@ SCHEDULES = {
     "fed-twice": ("triangle/graph.json", "triangle/no-chips.csv", "--fed", "--rounds", "10"),
     "engaged-twice": ("detector/engaged-twice.json", "detector/two-chips.csv"),
 }
-SITTINGS = {
+STAGES = {
     "first": ("stages/chips.csv", "--limit", "1"),
     "second": ("--resume", "stages/first.json", "--limit", "1"),
     "third": ("--resume", "stages/second.json"),
@@ -32,8 +32,8 @@ def games():
     )
 
 
-def told():
-    """The answers, each with the words that a script is started with to find it."""
+def results():
+    """The files of results, each with the arguments of the script that finds it."""
     for game in games():
         graph, chips = f"{game}/graph.json", f"{game}/chips.csv"
         yield f"{game}/report.json", ["play.py", graph, chips, "--seed", "1"]
@@ -41,13 +41,13 @@ def told():
     for name, (graph, chips, *options) in SCHEDULES.items():
         model = ["../python/chipfire/lab/model.py", graph, chips]
         yield f"detector/{name}.txt", [*model, f"detector/{name}.csv", *options]
-    for name, options in SITTINGS.items():
+    for name, options in STAGES.items():
         yield f"stages/{name}.json", ["play.py", "triangle/graph.json", *options]
 
 
-def faults_of(answer, words):
-    """What is wrong with an answer, by what a script finds."""
-    with open(f"{EXAMPLES}/{answer}", "rb") as file:
+def faults_of(result, words):
+    """What is wrong with a result, by what a script finds."""
+    with open(f"{EXAMPLES}/{result}", "rb") as file:
         wanted = file.read()
     how = {"stdout": subprocess.PIPE, "timeout": SECONDS, "cwd": EXAMPLES}
     ran = subprocess.run([sys.executable, *words], **how)
@@ -57,5 +57,5 @@ def faults_of(answer, words):
 
 
 def tests():
-    for answer, words in told():
-        yield answer, functools.partial(faults_of, answer, words)
+    for result, words in results():
+        yield result, functools.partial(faults_of, result, words)

@@ -1,7 +1,7 @@
-"""Random schedules with the books of the detector behind each reply.
+"""Random schedules with the books of the detector after each reply.
 
 The games are small and drawn at random, and so are the events, those of a turn more often than others. What must come
-is known from chipfire.model, which shares nothing with the program: each reply, and the board behind it.
+is known from chipfire.model, which shares nothing with the program: each reply, and the board after it.
 """
 import listed
 from chains import NO_LIMIT, Chain, faults_of, status_of
@@ -29,7 +29,7 @@ class Schedule(Chain):
                 yield kind, self.draw.randrange(edges), 0
 
     def boards(self):
-        """What of the program's answer is not as the slow simulation says."""
+        """What of the program's output is not as the slow simulation says."""
         limit, ring = self.draw.choice([NO_LIMIT, self.draw.randint(0, 4)]), self.draw.choice([1, 2, 64])
         core = model().Core(self.graph, self.chips, limit, ring)
         rows, lines = ["event,at,count"], []

@@ -1,4 +1,4 @@
-"""Random plays in several stages: what `plain` or `simulate` writes, and then `resume`, and what all of them come to.
+"""Random plays in several stages: what `plain` or `simulate` writes, and then `resume`, and what all of them result in.
 
 The games are small and drawn at random. The first stage ends by a random limit, or by a random edge that is sealed;
 each further one goes on from the report that the program wrote, with a random limit, and the last one without a limit.

@@ -1,6 +1,6 @@
 """The list of the tests of the command line.
 
-The cases of tests/cli/cases/ and the answers of examples/ come first. What must come of random games is known from
+The cases of tests/cli/cases/ and the results of examples/ come first. What must come of random games is known from
 examples/play.py, from chipfire.model and from player.c, which share nothing with the program, and of random logs from
 all their consistent cuts: each module says how.
 """

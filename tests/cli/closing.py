@@ -1,7 +1,7 @@
 """It closes: schedules that ask for everything often enough close the root, whatever stands between.
 
 Each random game is fed or not, gets some random events and, where it is fed, the end of feeding. Then it is closed in
-one of three ways, which chipfire.model tells; docs/PROVED.md has what has to come of each.
+one of three ways in chipfire.model; docs/PROVED.md says what has to come of each.
 
 - By stretches with random events among them: of each edge a take, an acknowledgement, a settle and a put, of each
   vertex a firing and a halt, and of each edge of the graph a look and later a claim. They stand in random order, in the
@@ -13,7 +13,7 @@ one of three ways, which chipfire.model tells; docs/PROVED.md has what has to co
   few, and once there is none the root is closed.
 
 The steps that count are as few as the counts of examples/play.py allow. Afterwards nothing counts. If nothing was
-sealed, the report is that of examples/play.py for all chips that were given. The program has to answer the same.
+sealed, the report is that of examples/play.py for all chips that were given. The program has to print the same.
 
 On a chain with one chip at its far end, each stretch asks in the order that serves the chip worst: settles and
 acknowledgements first, then puts, claims, firings, and takes last. One takes the chip to the far end. Along each edge
@@ -41,7 +41,7 @@ LENGTH = 10
 MOST_ROUNDS = 2**40
 
 
-def is_told(kind, reply):
+def counts(kind, reply):
     """Whether a step counts, or is a claim that a seal refused."""
     if kind in ("clear", "seal", "read") or reply.split()[0] in ("not-now", "empty"):
         return False
@@ -60,18 +60,18 @@ class Asking(Schedule):
     """A random game, and on it a schedule that closes it."""
 
     def begin(self):
-        """The game, with what is told of it: how many steps count or are refused, and the rows and replies so far."""
+        """The game, how many steps count or are refused, and the rows and replies so far."""
         self.limit, self.ring = self.draw.choice([NO_LIMIT, self.draw.randint(0, 4)]), self.draw.randint(1, 3)
         self.fed = self.draw.random() < 0.5
         self.core = model().Core(self.graph, self.chips, self.limit, self.ring, self.fed)
-        self.rows, self.lines, self.told, self.refused, self.feeds = ["event,at,count"], [], 0, 0, 0
+        self.rows, self.lines, self.counted, self.refused, self.feeds = ["event,at,count"], [], 0, 0, 0
         step = self.core.step
 
         def noted(kind, at, count=0):
             reply = step(kind, at, count)
             self.rows.append(f"{kind},{at},{count}")
             self.lines.append(reply)
-            self.told += is_told(kind, reply)
+            self.counted += counts(kind, reply)
             self.refused += (kind, reply) == ("claim", "sealed")
             self.feeds += kind == "feed" and reply.startswith("sent")
             return reply
@@ -122,14 +122,14 @@ class Asking(Schedule):
         order, batches = self.draw.choice(["random", "worst", "against"]), self.draw.random() < 0.5
         core, most, stretches = self.core, self.most()[0], 0
         while not core.is_closed():
-            told, stretches = self.told, stretches + 1
+            before, stretches = self.counted, stretches + 1
             for kind, at in self.ordered(order):
                 vertex = core.vertices[at] if kind == "fire" and at != core.sink else None
                 whole = min(vertex.chips // core.degree(at), core.limit - vertex.fired) if vertex and batches else 1
                 core.step(kind, at, max(whole, 1) if kind == "fire" else 0)
                 if self.draw.random() < 0.02:
                     self.junk()
-            if not core.is_closed() and (self.told == told or stretches > most):
+            if not core.is_closed() and (self.counted == before or stretches > most):
                 return [f"open after {stretches} stretches, {order}"]
         return []
 
@@ -148,13 +148,13 @@ class Asking(Schedule):
             delivered = all(len(it.sent) == it.delivered for it in core.edges)
             if last is None and delivered and all(map(core.is_passive, order)):
                 last = rounds + self.depth() + 1
-            counted, rounds = self.told - self.refused, rounds + 1
+            counted, rounds = self.counted - self.refused, rounds + 1
             self.draw.shuffle(order)
             for vertex in order:
                 core.turn(vertex)
             for edge in root_edges:
                 core.step("settle", edge)
-            idle = self.told - self.refused == counted
+            idle = self.counted - self.refused == counted
             if not core.is_closed() and (idle or rounds >= min(most, last or most)):
                 return [f"open after {rounds} rounds"]
         return []
@@ -170,23 +170,23 @@ class Asking(Schedule):
         return [] if is_well else [f"{steps} steps of {most}, closed: {self.core.is_closed()}"]
 
     def closing(self):
-        """What is not as it must be: how it closed, what came then, or the program's answer."""
+        """What is not as it must be: how it closed, what came then, or what the program prints."""
         self.begin()
         most = self.most()[0]
         faults = self.draw.choice([self.by_stretches, self.by_stretches, self.by_rounds, self.by_steps])()
         if faults:
             return faults
         edges = len(self.graph["edges"])
-        if self.told - self.refused > most - edges or self.refused > edges:
-            return [f"{self.told} steps counted, {self.refused} of them refused; {most} can, {edges} of them refused"]
-        told, report = self.told, self.core.report()
+        if self.counted - self.refused > most - edges or self.refused > edges:
+            return [f"{self.counted} steps counted, {self.refused} of them refused; {most} can, {edges} of them refused"]
+        before, report = self.counted, self.core.report()
         for kind, at in self.ordered("random"):
             self.core.step(kind, at, int(kind == "fire"))
-        if (self.told, self.core.report()) != (told, report):
+        if (self.counted, self.core.report()) != (before, report):
             return ["something stirred after the root was closed"]
         if not any(it.sealed for it in self.core.edges):
             whole = play.report(self.graph, self.whole, self.fired)
-            faults = [] if report == whole else [f"{report}, and all chips at once come to {whole}"]
+            faults = [] if report == whole else [f"{report}, and all chips at once result in {whole}"]
         self.write("schedule.csv", "".join(f"{row}\n" for row in self.rows))
         wanted = "".join(f"{line}\n" for line in [*self.lines, "root closed", report])
         words = ["simulate", "graph.json", "chips.csv", "schedule.csv", *["--fed"] * self.fed]
@@ -195,13 +195,13 @@ class Asking(Schedule):
 
 
 def last_line_of(program, words, room):
-    """The status of a run, and the line of its answer that tells whether the root is closed."""
+    """The status of a run, and the line of its output that says whether the root is closed."""
     ran = subprocess.run([program, "simulate", *words], cwd=room, stdout=subprocess.PIPE, timeout=SECONDS)
     return ran.returncode, [it for it in ran.stdout.decode().splitlines() if it.startswith("root ")]
 
 
 def wrong_chain(program, stretches, wanted):
-    """What is wrong with a chain by so many stretches that ask in the worst order."""
+    """What is wrong with a chain by this number of stretches that ask in the worst order."""
     vertices = LENGTH + 1
     graph = {"edges": [[it, it + 1, 1] for it in range(LENGTH)], "sink": LENGTH, "version": 1, "vertices": vertices}
     stretch = [f"{kind},{at},{int(kind == 'fire')}" for kind, at in stretch_of(LENGTH, vertices)]

@@ -7,7 +7,7 @@ A file of tests/cli/cases/ has one fact a line, its kind and what belongs to it;
     arguments WORDS     the arguments, with a shell's quotes; each is a TEXT; files are named from a folder that has the
                         files of this case and `examples`
     file NAME TEXT      a file with this text, and no newline but those written; a second line adds to it
-    repeat NAME TIMES TEXT      adds to a file TEXT so many times
+    repeat NAME TIMES TEXT      adds TEXT to a file TIMES times
     fill NAME SIZE TEXT         adds to a file TEXT until it has SIZE bytes
     prefixes NAME TEXT  runs the case once for each proper beginning of TEXT, from no byte to all but the last
     folder NAME         a folder

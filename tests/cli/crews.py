@@ -65,7 +65,7 @@ class Crew:
 
     @classmethod
     def of_files(cls, program, folder, workers):
-        """The game of a folder by so many workers, with its trace."""
+        """The game of a folder by this number of workers, with its trace."""
         crew = cls(program, random.Random("crew 0"))
         crew.limit, crew.options, crew.has_trace = [], ["--workers", workers], True
         with open(f"{folder}/graph.json", encoding="utf-8") as file:

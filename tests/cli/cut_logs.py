@@ -1,8 +1,8 @@
 """Logs that are cut off: the verdicts stay.
 
-All logs of missing_rows.py that have an interleaving are cut behind each row of each process, but in front of the first
-row of process 0, which begins active. The rows that can be used at greatest progress are judged by all cuts that can be
-reached (logs.py), and so is the whole log: a claim has the same verdict in both, and an early one the same least past.
+All logs of missing_rows.py that have an interleaving are cut after each row of each process, but in front of the first
+row of process 0, which begins active. The rows of the maximal progress are judged by all cuts that can be reached
+(logs.py), and so is the whole log: a claim has the same verdict in both, and an early one the same causal past.
 Where process 1 begins active and has lost all its rows, an early claim is right: so its first row has to be there.
 """
 import itertools
@@ -17,12 +17,12 @@ def rows_of(own, other):
 
 
 def furthest(log):
-    """Returns the greatest progress: the cut that has no fewer rows of a process than any other."""
+    """Returns the maximal progress: the cut that has no fewer rows of a process than any other."""
     return tuple(map(max, zip(*log.cuts(log.empty))))
 
 
 def judgement(log, row):
-    """Returns what is left when the claim that is this row of process 0 is made, and its least past: nothing if it is
+    """Returns what is left when the claim that is this row of process 0 is made, and its causal past: nothing if it is
     right."""
     if is_right(log, row):
         return None
@@ -31,7 +31,7 @@ def judgement(log, row):
 
 
 def cuts_of(own, other):
-    """Yields the rows of both processes that are used at greatest progress, of each cut of a log."""
+    """Yields the rows of both processes up to the maximal progress, of each cut of a log."""
     for first, second in itertools.product(range(1, len(own) + 1), range(len(other) + 1)):
         most = furthest(logs.Log(rows_of(own[:first], other[:second])))
         yield own[: most[0]], other[: (*most, 0)[1]]
@@ -49,9 +49,9 @@ def wrong_cuts():
         for first, second in cuts_of(own, other):
             if CLAIM in first:
                 judged += 1
-                told = judgement(logs.Log(rows_of(first, second)), row)
-                if told != wanted:
-                    found.append(f"{own} and {other}: {wanted}, and by {first} and {second}: {told}")
+                found_here = judgement(logs.Log(rows_of(first, second)), row)
+                if found_here != wanted:
+                    found.append(f"{own} and {other}: {wanted}, and by {first} and {second}: {found_here}")
     return found or ([] if judged > 1000 else [f"{judged} claims were judged"])
 
 

@@ -240,7 +240,7 @@ class CreditAtOnce(Credit):
 
 
 class CountedOnce(Detector):
-    """Each tells the root how many messages it has sent less those it got, and the root adds what it heard last."""
+    """Each reports to the root how many messages it sent less those it got, and the root adds what it heard last."""
 
     def __init__(self, process):
         super().__init__(process)
@@ -267,26 +267,26 @@ RIGHT = [DijkstraScholten, Safra, Credit]
 WRONG = [AtOnce, WithoutDeficit, Colourless, CreditAtOnce, CountedOnce]
 
 
-def faults_of(answer, run, is_right):
-    """What is wrong with the answer to the log of a run."""
-    lines, status, fault = answer
+def faults_of(verdict, run, is_right):
+    """What is wrong with the verdict on the log of a run."""
+    lines, status, fault = verdict
     forms = {0: ("right", "end claimed"), 2: ("early", "end ")}
     claim, end = forms.get(status, ("", ""))
     if fault or len(lines) != 2 or claim not in lines[0] or not lines[1].startswith(end):
-        return [f"no verdict on one claim: {answer} of {run.rows()}"]
+        return [f"no verdict on one claim: {verdict} of {run.rows()}"]
     if status == 2 and is_right or status == 0 and run.is_early:
         return [f"{lines[0]}: {run.rows()}"]
     return []
 
 
 def judged(program, detector):
-    """Runs a detector and judges its logs. Returns what is wrong with the answers."""
+    """Runs a detector and judges its logs. Returns what is wrong with the verdicts."""
     number, early, faults, is_right = 0, 0, [], detector in RIGHT
     with tempfile.TemporaryDirectory() as room:
         while number < RUNS or number < MORE * RUNS and early == 0 and not is_right:
             run = Run(detector, f"{detector.__name__} {number}")
-            answer = logs.answer(program, room, run.rows(), False)
-            number, early, faults = number + 1, early + (answer[1] == 2), faults + faults_of(answer, run, is_right)
+            verdict = logs.verdict(program, room, run.rows(), False)
+            number, early, faults = number + 1, early + (verdict[1] == 2), faults + faults_of(verdict, run, is_right)
     if early == 0 and not is_right:
         faults.append(f"of {number} claims none is called early")
     return faults

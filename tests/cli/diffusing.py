@@ -1,14 +1,14 @@
 """All that can happen in small diffusing computations, and what each premise of crates/chip_diffusing is for.
 
 The root sends to A, and A and B to each other, at most two messages on each edge. By the rules of
-specs/Computation.antt every event is tried in every world. Then no world is closed too early (closed, but not silent)
-and none is stuck (silent and not closed, with nothing due), nor where A sends to itself. If one rule is changed, events
-lead to such a world: those that stand beside the change, and no fewer. The numbers of worlds were found by a search
-that shares nothing with this.
+specs/Computation.antt every event is tried in every world. Then no world is closed too early (closed, but not quiescent)
+and none is stuck (quiescent and not closed, with nothing due), nor where A sends to itself. If one rule is changed,
+events lead to such a world: those that stand beside the change, and no fewer. The numbers of worlds were found by a
+search that shares nothing with this.
 
-No event is wasted: whatever was done until a world, at most three events advanced for each message sent, and so many
-can. If all parts are passive and no event advances, the world is closed. In a closed world what was sent on each edge
-was got, acknowledged and settled.
+No event is wasted: up to any world at most three events advanced for each message sent, and three can. If all parts are
+passive and no event advances, the world is closed. In a closed world what was sent on each edge was got, acknowledged
+and settled.
 
 A message that is got wakes its part here: where it is passive again at once, that is a rest more.
 """
@@ -35,7 +35,7 @@ class World(typing.NamedTuple):
 
 
 def key_of(world):
-    """Returns what tells a world from others."""
+    """Returns what distinguishes a world from others."""
     return tuple(tuple(it.values()) for it in world)
 
 
@@ -105,7 +105,7 @@ class Computation:
         return "stuck" if is_silent and not is_closed and not is_due else None
 
     def search(self):
-        """Returns how many worlds were met until one is wrong, what is wrong with it, and after how many events."""
+        """Returns how many worlds were visited until one is wrong, what is wrong with it, and after how many events."""
         left, met = collections.deque([(0, self.start())]), {key_of(self.start())}
         while left:
             events, world = left.popleft()
@@ -127,8 +127,8 @@ class Computation:
                     left.append(new)
         return sorted(met.values(), key=lambda it: (sum(map(sum, it.edges.values())), sum(it.passive.values())))
 
-    def told(self, story):
-        """Returns what is wrong with the world to which these events lead; each has to be one that may be done."""
+    def wrong_after(self, story):
+        """Returns what is wrong with the world to which these events lead; each has to be enabled."""
         world = self.start()
         for event in story:
             world = next(new for it, new in self.events(world) if it == event)
@@ -155,7 +155,7 @@ STUCK = "send r, get r, send back, rest A, get back, rest root"
 
 
 def wrong_search(edges, worlds):
-    """What is wrong with a computation by the rules as they are, which has so many worlds."""
+    """What is wrong with a computation by the rules as they are, which has `worlds` worlds."""
     found = Computation(edges).search()
     return [] if found == (worlds, None, None) else [f"{found}, not {worlds} worlds"]
 
@@ -194,9 +194,9 @@ def wrong_waste(edges):
 def wrong_story(changed, edges, wrong, story):
     """What is wrong with a computation one rule of which is changed: these events lead to a wrong world, and no fewer."""
     computation, events = Computation(edges, changed), story.split(", ") if story else []
-    found, told = computation.search()[1:], computation.told(events)
-    is_well = found == (wrong, len(events)) and told == wrong
-    return [] if is_well else [f"{found}, and {told} after {story}"]
+    found, reached = computation.search()[1:], computation.wrong_after(events)
+    is_well = found == (wrong, len(events)) and reached == wrong
+    return [] if is_well else [f"{found}, and {reached} after {story}"]
 
 
 def tests(_program):

@@ -57,7 +57,7 @@ def random_game(draw):
     return Game(edges, sink, vertices, chips), drops + [(v, 1) for v in range(vertices)]
 
 
-def slow_answer(game, drops, draw):
+def slow_result(game, drops, draw):
     """The rows of some drops and the report, by examples/play.py."""
     graph, left, rows = game.of_file, list(game.chips), []
     fired = play.play(graph, left, NO_LIMIT, draw)
@@ -70,7 +70,7 @@ def slow_answer(game, drops, draw):
     return rows_of(ROWS, rows), play.report(graph, left, fired) + "\n"
 
 
-def answer(room):
+def result(room):
     """The rows and the report by player.c."""
     words = [large.player(), "graph.json", "chips.csv", str(NO_LIMIT), "drops.csv"]
     how = {"stdout": subprocess.PIPE, "encoding": "ascii", "check": True, "timeout": large.SECONDS}
@@ -90,8 +90,8 @@ def wrong_drops(program, folder, draw):
     game, drops = random_game(draw)
     room = Room(program, folder, game)
     room.write("drops.csv", rows_of(CHIPS, drops))
-    rows, report = slow_answer(game, drops, draw)
-    other = answer(room)
+    rows, report = slow_result(game, drops, draw)
+    other = result(room)
     if other != (rows, report):
         return [f"the players do not agree: {(rows, report)} and {other}"]
     faults = room.faults_of(f"{ASKED} --report report.json", rows) + room.faults_of(ASKED, rows)
@@ -141,7 +141,7 @@ def stopped(program):
             room = Room(program, folder, Game(edges, 2, 3, chips))
             room.write("chips.csv", rows_of(CHIPS, enumerate(together(chips, drops[:done]))))
             room.write("drops.csv", "vertex,chips\n")
-            _, report = answer(room)
+            _, report = result(room)
             room.write("chips.csv", rows_of(CHIPS, enumerate(chips)))
             room.write("drops.csv", rows_of(CHIPS, drops))
             yield ASKED, room.faults_of(ASKED, rows_of(ROWS, rows), 2)
@@ -187,7 +187,7 @@ def million(program):
         room = Room(program, folder, grid())
         drops = ((v, 1) for v in draw.choices(range(SIDE * SIDE), k=NOT_COUNTED + COUNTED))
         room.write("drops.csv", rows_of(CHIPS, drops))
-        rows, report = answer(room)
+        rows, report = result(room)
         arguments = f"{ASKED} --report report.json"
         yield arguments, room.faults_of(arguments, rows)
         yield "the report", [] if room.read("report.json") == report else ["another report"]
@@ -195,11 +195,11 @@ def million(program):
         for size in FILE_SIZES:
             yield f"{ASKED} into {size} bytes", cut(program, folder, rows, size)
         yield f"{ASKED} into a pipe", held_back(program, folder, rows)
-        answers = {(rows, "", 0), ("", "chipfire: fault 90 NoMemory\n", 1)}
+        outcomes = {(rows, "", 0), ("", "chipfire: fault 90 NoMemory\n", 1)}
         got = {size: room.ran(ASKED, [*LIMITED, f"AS={size << 20}"]) for size in MEMORIES}
         for size, one in got.items():
-            yield f"{ASKED} in {size} MiB", [] if one in answers else [f"{one[1:]} and {len(one[0])} bytes"]
-        yield "an answer of each kind", [] if answers == {*got.values()} else ["there is one kind"]
+            yield f"{ASKED} in {size} MiB", [] if one in outcomes else [f"{one[1:]} and {len(one[0])} bytes"]
+        yield "an outcome of each kind", [] if outcomes == {*got.values()} else ["there is one kind"]
 
 
 def held_back(program, folder, rows):

@@ -11,7 +11,7 @@ import crews
 import emulator
 import listed
 
-#: Of so many cases in turn one is run.
+#: A run that is not long takes every fifth case.
 ONE_OF = 5
 GAMES = 20
 

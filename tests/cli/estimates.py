@@ -1,8 +1,8 @@
-"""Games whose counts are searched for long: by how many chips a try is off, as `--progress` tells it.
+"""Games whose counts are searched for long: by how many chips a try is off, as `--progress` reports it.
 
-A line comes once a second at most. So each program is stopped for a second time and again, and tells something whenever
-it goes on. Each search lasts some ten times as long as a program runs between two stops. The chips are at least 1 and at
-most those of the game.
+A line comes once a second at most. So each program is stopped for a second time and again, and reports whenever it goes
+on. Each search lasts some ten times as long as a program runs between two stops. The chips are at least 1 and at most
+those of the game.
 """
 import functools
 import json
@@ -18,7 +18,7 @@ GUESSING = re.compile(rb"chipfire: progress: guessing, [0-9]+ steps, this try is
 
 
 def grid(rows, columns):
-    """The edges of a grid that loses chips at its border to the sink behind it."""
+    """The edges of a grid that dissipates chips at its border, to the sink."""
     sink, edges = rows * columns, []
     for v in range(sink):
         row, column = divmod(v, columns)
@@ -56,8 +56,8 @@ def slowly(processes):
             time.sleep(seconds)
 
 
-def told(program):
-    """What each game tells, and the statuses, by their names."""
+def progress(program):
+    """What each game reports, and its status, by the names of the games."""
     words = [program, "plain", "graph.json", "chips.csv", "--large", "--progress"]
     how = {"stdout": subprocess.DEVNULL, "stderr": subprocess.PIPE}
     with tempfile.TemporaryDirectory(prefix="chipfire-estimates-") as room:
@@ -75,8 +75,8 @@ def told(program):
 
 
 def faults_of(program):
-    """What is wrong with what the games tell, which are played side by side."""
-    said, statuses = told(program)
+    """What is wrong with the reports of the games, which are played side by side."""
+    said, statuses = progress(program)
     wrong = []
     for name, (_, chips) in GAMES.items():
         off, total = [int(it) for it in GUESSING.findall(said[name])], sum(chips.values())

@@ -47,7 +47,7 @@ class Feed(Chain):
         return rows + [("put", edge, 0) for edge in range(edges, edges + vertices) if self.draw.random() < 0.95]
 
     def replies(self):
-        """What of the program's answer is not as the slow simulation says."""
+        """What of the program's output is not as the slow simulation says."""
         limit, ring = self.draw.choice([NO_LIMIT, self.draw.randint(0, 9)]), self.draw.choice([1, 2, 64])
         core = model().Core(self.graph, self.chips, limit, ring, True)
         rows, lines = ["event,at,count"], []
@@ -67,13 +67,13 @@ class Feed(Chain):
         return faults
 
     def whole_play(self, core, limit, report):
-        """Whether one play of all chips that were given comes to the same."""
+        """Whether one play of all chips that were given has the same result."""
         chips = [sum(edge.sent) for edge in core.edges[core.graph_edges :]]
         if sum(chips) > 10_000:
             return []
         fired = play.play(self.graph, chips, limit, self.draw)
         whole = play.report(self.graph, chips, fired)
-        return [] if whole == report else [f"all chips at once come to {whole}, fed they come to {report}"]
+        return [] if whole == report else [f"all chips at once result in {whole}, fed they result in {report}"]
 
 
 def tests(program):

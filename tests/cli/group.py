@@ -89,8 +89,8 @@ def faults_of(draw, program):
 def on_the_way(program):
     """Too many chips on the way, and just not: arguments and faults.
 
-    Vertex 0 has so many edges that send 2^20 chips to the sink. Twice the greatest stable chips are 2^40 - 2 if there are
-    2^19 edges, and above 2^40 if there is one more. Fewer than 2^39 chips are recurrent then: nothing leads in.
+    Vertex 0 has edges to the sink of 2^20 chips each. Twice the greatest stable chips are 2^40 - 2 if there are 2^19
+    edges, and above 2^40 if there is one more. Fewer than 2^39 chips are recurrent then: nothing leads in.
     """
     few, many = [
         drops.Game([[0, 1, 2**20]] * count, 1, 2, [5, 0]) for count in (2**19, 2**19 + 1)

@@ -1,4 +1,4 @@
-"""Guesses of all kinds, which change no answer of `plain`.
+"""Guesses of all kinds, which change no result of `plain`.
 
 The games are small and drawn at random, as they are or with each edge both ways, and with a limit or without. What must
 come is known from examples/play.py, whatever the guess: true counts, others, and the reports of verdicts.py. True
@@ -61,9 +61,9 @@ def guesses_of(game):
     for counts in counts_near(draw, fired):
         rows = list(enumerate(counts))
         yield rows_of(COUNTS, draw.sample(rows, draw.randint(0, len(rows))) if draw.random() < 0.2 else rows)
-    told = {key: them for key, them in game.truth.items() if key not in ("closed", "version")}
+    known = {key: them for key, them in game.truth.items() if key not in ("closed", "version")}
     another = game.played([count + 1 for count in game.chips])
-    for other in verdicts.others(draw, told, {key: another[key] for key in told}):
+    for other in verdicts.others(draw, known, {key: another[key] for key in known}):
         yield verdicts.report_of(other)
 
 
@@ -91,8 +91,8 @@ def is_certain(graph):
     return all(it >= 0 for v, it in enumerate(more) if v != graph["sink"])
 
 
-def wrong_answers(program, game, is_refused):
-    """What is wrong with the answers to the guesses of one game, and to what is none."""
+def wrong_results(program, game, is_refused):
+    """What is wrong with the results by the guesses of one game, and by what is none."""
     wanted = json.dumps(game.truth, separators=(",", ":")) + "\n"
     status, limit = 0 if game.truth["closed"] else 2, [] if game.limit == NO_LIMIT else ["--limit", str(game.limit)]
     arguments = " ".join(["plain", "graph.json", "chips.csv", "--guess", "guess", *limit])
@@ -115,9 +115,9 @@ def wrong_answers(program, game, is_refused):
 
 
 def faults_of(draw, program):
-    """What is wrong with the answers to the guesses of a random game."""
+    """What is wrong with the results by the guesses of a random game."""
     game = Game(draw)
-    return list(wrong_answers(program, game, draw.randrange(REFUSED) == 0))
+    return list(wrong_results(program, game, draw.randrange(REFUSED) == 0))
 
 
 def tests(program):

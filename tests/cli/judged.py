@@ -1,7 +1,7 @@
 """Every log of the detector is judged right.
 
-The root sends to A, and A and B to each other. All legal logs of up to so many events whose root is closed
-(diffusing.py) are told in rows: what is sent and got, a tell for each message that an event acknowledges, a hear for
+The root sends to A, and A and B to each other. All legal logs up to a length whose root is closed (diffusing.py) are
+written as rows: what is sent and got, a tell for each message that an event acknowledges, a hear for
 each that it settles, and a passive. First the root begins active, and last it claims. The program judges them right, in
 the order of the log and with the rows of the processes mixed by a seed. Logs whose processes have the same rows are
 judged once: mixing the one gives the other.
@@ -51,12 +51,12 @@ def rows_of(computation, event, old, new):
 
 
 def each_of(rows):
-    """Returns the rows of each process: what tells logs apart, but for how their rows are mixed."""
+    """Returns the rows of each process: what distinguishes logs, but for how their rows are mixed."""
     return tuple(tuple(row for row in rows if row[0] == process) for process in NUMBERS.values())
 
 
 def closed_logs(edges, most):
-    """Returns the rows of each legal log with a closed root, of up to so many events."""
+    """Returns the rows of each legal log with a closed root, of up to `most` events."""
     computation, found = diffusing.Computation(edges), {}
     begin = computation.start()
     left, met = [(0, [(0, "active", 0)], begin)], set()
@@ -74,7 +74,7 @@ def closed_logs(edges, most):
 
 
 def story_rows(changed, story):
-    """Returns the rows of these events of a detector with one rule changed, and a claim behind them."""
+    """Returns the rows of these events of a detector with one rule changed, and a claim after them."""
     computation = diffusing.Computation(diffusing.BOTH_WAYS, changed)
     rows, world = [(0, "active", 0)], computation.start()
     for event in story.split(", ") if story else []:
@@ -106,7 +106,7 @@ def wrong_logs(program, edges, most):
         for rows in found:
             must = [f"over 0 {claim_of(rows)} right", "end claimed"], 0, ""
             for them in (rows, *(logs.mixed(draw, rows) for _ in range(MIXED))):
-                if (came := logs.answer(program, room, them, False)) != must:
+                if (came := logs.verdict(program, room, them, False)) != must:
                     faults.append(f"{them}: {came}")
     return faults
 
@@ -115,7 +115,7 @@ def wrong_early(program, changed, left):
     """What is wrong with the verdict on a detector with one rule changed."""
     rows = story_rows(changed, diffusing.CHANGES[changed])
     with tempfile.TemporaryDirectory(prefix="chipfire-judged-") as room:
-        lines, status, fault = logs.answer(program, room, rows, False)
+        lines, status, fault = logs.verdict(program, room, rows, False)
     must = f"over 0 {claim_of(rows)} early: {left}"
     return (
         []

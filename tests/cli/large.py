@@ -4,7 +4,7 @@ squares, and the largest that there are, of 2,097,152 vertices and 8,388,608 edg
 Each random game is played on one thread and, but for chains, on two. On one-way graphs a game of few chips is played
 too, and its trace replayed. What must come of them is known from player.c, which shares nothing with the program and is
 built by `cc`. It takes half a minute for the heap, so the digest of its report stands here; a long run of the tests has
-it found once more, and plays more games. The answers of the largest games are known by arithmetic.
+it found once more, and plays more games. The results of the largest games are known by arithmetic.
 """
 import functools
 import hashlib
@@ -211,8 +211,8 @@ def stages(room, game, kind, whole):
 
 
 def guessed(room, kind, first, whole):
-    """Counts of all kinds as a guess: arguments and faults. Where edges go both ways, what becomes of the counts of the
-    firings of a play is known: those of its end are certified, and from others it goes on."""
+    """Counts of all kinds as a guess: arguments and faults. Where edges go both ways, the counts at the end of a play are
+    certified, and from its other counts the play goes on."""
     true, some = (json.loads(text)["fired"] for text in (whole, first))
     uses = {"certified": true, "played on" if some != true else "certified": some}
     other = [count // 2 if v % 2 else count + 1 for v, count in enumerate(true)]
@@ -227,8 +227,8 @@ def guessed(room, kind, first, whole):
 
 
 def traced(room, game):
-    """A play of few chips on threads with its trace, by which each vertex fires as often as the report says: arguments and
-    faults. On a one-way graph each chip comes by a vertex at most once, so a vertex has at most two rows for each."""
+    """A play of few chips on threads: in its trace each vertex fires as often as the report says. Arguments and faults.
+    On a one-way graph a chip passes a vertex at most once, so a vertex has at most two rows for each chip."""
     chips = [(game.below(game.vertices), ROWS // 8) for _ in range(4)]
     room.write("chips.csv", rows_of(("vertex", "chips"), sorted(dict(chips).items())))
     whole = played(room)
@@ -251,8 +251,8 @@ def traced(room, game):
 
 
 def left_at_rest(game, sent, chips):
-    """What is left if vertices that do not fire take nothing: on each edge to such a vertex all messages of its tail, which
-    sends one on each of its edges for each row of firings."""
+    """What is left if vertices that do not fire take nothing: all messages on each edge to such a vertex. A tail sends one
+    on each of its edges for each row of firings."""
     counts = [0 if head in sent else sent[tail] for tail, head, _ in game.edges]
     counts += [int(v not in sent and chips.get(v, 0) > 0) for v in range(game.vertices)]
     return [f"left: edge {edge} has {count} messages" for edge, count in enumerate(counts) if count]
@@ -277,7 +277,7 @@ def play_random(program, number):
         room = Room(program, folder, game)
         whole = played(room)
         yield "plain --large graph.json chips.csv", room.faults_of("plain --large graph.json chips.csv", whole)
-        # (heaps sink along a chain by so many rounds of turns that the others tell as much in less time)
+        # (a heap sinks along a chain in many rounds of turns; the other kinds show as much in less time)
         if kind != "chain":
             yield THREADS, room.faults_of(THREADS, whole)
         turn = number // len(KINDS) % 3
@@ -307,28 +307,27 @@ def play_heap(program, is_anew):
 
 def play_heap_in_little_memory(program):
     """The heap on the grid in ever more memory, in which it is the same report or fault 90: arguments and faults."""
-    answers = {(DIGEST, "", 0): "a report", (EMPTY, "chipfire: fault 90 NoMemory\n", 1): "no memory"}
+    outcomes = {(DIGEST, "", 0): "a report", (EMPTY, "chipfire: fault 90 NoMemory\n", 1): "no memory"}
     arguments, got = "plain graph.json chips.csv --large", set()
     with tempfile.TemporaryDirectory(prefix="chipfire-large-") as folder:
         room = Room(program, folder, Heap())
         for size in MEMORIES:
             written, errors, status = room.ran(arguments, [sys.executable, LIMITED, f"AS={size << 20}"])
-            answer = hashlib.sha256(written.encode()).hexdigest(), errors, status
-            got.add(answers.get(answer))
-            yield f"{arguments} in {size} MiB", [] if answer in answers else [f"the answer is {answer}"]
-    yield "an answer of each kind", [] if got >= set(answers.values()) else [f"there were {got}"]
+            outcome = hashlib.sha256(written.encode()).hexdigest(), errors, status
+            got.add(outcomes.get(outcome))
+            yield f"{arguments} in {size} MiB", [] if outcome in outcomes else [f"the outcome is {outcome}"]
+    yield "an outcome of each kind", [] if got >= set(outcomes.values()) else [f"there were {got}"]
 
 
 def trace_in_little_memory(program):
-    """A trace of the heap that wants more memory than there is, which is 90 and leaves its file empty: arguments and
-    faults."""
+    """A trace of the heap that needs more memory than there is: fault 90, and an empty file. Arguments and faults."""
     arguments, wanted = f"{THREADS} --trace trace.csv --trace-rows 1048576", ("", "chipfire: fault 90 NoMemory\n", 1)
     with tempfile.TemporaryDirectory(prefix="chipfire-large-") as folder:
         room = Room(program, folder, Heap())
         room.write("trace.csv", "an old text")
         got = room.ran(arguments, [sys.executable, LIMITED, f"AS={TRACE_MEMORY << 20}"])
         left = room.read("trace.csv")
-    yield arguments, [] if (got, left) == (wanted, "") else [f"the answer is {got}, and the trace {left[:80]!r}"]
+    yield arguments, [] if (got, left) == (wanted, "") else [f"the outcome is {got}, and the trace {left[:80]!r}"]
 
 
 def play_widest(program):

@@ -1,4 +1,4 @@
-"""Games of the largest size, whose answers are known by arithmetic: 4,096 vertices, 65,536 edges, rings of 64 cells, 64
+"""Games of the largest size, whose results are known by arithmetic: 4,096 vertices, 65,536 edges, rings of 64 cells, 64
 workers, a chip that goes 4,095 steps, a schedule of 180,000 events, and outputs of more than a mebibyte.
 
 A command may always say that memory ran out, so that no contract refuses one which gives up at such sizes.
@@ -36,7 +36,7 @@ def report(chips, fired, over=(), prior=None):
 
 
 class Fan:
-    """Each vertex has so many edges to the sink, the last vertex, and vertex 0 has as many more."""
+    """Each vertex has the same number of edges to the sink, the last vertex; vertex 0 has as many more."""
 
     def __init__(self, vertices, edges):
         self.vertices, self.edges, self.last = vertices, edges, vertices - 1
@@ -123,15 +123,14 @@ class Room:
             return file.read()
 
     def ran(self, arguments, under=()):
-        """Runs the program, under another one where that is said; what it wrote on standard output and on standard error,
-        and its status."""
+        """Runs the program, or `under` with it. Returns its standard output, its standard error, and its status."""
         how = {"stdin": subprocess.DEVNULL, "stdout": subprocess.PIPE, "stderr": subprocess.PIPE, "timeout": SECONDS}
         done = subprocess.run([*under, self.program, *arguments.split(" ")], cwd=self.folder, **how)
         written, errors = (text.decode(errors="backslashreplace") for text in (done.stdout, done.stderr))
         return written, errors, done.returncode
 
     def faults_of(self, arguments, wanted, status=0):
-        """Runs the program, and tells what of its answer is not as it must be."""
+        """Runs the program, and returns what of its output is not as it must be."""
         written, errors, ended = self.ran(arguments)
         if (errors, ended) != ("", status):
             return [f"expected status {status}, got {ended} and {errors[:200]!r}"]

@@ -77,7 +77,7 @@ class Log:
         return found
 
     def left(self, cut):
-        """What is left behind this cut: the least message of the least channel on its way, or the least active process."""
+        """What is left after this cut: the least message of the least channel in transit, or the least active process."""
         ways = sorted(channel for (control, channel), count in self.flight(cut).items() if count and not control)
         if ways:
             return f"message {self.got(cut, ways[0])} of channel {ways[0]} is on its way"
@@ -85,7 +85,7 @@ class Log:
         return f"process {active[0]} is active" if active else None
 
     def nexts(self, cut):
-        """The cuts with one row more, which is met."""
+        """The cuts with one row more, which is enabled."""
         flight = self.flight(cut)
         for at, (p, count) in enumerate(zip(self.processes, cut)):
             if count < len(self.steps[p]):
@@ -100,7 +100,7 @@ class Log:
                 raise Fault(34, p)
 
     def reached(self, furthest):
-        """Raises the fault of a log whose greatest progress is this cut, where that is not the whole."""
+        """Raises the fault of a log whose maximal progress is this cut, where that is not the whole."""
         for p, count in zip(self.processes, furthest):
             if count < len(self.steps[p]):
                 raise Fault(70, p, count)
@@ -153,27 +153,27 @@ def judged(log, with_past, first=False, processes=0):
     assert all(all(map(int.__ge__, furthest, cut)) for cut in cuts)
     log.reached(furthest)
 
-    # (where all rows can be met, each cut that can be reached can go on to the whole)
+    # (where the whole can be reached, it can be reached from each cut that can)
     def least_of(at, row):
         moments = [cut for cut in cuts if cut[at] == row and any(q == at for q, _ in log.nexts(cut))]
         least = tuple(map(min, *moments)) if len(moments) > 1 else moments[0]
         assert least in moments
-        behind = log.cuts(least[:at] + (row + 1,) + least[at + 1:])
-        assert bool(log.left(least)) == any(log.left(cut) for cut in [*moments, *behind])
+        later = log.cuts(least[:at] + (row + 1,) + least[at + 1:])
+        assert bool(log.left(least)) == any(log.left(cut) for cut in [*moments, *later])
         return least
 
     return lines_of(log, least_of, with_past, first)
 
 
 def furthest_of(rows):
-    """A log, and the cut at its greatest progress."""
+    """A log, and the cut at its maximal progress."""
     log = Log(rows)
     return log, max(log.cuts(log.empty), key=sum)
 
 
 def waits_of(log, furthest):
-    """The words of where the waits lead from the least process with a row left at this cut. A process waits for the one that
-    sends on the stream of its next row."""
+    """The words on the waits from the least process with a row left at this cut. A process waits for the one that sends on
+    the stream of its next row."""
     made = dict(zip(log.processes, furthest))
     left = {p: log.steps[p][made[p]] for p in log.processes if made[p] < len(log.steps[p])}
     senders = {stream(*step): p for p in log.processes for step in log.steps[p] if delta(step[0]) > 0}
@@ -195,7 +195,7 @@ def waits_of(log, furthest):
 
 
 def random_log(draw, most=9, slips=0.05):
-    """A log of up to so many rows and an `active` of each of up to four processes. Slips are how many of them may be
+    """A log of up to `most` rows and an `active` of each of up to four processes. A share `slips` of the rows may be
     wrong."""
     processes = draw.randint(1, 4)
     rows = [(p, "active", 0) for p in range(processes) if draw.random() < 0.5]
@@ -231,7 +231,7 @@ def mixed(draw, rows):
     return [next(each[p]) for p in owners]
 
 
-def answer(program, room, rows, with_past, first=False, processes=0):
+def verdict(program, room, rows, with_past, first=False, processes=0):
     """What the program writes of a log: the lines, the status and the line of its fault."""
     with open(f"{room}/log.csv", "w", encoding="ascii") as file:
         file.write("process,kind,channel\n" + "".join(f"{p},{kind},{channel}\n" for p, kind, channel in rows))
@@ -252,19 +252,19 @@ def expected(rows, with_past, first=False, processes=0):
 
 
 def faults_of(draw, program):
-    """What is wrong with the answers to a random log, and to it mixed in another way."""
+    """What is wrong with the verdicts on a random log, and on the same rows mixed in another way."""
     rows = random_log(draw)
     options = draw.random() < 0.5, draw.random() < 0.3, draw.choice([0, 0, 0, 1, 2, 3, 4, 5])
     faults = []
     with tempfile.TemporaryDirectory(prefix="chipfire-log-") as room:
         for them in (rows, mixed(draw, rows)):
-            must, came = expected(them, *options), answer(program, room, them, *options)
+            must, came = expected(them, *options), verdict(program, room, them, *options)
             if must != came:
                 faults.append(f"{them} with {options}: expected {must}, came {came}")
     if " 70 " in must[2]:
         place = must[2].partition("Stuck ")[2].strip()
         waits = waits_of(*furthest_of(rows))
-        faults += terminal.told_of_waits(program, [f"{p},{kind},{channel}" for p, kind, channel in rows], place, waits)
+        faults += terminal.wrong_waits(program, [f"{p},{kind},{channel}" for p, kind, channel in rows], place, waits)
     return faults
 
 

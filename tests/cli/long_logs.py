@@ -1,5 +1,5 @@
 """Long logs, whose verdicts are known by hand: as many rows as a file has room for, and logs on which a judge is slow that
-looks at rows again and again.
+visits rows again and again.
 
 A time is the program's own on a processor. It is compared with the time for another log of as many rows, judged in the
 same run: for a judge that is linear in the rows both take about as long, whatever the machine and what else runs there.
@@ -28,7 +28,7 @@ def one_claim(count):
 
 
 def all_right(count):
-    """What is said of so many right claims of process 0, its first rows, and the status."""
+    """The verdicts on `count` right claims of process 0, its first rows, and the status."""
     return "".join(f"over 0 {row} right\n" for row in range(count)) + "end claimed\n", "", 0
 
 
@@ -39,7 +39,7 @@ def largest_log():
 
 
 def control_ring(count):
-    """The rows of each of so many processes, which pass a control message on until process 0 hears it and claims."""
+    """The rows of each of `count` processes, which pass a control message on until process 0 hears it and claims."""
     yield ["0,tell,0\n", f"0,hear,{count - 1}\n", *claims(1)]
     for process in range(1, count):
         yield [f"{process},hear,{process - 1}\n", f"{process},tell,{process}\n"]
@@ -69,7 +69,7 @@ class Judge:
         self.program, self.folder = program, folder
 
     def judged(self, rows, wanted, *words):
-        """Judges a log: what is wrong with the answer, and its seconds on a processor."""
+        """Judges a log: what is wrong with the verdicts, and the seconds on a processor."""
         with open(f"{self.folder}/log.csv", "w", encoding="ascii") as file:
             file.write(HEADER + "".join(rows))
         before = resource.getrusage(resource.RUSAGE_CHILDREN)
@@ -87,7 +87,7 @@ class Judge:
         return ["expected {}, got {}".format(*short)], seconds
 
     def compared(self, rows, wanted, others, wanted_of_others):
-        """What is wrong with the answer on a log, or with its time beside that for other rows."""
+        """What is wrong with the verdicts on a log, or with their time beside that for other rows."""
         base_faults, base = self.judged(others, wanted_of_others, "--large")
         faults, seconds = self.judged(rows, wanted, "--large")
         if seconds > TIMES * base + MORE:

@@ -49,7 +49,7 @@ def log_of(own, other):
 
 
 def is_right(log, row):
-    """Returns whether the claim that is this row of process 0 is right: all is silent at each cut from it on."""
+    """Returns whether the claim that is this row of process 0 is right: each cut from it on is quiescent."""
     return all(log.left(cut) is None for cut in log.cuts(log.empty) if cut[0] >= row)
 
 

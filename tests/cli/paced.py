@@ -1,7 +1,7 @@
-"""Each line of `--progress` and its numbers, of small games and a log whose answers are known by hand.
+"""Each line of `--progress` and its numbers, of small games and a log whose outcomes are known by hand.
 
 A line comes once a second at most. So standard error is a pipe that has room for one line, and a line is taken out only
-when the program has waited for a second to write the next one: then it tells of whatever it does after that, too.
+when the program has waited for a second to write the next one: so it reports whatever it does after that, too.
 """
 import concurrent.futures
 import fcntl
@@ -49,8 +49,8 @@ def waits(process):
         time.sleep(LOOK)
 
 
-def told(program, words, files):
-    """All lines that a command tells, its output and its status. Its graph is standard input."""
+def paced_run(program, words, files):
+    """All lines of progress of a command, its output and its status. Its graph is standard input."""
     ours, theirs = os.pipe2(os.O_DIRECT)
     fcntl.fcntl(theirs, fcntl.F_SETPIPE_SZ, PAGE)
     os.write(theirs, b"\n")
@@ -79,36 +79,35 @@ def told(program, words, files):
 
 
 class Play:
-    """What a command tells of a play: its words and files, in the order in which it reads them; what it writes, and its
+    """A command that reports progress: its words and files, in the order in which it reads them; what it writes, and its
     status; the other lines than those of its rounds and of what it reads; how often all vertices fire, and how many of
     these firings it begins with."""
 
     numbers = re.compile("([0-9]+) rounds, ([0-9]+) firings")
 
     def __init__(self, words, files, output, others=(), firings=0, given=0, status=0):
-        self.words, self.files, self.answer = words, files, (output, status)
+        self.words, self.files, self.outcome = words, files, (output, status)
         self.firings, self.given = firings, given
         self.others = [*(f"reading, {len(text)} bytes" for text in files.values()), *others]
 
     def wrong(self, program):
-        """What is wrong with what is told, and with the answer."""
-        lines, *answer = told(program, self.words, self.files)
+        """What is wrong with the lines, and with the outcome."""
+        lines, *outcome = paced_run(program, self.words, self.files)
         found = [[*map(int, it.groups())] for it in map(self.numbers.fullmatch, lines) if it]
         others = [line for line, _ in itertools.groupby(lines) if not self.numbers.fullmatch(line)]
-        wrong = [] if tuple(answer) == self.answer else [f"expected {self.answer}, got {answer}"]
+        wrong = [] if tuple(outcome) == self.outcome else [f"expected {self.outcome}, got {outcome}"]
         wrong += [] if others == self.others else [f"expected the lines {self.others}, got {others}"]
         return wrong + ([] if found and self.are_true(found) else [f"the numbers are {found}"])
 
     def are_true(self, found):
-        """Whether rounds make at least one firing each beside those that the play begins with, and come to all firings."""
+        """Whether rounds make at least one firing each beside those that the play begins with, and reach all firings."""
         is_well = all(0 <= rounds <= firings - self.given for rounds, firings in found) and found == sorted(found)
         rounds, firings = found[-1]
         return is_well and firings == self.firings and (rounds > 0) == (firings > self.given)
 
 
 class Turns(Play):
-    """What `run` tells by one worker: its turns, and for how many messages of the root, of so many, no acknowledgement has
-    come."""
+    """`run` by one worker: its turns, and how many of the root's messages are not acknowledged yet."""
 
     numbers = re.compile("([0-9]+) turns of worker 0, the root's deficit is ([0-9]+)")
 
@@ -123,7 +122,7 @@ class Turns(Play):
 
 
 class Claims(Play):
-    """What `judge` tells of a log, which is standard input: each claim, of so many."""
+    """`judge` on a log, which is standard input: the number of each claim, and of all."""
 
     numbers = re.compile("claim ([0-9]+) of ([0-9]+)")
 
@@ -159,9 +158,9 @@ def plays():
     second, files = report_of([1, 0, 3], [1, 1, 0], prior=[1, 0, 0]), {"graph": ON_PAIR["graph"], "report": first}
     yield "resume", Play("resume - report", files, second, [READ, writing(second)], 2)
     # (chips on the sink: nothing fires)
-    files, answer = {**ON_PAIR, "drops": rows("chips", (2, 100))}, "vertex,chips,size,extent,lost\n2,100,0,0,0\n"
+    files, row = {**ON_PAIR, "drops": rows("chips", (2, 100))}, "vertex,chips,size,extent,lost\n2,100,0,0,0\n"
     lines = [READ, writing(report_of([1, 0, 103], [2, 1, 0]))]
-    yield "avalanches", Play("avalanches - chips drops --report report", files, answer, lines, 3)
+    yield "avalanches", Play("avalanches - chips drops --report report", files, row, lines, 3)
     yield "run", Turns("run - chips", ON_PAIRS, END_OF_PAIRS, 2)
     yield "run, dealt out", Turns("run - chips --dealt", ON_PAIRS, END_OF_PAIRS, 2)
     steps = ["0,active", "0,over", "0,passive", "1,over", "0,tell", "1,hear", "1,over"]
@@ -195,7 +194,7 @@ def guesses():
 
 
 def faults_of(program):
-    """What is told wrongly of the plays, which are made side by side, since each waits for seconds."""
+    """What is wrong with the plays, which are made side by side, since each waits for seconds."""
     names, made = zip(*plays(), *guesses())
     with concurrent.futures.ThreadPoolExecutor(len(made)) as threads:
         wrong = threads.map(lambda play: play.wrong(program), made)

@@ -45,7 +45,7 @@ OTHERWISE = {
 
 
 def write_uphill(folder, length):
-    """Writes the game of a chain with so many vertices before its sink, its chips, and a report of no play."""
+    """Writes the game of a chain with `length` vertices before its sink, its chips, and a report of no play."""
     edges = [[v, v + 1, 1] for v in range(length)] + [[v, v - 1, 2] for v in range(1, length)]
     with open(f"{folder}/graph.json", "w", encoding="utf-8") as file:
         json.dump({"edges": edges, "sink": length, "version": 1, "vertices": length + 1}, file)
@@ -59,8 +59,7 @@ def write_uphill(folder, length):
 
 
 def write_heap(folder):
-    """Writes the game of a heap on a square lattice with loss at its rim, of which it is guessed for seconds how often
-    each vertex fires."""
+    """Writes the game of a heap on a square lattice with loss at its rim. The search of its counts takes seconds."""
     at = lambda row, column: row * SIDE + column if 0 <= row < SIDE > column >= 0 else SIDE * SIDE
     steps = [(1, 0), (-1, 0), (0, 1), (0, -1)]
     squares = [(row, column) for row in range(SIDE) for column in range(SIDE)]
@@ -73,8 +72,7 @@ def write_heap(folder):
 
 
 def guessed(program):
-    """What is wrong with the lines of a long search: the numbers of each kind of line never fall, but those of which the
-    line says that they are of one try."""
+    """What is wrong with the lines of a long search: in each kind of line only the numbers of one try may fall."""
     with tempfile.TemporaryDirectory(prefix="chipfire-progress-") as room:
         write_heap(room)
         words, lines = words_of(program, "plain", "--large", "--progress"), []
@@ -111,7 +109,7 @@ def line_of(process, until):
 
 
 def wrong_lines(command, lines, seconds):
-    """What is wrong with the lines of a command that has run for so many seconds at most."""
+    """What is wrong with the lines of a command that ran for `seconds` at most."""
     rounds = [line for line in lines if not OTHERWISE[command].fullmatch(line)]
     found = [LINES[command].fullmatch(line) for line in rounds]
     if not all(found):
@@ -122,8 +120,8 @@ def wrong_lines(command, lines, seconds):
     return [] if done == sorted(set(done)) and all(done) else [f"what is done does not grow: {lines}"]
 
 
-def told(program, *words, output=b""):
-    """What is wrong with the first two lines of a play without an end. Its output is this till then."""
+def goes_on(program, *words, output=b""):
+    """What is wrong with the first two lines of a play without an end, and with its output until then."""
     with tempfile.TemporaryDirectory(prefix="chipfire-progress-") as room, tempfile.TemporaryFile() as out:
         write_uphill(room, ENDLESS)
         begun = time.monotonic()
@@ -139,7 +137,7 @@ def told(program, *words, output=b""):
 
 
 def same(program, *words):
-    """What a long play that ends answers otherwise with the option than without it."""
+    """What a long play that ends prints otherwise with the option than without it."""
     with tempfile.TemporaryDirectory(prefix="chipfire-progress-") as room:
         write_uphill(room, LONG)
         how = {"stdout": subprocess.PIPE, "stderr": subprocess.PIPE, "cwd": room, "timeout": SECONDS}
@@ -185,23 +183,23 @@ def tests(program):
     rows = b"vertex,chips,size,extent,lost\n%d,1,0,0,0\n" % ENDLESS
     turns = ["--workers", "1", "--turns", "3000000"]
     listed = [
-        ("plain tells of a graph that it reads", read_slowly, "graph.json", "plain"),
-        ("plain tells of chips that it reads", read_slowly, "chips.csv", "plain"),
-        ("run tells of a graph that it reads", read_slowly, "graph.json", "run"),
-        ("run tells of chips that it reads", read_slowly, "chips.csv", "run"),
-        ("resume tells of a report that it reads", read_slowly, "report.json", "resume"),
-        ("plain tells how it goes on", told, "plain"),
-        ("resume tells how it goes on", told, "resume"),
-        ("run tells how it goes on", told, "run"),
-        ("run tells how it goes on, one worker", told, "run", "--workers", "1"),
-        ("run tells how it goes on, dealt out", told, "run", "--dealt"),
-        ("plain tells how a search goes on", guessed),
-        ("avalanches tells how a drop goes on, after its rows", functools.partial(told, output=rows), "avalanches"),
-        ("a long play answers the same", same, "plain"),
-        ("a long stage answers the same", same, "resume"),
-        ("a long drop answers the same", same, "avalanches"),
-        ("a play stopped by its limit answers the same", same, "plain", "--limit", "200000000"),
-        ("a fault stands behind what was told", same, "run", *turns),
+        ("plain says that it reads a graph", read_slowly, "graph.json", "plain"),
+        ("plain says that it reads chips", read_slowly, "chips.csv", "plain"),
+        ("run says that it reads a graph", read_slowly, "graph.json", "run"),
+        ("run says that it reads chips", read_slowly, "chips.csv", "run"),
+        ("resume says that it reads a report", read_slowly, "report.json", "resume"),
+        ("plain says how it goes on", goes_on, "plain"),
+        ("resume says how it goes on", goes_on, "resume"),
+        ("run says how it goes on", goes_on, "run"),
+        ("run says how it goes on, one worker", goes_on, "run", "--workers", "1"),
+        ("run says how it goes on, dealt out", goes_on, "run", "--dealt"),
+        ("plain says how a search goes on", guessed),
+        ("avalanches says how a drop goes on, after its rows", functools.partial(goes_on, output=rows), "avalanches"),
+        ("a long play prints the same", same, "plain"),
+        ("a long stage prints the same", same, "resume"),
+        ("a long drop prints the same", same, "avalanches"),
+        ("a play stopped by its limit prints the same", same, "plain", "--limit", "200000000"),
+        ("a fault comes after the lines of progress", same, "run", *turns),
     ]
     for name, test, *words in listed:
         yield name, functools.partial(test, program, *words)

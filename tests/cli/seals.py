@@ -1,7 +1,7 @@
-"""A seal at each moment of one whole run: the root closes, and played on the game comes to its end.
+"""A seal at each moment of one whole run: the root closes, and played on the game ends.
 
 The run is of the triangle with four chips on vertex 0, event for event. Each edge of the graph is sealed at each of its
-places, ten rounds of turns follow, and `resume` goes on from the report. What all comes to is known from playing the game
+places, ten rounds of turns follow, and `resume` goes on from the report. The end is known from playing the game
 by hand: vertex 0 fires twice and vertex 1 once, which leaves one chip on vertex 0 and three on the sink.
 """
 import functools

@@ -1,6 +1,6 @@
-"""What a person at a terminal is told of a fault, tried in a pseudo-terminal: below the line of the fault stand the file and
-the row, or what is wrong with the arguments; of a log in no order also where its waits lead. Where standard error is no
-terminal there is that line alone. And standard input where it is closed, and where it is the file of a trace.
+"""What the program says of a fault at a terminal, tried in a pseudo-terminal: below the line of the fault it names the file
+and the row, or what is wrong with the arguments; of a log in no order also where its waits lead. Where standard error is
+no terminal there is that line alone. And standard input where it is closed, and where it is the file of a trace.
 """
 import functools
 import os
@@ -26,8 +26,8 @@ FILES = {
     "played.json": '{"chips":[2,1,1],"closed":true,"fired":[1,0,0],"over":[],"sealed":[],"version":1}\n',
 }
 NUMBER = "fault 25 Number i: a field of row i is no number"
-# For each command the fault, and what is told below it, without the line that names `explain`.
-TOLD = {
+# For each command the fault, and the lines below it, without the one that names `explain`.
+BELOW = {
     "plain graph.json words.csv": ("25 Number 1", ["in words.csv: row 1, which is line 3 if no line is empty", NUMBER]),
     "plain words.csv chips.csv": ("20 NotJson", ["in words.csv", "fault 20 NotJson: the graph file is no JSON"]),
     "avalanches graph.json chips.csv short.csv":
@@ -117,8 +117,8 @@ WRONG = {
 
 
 def run(program, words, is_terminal, more=(), **how):
-    """The status of a run, and what it wrote on standard output and on standard error, which may be a terminal. There are the
-    files, and more."""
+    """The status of a run, its standard output, and its standard error, which may be a terminal. `more` are files beside
+    FILES."""
     with tempfile.TemporaryDirectory(prefix="chipfire-terminal-") as room:
         for name, text in [*FILES.items(), *more]:
             with open(f"{room}/{name}", "w", encoding="utf-8") as file:
@@ -127,21 +127,21 @@ def run(program, words, is_terminal, more=(), **how):
         how = {"stdin": subprocess.DEVNULL, "stdout": subprocess.PIPE, "stderr": theirs, "cwd": room, **how}
         ran = subprocess.run([program, *words.split()], timeout=SECONDS, encoding="utf-8", **how)
         os.close(theirs)
-        told = b""
+        written = b""
         try:
             while some := os.read(ours, 4096):
-                told += some
+                written += some
         except OSError:  # (so ends what a terminal gave whose other side is closed)
             pass
         os.close(ours)
         with open(f"{room}/chips.csv", encoding="utf-8") as file:
             kept = file.read() == FILES["chips.csv"]
-    return ran.returncode, ran.stdout, told.decode().replace("\r\n", "\n"), kept
+    return ran.returncode, ran.stdout, written.decode().replace("\r\n", "\n"), kept
 
 
-def told_of(program, words):
-    """What is told wrongly of a fault that is known."""
-    fault, more = TOLD[words]
+def wrong_below(program, words):
+    """What is wrong with the lines on a fault that is known."""
+    fault, more = BELOW[words]
     line = f"chipfire: fault {fault}\n"
     number = fault.split()[0]
     below = "".join(f"  {it}\n" for it in [*more, f"`chipfire explain {number}` says more."])
@@ -151,8 +151,8 @@ def told_of(program, words):
     return [] if got == wanted else [f"expected {wanted}, got {got}"]
 
 
-def told_of_waits(program, rows, place, waits, words="judge log.csv --large"):
-    """What is told wrongly of a log in no order, in a file, and as standard input."""
+def wrong_waits(program, rows, place, waits, words="judge log.csv --large"):
+    """What is wrong with the lines on a log in no order, in a file, and as standard input."""
     log = "process,kind,channel\n" + "".join(f"{row}\n" for row in rows)
     line = f"chipfire: fault 70 Stuck {place}\n"
     meaning = "fault 70 Stuck v i: the rows of a trace or a log fit together in no order"
@@ -164,27 +164,27 @@ def told_of_waits(program, rows, place, waits, words="judge log.csv --large"):
 
 
 def ring(count):
-    """The rows of so many processes, each of which hears of the one before it, and the first of the last."""
+    """The rows of `count` processes, each of which hears of the one before it, and the first of the last."""
     for process in range(count):
         yield f"{process},hear,{(process - 1) % count}"
         yield f"{process},tell,{process}"
 
 
 def chain(count):
-    """The rows of so many processes, each of which hears of the one after it; of the last one, nobody tells."""
+    """The rows of `count` processes, each of which hears of the one after it; what the last one hears has no tell."""
     for process in range(count):
         yield f"{process},hear,{process + 1}"
         yield f"{process},tell,{process}"
 
 
-def told_of_wrong(program, words):
-    """What is told wrongly of arguments that are no command."""
-    status, out, told, _ = run(program, words, True)
-    line, _, below = told.partition("\n")
+def wrong_usage(program, words):
+    """What is wrong with the lines on arguments that are no command."""
+    status, out, written, _ = run(program, words, True)
+    line, _, below = written.partition("\n")
     alone = run(program, words, False)
     missing = [it for it in [*WRONG[words], "error: "] if it not in below]
     is_well = (status, out, line) == (1, "", "chipfire: fault 91 Usage") and alone == (1, "", line + "\n", True)
-    return [] if is_well and not missing else [f"{missing} is missing, or the rest is wrong: {told!r}, {alone}"]
+    return [] if is_well and not missing else [f"{missing} is missing, or the rest is wrong: {written!r}, {alone}"]
 
 
 def without_input(program, words):
@@ -214,28 +214,28 @@ def take_log():
 def waits_tests(program):
     """Logs in no order, of which some are long."""
     for name, (rows, place, waits) in WAITS.items():
-        yield f"waits: {name}", functools.partial(told_of_waits, program, rows.split(), place, waits)
+        yield f"waits: {name}", functools.partial(wrong_waits, program, rows.split(), place, waits)
     rows, place, waits = WAITS["a cycle of two"]
     for words in ("judge - --large", "judge log.csv --first", "judge log.csv --past --processes 2"):
-        yield f"waits: chipfire {words}", functools.partial(told_of_waits, program, rows.split(), place, waits, words)
+        yield f"waits: chipfire {words}", functools.partial(wrong_waits, program, rows.split(), place, waits, words)
     for count in (8, 9, ROWS // 2):
         more = f", and {count - 8} more" if count > 8 else ""
         named = ", ".join(["0", *(str(count - it) for it in range(1, 8))])
         cycle = f"{CYCLE} {named}{more}"
-        yield f"waits: a cycle of {count}", functools.partial(told_of_waits, program, [*ring(count)], "0 0", cycle)
+        yield f"waits: a cycle of {count}", functools.partial(wrong_waits, program, [*ring(count)], "0 0", cycle)
     for count in (3, ROWS // 2):
         lead = f"from there {count - 1} waits lead to process {count - 1}, which waits at its row 0"
         end = f"for control message 0 of channel {count}, and no process sends there"
         chained = f"{lead} {end}"
-        yield f"waits: a chain of {count}", functools.partial(told_of_waits, program, [*chain(count)], "0 0", chained)
+        yield f"waits: a chain of {count}", functools.partial(wrong_waits, program, [*chain(count)], "0 0", chained)
 
 
 def tests(program):
     yield from waits_tests(program)
-    for words in TOLD:
-        yield f"chipfire {words}", functools.partial(told_of, program, words)
+    for words in BELOW:
+        yield f"chipfire {words}", functools.partial(wrong_below, program, words)
     for words in WRONG:
-        yield f"chipfire {shown(words)}", functools.partial(told_of_wrong, program, words)
+        yield f"chipfire {shown(words)}", functools.partial(wrong_usage, program, words)
     for words in ("check -", "plain graph.json -", "run graph.json none.csv --feed -"):
         yield f"standard input is closed: chipfire {words}", functools.partial(without_input, program, words)
     yield "a trace into standard input", functools.partial(traced_into_input, program)

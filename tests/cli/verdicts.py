@@ -1,8 +1,8 @@
 """Reports of random games, true ones and others, and what `verify` says of them.
 
 The games are small and drawn at random, with a limit or without. What must come is known from examples/play.py: its
-report is verified, also where some of its firings are told as those of earlier stages, and of any other report the
-least vertex is told at which it has another count, other chips, or another place in a list of halted vertices.
+report is verified, also where some of its firings stand as those of earlier stages. Of any other report `verify` names
+the least vertex that has another count, other chips, or another place in a list of halted vertices.
 """
 import json
 import subprocess
@@ -17,16 +17,16 @@ NO_LIMIT = 2**40
 SECONDS = 60
 
 
-def report_of(told):
+def report_of(report):
     """A report as a text, of version 2 where it has firings of earlier stages."""
-    said = {**told, "closed": not told["over"] + told["sealed"], "version": 2 if "prior" in told else 1}
+    said = {**report, "closed": not report["over"] + report["sealed"], "version": 2 if "prior" in report else 1}
     return json.dumps(said, separators=(",", ":"), sort_keys=True) + "\n"
 
 
-def told_of(told, v):
-    """What a report tells of a vertex."""
-    fired = told["fired"][v] + told.get("prior", [0] * len(told["fired"]))[v]
-    return fired, told["chips"][v], v in told["over"], v in told["sealed"]
+def values_at(report, v):
+    """What a report says of a vertex."""
+    fired = report["fired"][v] + report.get("prior", [0] * len(report["fired"]))[v]
+    return fired, report["chips"][v], v in report["over"], v in report["sealed"]
 
 
 def others(draw, truth, another):
@@ -67,17 +67,17 @@ def wrong_verdicts(program, room, draw):
     truth = played(chips, limit)
     another = draw.choice([played(chips, another_limit), played([it + 1 for it in chips], limit)])
     found = []
-    for told in others(draw, truth, another):
+    for report in others(draw, truth, another):
         with open(f"{room}/report.json", "w", encoding="utf-8") as file:
-            file.write(report_of(told))
-        differs = next((v for v in range(len(chips)) if told_of(told, v) != told_of(truth, v)), None)
+            file.write(report_of(report))
+        differs = next((v for v in range(len(chips)) if values_at(report, v) != values_at(truth, v)), None)
         words = [program, "verify", "graph.json", "chips.csv", "report.json"]
         words += [] if limit == NO_LIMIT else ["--limit", str(limit)]
         ran = subprocess.run(words, stdout=subprocess.PIPE, stderr=subprocess.PIPE, cwd=room, timeout=SECONDS)
         wanted = (0, b"verified\n", b"") if differs is None else (1, b"", b"chipfire: fault 53 Differs %d\n" % differs)
         came = ran.returncode, ran.stdout, ran.stderr
         if came != wanted:
-            found.append(f"{graph} with {chips}, limit {limit}: of {told} expected {wanted}, got {came}")
+            found.append(f"{graph} with {chips}, limit {limit}: of {report} expected {wanted}, got {came}")
     return found
 
 

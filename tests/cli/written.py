@@ -126,8 +126,8 @@ def cut(room):
 
 
 def stopped(room, name, left, begun):
-    """What is wrong where the program is stopped, by each signal that does, while it plays. The report was to be `name`,
-    `left` is what must be in the folder after that, and `begun` is what comes on its output before the long drop."""
+    """What is wrong where each signal stops the program while it plays. `name` is the file of the report, `left` what has
+    to be in the folder after that, and `begun` what the program prints before the long drop."""
     found = []
     for number in (signal.SIGINT, signal.SIGTERM, signal.SIGKILL):
         process = room.start([*ENDLESS, name], stderr=subprocess.DEVNULL, preexec_fn=hear_signals)
@@ -140,7 +140,7 @@ def stopped(room, name, left, begun):
 
 
 def hear_signals():
-    """Has a signal end the process, also where what starts the tests has it ignored: a shell does, of what it does beside."""
+    """Has SIGINT end the process. A shell has it ignored by what it starts in the background."""
     signal.signal(signal.SIGINT, signal.SIG_DFL)
 
 
@@ -206,7 +206,7 @@ def piped(room):
 
 
 def full(room):
-    """A device that takes nothing is told without a number, since the rows are out."""
+    """A device that takes nothing is reported without a number, since the rows are out."""
     wanted = ROWS, b"chipfire: fault 93 Write\n", 1
     return compared((room.ran([*DROPPED, "/dev/full"]), wanted), (room.more(), []))
 

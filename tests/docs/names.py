@@ -8,7 +8,7 @@ import os
 import re
 
 import definitions  # (what a statement rests on)
-import prove  # (which crate stands on which)
+import prove  # (which crate depends on which)
 from links import PATH, files, text_of
 from paths import ROOT
 
@@ -79,21 +79,21 @@ def dead(page):
 
 
 def reduced():
-    """Returns for each crate those that it stands on and that none of the others stands on."""
+    """Returns for each crate those that it depends on and none of the others depends on."""
     direct = prove.libraries()
     below = {name: set(prove.below(name, direct)) for name in direct}
     return {name: {it for it in its if not any(it in below[other] for other in its)} for name, its in direct.items()}
 
 
 def drawn():
-    """Returns what the drawing says: lines `crate: the crates that it stands on`, or `crate` alone."""
+    """Returns what the drawing says: lines `crate: the crates that it depends on`, or `crate` alone."""
     drawing = text_of("docs/ARCHITECTURE.md").partition("```crates\n")[2].partition("```")[0]
     rows = re.findall(r"^ *\d* *(\w+)(?: *─+ *(.*))?$", drawing, re.MULTILINE)
     return {name: set(re.findall(r"\w+", its)) for name, its in rows}
 
 
 def ports():
-    """Returns the libraries of the kit that crates stand on."""
+    """Returns the libraries of the kit that crates depend on."""
     named = prove.libraries()
     return {it for row in prove.rows(f"{ROOT}/crates.txt") for it in row.partition(":")[2].split() if it not in named}
 
@@ -104,7 +104,7 @@ def trusted():
 
 
 def tested_by():
-    """Returns for each crate of tests the crates that its README says it tests, among those that it stands on."""
+    """Returns for each crate of tests the crates that its README says it tests, among those that it depends on."""
     direct = prove.libraries()
     crates = [it for it in direct if it.endswith("_tests")]
     return {it: {*prove.below(it, direct)} & {*re.findall(r"`(\w+)`", text_of(f"crates/{it}/README.md"))} for it in crates}

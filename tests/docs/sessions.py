@@ -1,6 +1,6 @@
 """The pages of the repository do what they show.
 
-A block of a page that begins with ```console is a session: a line `$ ` is a command for bash, lines `> ` behind it
+A block of a page that begins with ```console is a session: a line `$ ` is a command for bash, lines `> ` after it
 go on with it, and all others are what it writes, on standard output and standard error together. A command ends with
 status 0, or the next one is `echo $?` and shows which it was. A line `..` stands for any lines. The blocks of a page are
 one session, at the top of a clone of its own in which nothing was started yet, as the page has to say before its first
@@ -144,10 +144,10 @@ def faults_of_page(page, top):
 def wrong_commands(commands, top):
     """Yields for each command of a page, played at the top of a clone, its place and text, and what of it is not as the
     page shows."""
-    answers = played(top, commands)
-    answers += [("the session had ended before", "0")] * (len(commands) - len(answers))
+    outcomes = played(top, commands)
+    outcomes += [("the session had ended before", "0")] * (len(commands) - len(outcomes))
     following = [*commands[1:], None]
-    for command, after, (text, status) in zip(commands, following, answers):
+    for command, after, (text, status) in zip(commands, following, outcomes):
         faults = []
         if not command.fits(text.splitlines()):
             faults.append("shown:\n" + "\n".join(command.wanted) + "\ncame:\n" + text)

@@ -9,7 +9,7 @@ from paths import ROOT
 
 
 def rows(page, cells):
-    """Returns the rows of the page's tables that have so many cells."""
+    """Returns the rows of the page's tables that have `cells` cells."""
     found = [[cell.strip() for cell in line.strip("|").split(" | ")] for line in page.splitlines() if line.startswith("|")]
     return [row for row in found if len(row) == cells]
 

@@ -62,7 +62,7 @@ def failing_opens(machine, worked):
 
 
 def failing_reads(machine, worked):
-    """A read that fails is told as one, whichever it is and whyever."""
+    """A read that fails is reported as one, whichever it is and whyever."""
     for number in range(1, machine.calls(worked.words)["read"] + 1):
         for name in READ_ERRORS:
 
@@ -74,7 +74,7 @@ def failing_reads(machine, worked):
 
 
 def slow_reads(machine, worked):
-    """Reads of one byte give the same; where one fails that is told, and one that gives nothing ends a file there."""
+    """Reads of one byte give the same; one that fails is reported, and one that gives nothing ends a file there."""
     slow = ("read", 1, LAST, ONE_BYTE)
     whole = lambda: worked.differences(machine.run_refusing(worked.words, slow)[0])
     yield f"{worked.name}: reads of one byte", whole
@@ -89,7 +89,7 @@ def slow_reads(machine, worked):
         def cut(number=number, at=at, length=length):
             ran, _ = machine.run_refusing(worked.words, ("read", number, number, NOTHING), slow)
             left = [text[:length] if it == at else text for it, text in enumerate(files)]
-            wanted = expected.reference().answer(worked.words[0], left, **worked.options())
+            wanted = expected.reference().outcome(worked.words[0], left, **worked.options())
             return wanted.differences(ran.out, ran.err, ran.status)
 
         yield f"{worked.name}: read {number} of one byte fails", failing
@@ -97,7 +97,7 @@ def slow_reads(machine, worked):
 
 
 def failing_writes(machine, worked):
-    """A write that fails, or takes nothing, is told with the bytes that went out before it; there is none behind it."""
+    """A write that fails, or takes nothing, is reported with the bytes that went out before it; there is none after it."""
     for name in WRITE_ERRORS:
 
         def faults(error=getattr(errno, name)):
@@ -120,7 +120,7 @@ def failing_writes(machine, worked):
 
 
 def failing_faults(machine, worked):
-    """Where the line of a fault cannot be written, the status tells; nothing goes elsewhere."""
+    """Where the line of a fault cannot be written, the status reports it; nothing goes elsewhere."""
     for name in WRITE_ERRORS:
 
         def faults(error=getattr(errno, name)):
@@ -134,7 +134,7 @@ def failing_faults(machine, worked):
 
 
 def failing_files(machine, worked):
-    """A write of the file that fails is told, and there is none behind it; a report comes after the output, and traces
+    """A write of the file that fails is reported, and there is none after it; a report comes after the output, and traces
     before it."""
     slow = ("file", 1, LAST, ONE_BYTE)
     whole = lambda: worked.differences(machine.run_refusing(worked.words, slow)[0])
@@ -151,7 +151,7 @@ def failing_files(machine, worked):
 
 
 def failing_threads(machine, worked):
-    """A thread that cannot be started is told, and those that were started have ended."""
+    """A thread that cannot be started is reported, and those that were started have ended."""
     for number in range(1, worked.threads + 1):
 
         def faults(number=number):

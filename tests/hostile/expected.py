@@ -1,4 +1,4 @@
-"""What chipfire must answer to files with whatever bytes: the answer, or the first fault.
+"""What chipfire must return for files with whatever bytes: the result, or the first fault.
 
 It shares nothing with the program. JSON is read by Python's own reader, rows by the automaton of `Rows`, and the games
 are played by chipfire.model and by `play` below, which fires a vertex as often as it can at a time. Logs are judged by
@@ -46,7 +46,7 @@ LARGE = Limits(2_097_152, 8_388_608, 268_435_456, 4_194_304, 16_777_216)
 
 
 class Fault(Exception):
-    """The first fault, as the program tells it: its number, name and place."""
+    """The first fault, as the program reports it: its number, name and place."""
 
 
 class Unjudged(Exception):
@@ -54,8 +54,8 @@ class Unjudged(Exception):
 
 
 @dataclasses.dataclass
-class Answer:
-    """What must come: `out` are its bytes, or a function that tells what is wrong with some bytes."""
+class Outcome:
+    """What must come: `out` are its bytes, or a function that returns what is wrong with some bytes."""
 
     out: object = b""
     fault: str = ""
@@ -81,20 +81,20 @@ class Model:
         self.play, self.simulate_script, self.logs = play, simulate, logs
 
     def judged(self, text, past, first, processes, limits):
-        """What `judge` must answer to a text."""
+        """What `judge` must return for a text."""
         try:
             log = self.logs.Log(read_log(text, self.logs.row_faults, limits))
             lines, status = verdicts(self.logs, log, past, first, processes)
-            return Answer("".join(f"{it}\n" for it in lines).encode(), status=status)
+            return Outcome("".join(f"{it}\n" for it in lines).encode(), status=status)
         except Fault as fault:
-            return Answer(fault=str(fault), status=1)
+            return Outcome(fault=str(fault), status=1)
         except self.logs.Fault as fault:
             number, *place = fault.args
-            return Answer(fault=f"{number} {self.logs.NAMES[number]} {' '.join(map(str, place))}", status=1)
+            return Outcome(fault=f"{number} {self.logs.NAMES[number]} {' '.join(map(str, place))}", status=1)
 
-    def answer(self, command, files, limit=MAX_CHIPS, large=False, ring=1, rounds=0, fed=False, complete=False, past=False,
+    def outcome(self, command, files, limit=MAX_CHIPS, large=False, ring=1, rounds=0, fed=False, complete=False, past=False,
                first=False, processes=0, **_):
-        """What the program must answer to a command and its files, each some bytes; threads change nothing.
+        """What the program must return for a command and its files, each some bytes; threads change nothing.
 
         A third file of `run` is the one of its feeds, and one of `plain` a guess, which changes nothing either.
         """
@@ -104,9 +104,9 @@ class Model:
         try:
             graph = read_graph(files[0], limits)
             if command == "check":
-                return Answer(f"{self.play.check(graph)}\n".encode())
+                return Outcome(f"{self.play.check(graph)}\n".encode())
             if command == "identity":
-                return Answer(chips_text(recurrent(graph, [0] * graph["vertices"])))
+                return Outcome(chips_text(recurrent(graph, [0] * graph["vertices"])))
             if command == "resume":
                 return resumed(graph, files[1], limit, limits)
             chips = read_chips(files[1], graph, limits)
@@ -121,12 +121,12 @@ class Model:
             if command == "verify":
                 return verified(graph, chips, files[2], limit, limits)
             if command in ("plain", "run"):
-                return report_answer(graph, chips, limit)
+                return report_outcome(graph, chips, limit)
             if command == "simulate":
                 return self.simulated(graph, chips, read_schedule(files[2], graph), limit, ring, rounds, fed)
             return replayed(graph, chips, read_traces(files[2], graph), limit, complete)
         except Fault as fault:
-            return Answer(fault=str(fault), status=1)
+            return Outcome(fault=str(fault), status=1)
 
     def simulated(self, graph, chips, events, limit, ring, rounds, fed):
         core = self.simulate_script.Core(graph, chips, limit, ring, fed)
@@ -134,10 +134,10 @@ class Model:
         core.drive(rounds)
         if not core.is_closed():
             lines.append("root open")
-            return Answer("".join(f"{line}\n" for line in lines).encode(), status=3)
+            return Outcome("".join(f"{line}\n" for line in lines).encode(), status=3)
         lines += ["root closed", core.report()]
         status = 0 if json.loads(lines[-1])["closed"] else 2
-        return Answer("".join(f"{line}\n" for line in lines).encode(), status=status)
+        return Outcome("".join(f"{line}\n" for line in lines).encode(), status=status)
 
 
 @functools.cache
@@ -174,7 +174,7 @@ def no_constant(text):
 
 
 def no_half_pairs(value):
-    """Tells by an error that a text, alone or in an array, has half a pair of surrogates."""
+    """Raises an error where a text, alone or in an array, has half a pair of surrogates."""
     if isinstance(value, str):
         value.encode()
     elif isinstance(value, list):
@@ -265,7 +265,7 @@ def check_graph(graph, limits):
 
 
 class Rows:
-    """Reads records of fields: commas between them, a line's end behind them, quotes, and nothing trimmed."""
+    """Reads records of fields: commas between them, a line's end after them, quotes, and nothing trimmed."""
 
     def __init__(self):
         self.records, self.fields, self.field = [], [], bytearray()
@@ -318,7 +318,7 @@ class Rows:
 
 
 def read_rows(text, header, limits=STANDARD):
-    """The rows behind the header, each with as many fields, or a fault that says where that ends."""
+    """The rows after the header, each with as many fields, or a fault that says where that ends."""
     text = whole(text, limits)
     records = Rows().read(text[3:] if text.startswith(b"\xef\xbb\xbf") else text)
     if not records or records[0] != header:
@@ -422,7 +422,7 @@ def read_log(text, row_faults, limits):
 
 
 def least_cut(log, at, row):
-    """The least cut with so many rows of a process: where more is got than sent, its sender has made one more row."""
+    """The least cut with `row` rows of process `at`: where more is got than sent, its sender has made one more row."""
     tails = {("tell" == kind, channel): it for it, p in enumerate(log.processes)
              for kind, channel in log.steps[p] if kind in ("send", "tell")}
     cut = [row if it == at else 0 for it in range(len(log.processes))]
@@ -451,8 +451,8 @@ def degrees(graph):
 
 
 def play(graph, chips, limit, before=None):
-    """Fires until no vertex may, beyond the counts before; the chips are changed, and the counts and the vertices at
-    the limit come back."""
+    """Fires until no vertex may, beyond the counts before. Changes the chips, and returns the counts and the vertices at
+    the limit."""
     degree, sink = degrees(graph), graph["sink"]
     out = [[] for _ in chips]
     for tail, head, mult in graph["edges"]:
@@ -489,7 +489,7 @@ def dropped(graph, chips, drops):
         more = [after - first for first, after in zip(before, fired)]
         row = vertex, count, sum(more), sum(it > 0 for it in more), lost + chips[graph["sink"]]
         lines += [] if over else [",".join(map(str, row))]
-    return Answer("".join(f"{line}\n" for line in lines).encode(), status=2 if over else 0)
+    return Outcome("".join(f"{line}\n" for line in lines).encode(), status=2 if over else 0)
 
 
 def settled(graph, chips):
@@ -532,8 +532,8 @@ def burnt(graph, chips):
 
 
 def recurrent(graph, chips):
-    """The same, or the fault of one of three stabilizations: of twice the greatest stable chips, of these chips, and of what
-    is left of these with what the first lost."""
+    """The same, or the fault of one of three stabilizations: of twice the greatest stable chips, of these chips, and of the
+    rest of these with what the first dissipated."""
     twice = [2 * max(count - 1, 0) for count in degrees(graph)]
     lost = [count - left for count, left in zip(twice, settled(graph, twice))]
     settled(graph, [count + more for count, more in zip(settled(graph, chips), lost)])
@@ -548,17 +548,17 @@ def represented(graph, chips):
     """The recurrent chips that are equivalent to these, and whether they are these."""
     found = recurrent(graph, chips)
     chips[graph["sink"]] = 0
-    return Answer(chips_text(found), status=0 if found == chips else 2)
+    return Outcome(chips_text(found), status=0 if found == chips else 2)
 
 
-def report_answer(graph, chips, limit, prior=None):
+def report_outcome(graph, chips, limit, prior=None):
     """The report of a play from these chips, of version 2 where there is something prior."""
     fired, over = play(graph, chips, limit)
     said = {"chips": chips, "closed": not over, "fired": fired, "over": over, "sealed": [], "version": 1}
     if prior is not None:
         said = {**said, "prior": prior, "version": 2}
     text = json.dumps(said, separators=(",", ":"), sort_keys=True)
-    return Answer(f"{text}\n".encode(), status=2 if over else 0)
+    return Outcome(f"{text}\n".encode(), status=2 if over else 0)
 
 
 NUMBER = rb"(?:0|[1-9][0-9]*)"
@@ -605,20 +605,20 @@ def resumed(graph, text, limit, limits):
     for v, count in enumerate(before):
         if count > MAX_PRIOR:
             raise Fault(f"51 Prior {v}")
-    return report_answer(graph, chips, limit, before)
+    return report_outcome(graph, chips, limit, before)
 
 
 def verified(graph, chips, text, limit, limits):
     """That a report is the one of this game, or the least vertex where it differs."""
-    told, fired, prior, halted = read_report(text, limits)
-    if len(told) != graph["vertices"]:
+    held, fired, prior, halted = read_report(text, limits)
+    if len(held) != graph["vertices"]:
         raise Fault("52 Mismatch")
     counts, over = play(graph, chips, limit)
     for v in range(len(chips)):
-        said = prior[v] + fired[v], told[v], *(v in them for them in halted)
+        said = prior[v] + fired[v], held[v], *(v in them for them in halted)
         if said != (counts[v], chips[v], v in over, False):
             raise Fault(f"53 Differs {v}")
-    return Answer(b"verified\n")
+    return Outcome(b"verified\n")
 
 
 class Replay:
@@ -695,12 +695,12 @@ def replayed(graph, chips, traces, limit, complete):
     used.use_all()
     left = used.left() if complete else b""
     status = 2 if left else 0
-    return Answer(lambda out: faults_of_firings(Replay(graph, chips, traces, limit), out, left), status=status)
+    return Outcome(lambda out: faults_of_firings(Replay(graph, chips, traces, limit), out, left), status=status)
 
 
 def faults_of_firings(replay, out, left):
-    """What is wrong with the lines of a replay: each must be the next firing of its vertex, when it may come, before
-    the lines of what is left."""
+    """What is wrong with the lines of a replay: each must be the next firing of its vertex, enabled at that place. The
+    lines of what is left come last."""
     if not out.endswith(left):
         return [f"expected {left!r} at the end of {out!r}"]
     for line in out[: len(out) - len(left)].splitlines(keepends=True):

@@ -1,13 +1,13 @@
-"""The list of the tests that use the program in hostile ways: it gives its right answer or says what went wrong, and
+"""The list of the tests that use the program in hostile ways: it gives the right result or says what went wrong, and
 nothing else.
 
-    texts     random games whose files are mutated: the answer, or the first fault, is the one of expected.py
+    texts     random games whose files are mutated: the result, or the first fault, is the one of expected.py
     logs      random logs that are spoilt: the verdicts, or the first fault, are those of expected.py
-    memory    each request for memory is refused in turn, and each with all behind it
+    memory    each request for memory is refused in turn, and each with all after it
     calls     opens, reads and writes fail, are cut short, move one byte, are interrupted, each in turn
     system    closed streams and pipes, devices, folders, limits of the system, signals, several programs at once
 
-What must come is known from outside: from expected.py, which shares nothing with the program, and from the answers that
+What must come is known from outside: from expected.py, which shares nothing with the program, and from the results that
 lie under examples/. Refused calls are those of refuse.c, which is built by `cc` and loaded before the C library. A test
 has many facts, and a fault names its own.
 """
@@ -46,7 +46,7 @@ def on_machine(program, facts, *arguments):
 
 
 def blocks(program, module, count):
-    """Yields the tests of so many runs, a block each."""
+    """Yields the tests of `count` runs, a block each."""
     for number, begin in enumerate(range(0, count, BLOCK)):
         numbers = range(begin, min(begin + BLOCK, count))
         yield str(number), functools.partial(faults_of, module.facts, program, numbers)

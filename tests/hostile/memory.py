@@ -1,5 +1,5 @@
-"""Each request for memory refused, alone and with all behind it: the same answer, or a fault and nothing written. Inside
-a search of counts it is the same answer."""
+"""Each request for memory refused, alone and with all after it: the same result, or a fault and nothing written. Inside
+a search of counts it is the same result."""
 import errno
 
 from machine import LAST
@@ -18,7 +18,7 @@ def of_run(machine, worked):
     count = machine.calls(worked.words)["alloc"]
     yield f"{worked.name}: asks for memory", lambda: [] if count else ["no request for memory was seen"]
     for number in range(1, count + 1):
-        for what, last in [("", number), (" and all behind it", LAST)]:
+        for what, last in [("", number), (" and all after it", LAST)]:
             name = f"{worked.name}: request {number} for memory{what} refused"
             yield name, lambda number=number, last=last: refused(machine, worked, number, last)
 

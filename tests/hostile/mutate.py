@@ -56,8 +56,8 @@ def drops_text(graph, draw):
 
 def guess_text(graph, chips, draw, played):
     """A guess, of a report or of rows; it may be right."""
-    told = json.loads(played(graph, chips)) if draw.random() < 0.5 else {}
-    fired = told.get("fired", [draw.choice([0, 1, 9, 1 << 63]) for _ in chips])
+    report = json.loads(played(graph, chips)) if draw.random() < 0.5 else {}
+    fired = report.get("fired", [draw.choice([0, 1, 9, 1 << 63]) for _ in chips])
     if draw.random() < 0.3:
         fired[draw.randrange(len(fired))] += 1
     if draw.random() < 0.3:
@@ -119,7 +119,7 @@ def report_text(graph, chips, draw):
 
 
 def random_files(command, draw, replay, played):
-    """The files of a command, as bytes; `run` may have a third one, of feeds, and `plain` one, a guess. `played` tells
+    """The files of a command, as bytes; `run` may have a third one, of feeds, and `plain` one, a guess. `played` returns
     the report of a game."""
     graph = random_graph(draw)
     chips = chips_of(graph, draw)
@@ -133,8 +133,8 @@ def random_files(command, draw, replay, played):
     elif command == "replay":
         texts.append(trace_text(graph, chips, draw, replay))
     elif command == "verify":
-        told = played(graph, chips) if draw.random() < 0.5 else None
-        texts.append(told or report_text(graph, chips, draw))
+        report = played(graph, chips) if draw.random() < 0.5 else None
+        texts.append(report or report_text(graph, chips, draw))
     elif command == "avalanches":
         texts.append(drops_text(graph, draw))
     elif command == "plain" and draw.random() < 0.5:

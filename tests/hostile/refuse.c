@@ -2,7 +2,7 @@
  *
  * HOSTILE_PLAN is clauses `KIND FROM TO HOW` with `;` between them: the calls of this kind with these numbers, from 1,
  * are met, and the first clause that names a call counts. KIND is `alloc`, `read`, `out`, `err` or `file` (a write to
- * standard output, to standard error, or elsewhere), `open` or `thread`. HOW is the error that is told, or 0 where a
+ * standard output, to standard error, or elsewhere), `open` or `thread`. HOW is the error that is reported, or 0 where a
  * read or write moves nothing and says so, or -1 where it moves one byte.
  *
  * HOSTILE_TALLY names a file of two numbers of 64 bits for each kind, in the order above: how many calls there were,
@@ -148,7 +148,7 @@ int posix_memalign(void **at, size_t alignment, size_t size)
     return 0;
 }
 
-/* A read or write of so many bytes under the plan. */
+/* A read or write of `size` bytes under the plan. */
 static ssize_t moved(enum kind kind, long call, int file, void *bytes, size_t size)
 {
     int how = next_call(kind);
@@ -196,7 +196,7 @@ static int opened(int folder, const char *path, int flags, int mode)
     return syscall(SYS_openat, folder, path, flags, mode);
 }
 
-/* The mode of a call that may have one, behind its flags. */
+/* The mode of a call that may have one, after its flags. */
 #define MODE(flags)                                             \
     ({                                                          \
         va_list rest;                                           \

@@ -62,7 +62,7 @@ def judged(program, text, options):
 
 
 def run_of(program, seed):
-    """What is wrong with the answer to the log of this seed."""
+    """What is wrong with the verdicts on the log of this seed."""
     draw = random.Random(seed)
     text = spoilt(logs.random_log(draw, *draw.choice([(), (LONG, 0)])), draw)
     options = {"past": draw.random() < 0.5, "large": draw.random() < 0.05, "first": draw.random() < 0.3}
@@ -71,12 +71,12 @@ def run_of(program, seed):
         options["processes"] = draw.randint(1, 5)
         words.append(f"--processes={options['processes']}")
     ran = judged(program, text, words)
-    found = expected.reference().answer("judge", [text], **options).differences(ran.out, ran.err, ran.status)
+    found = expected.reference().outcome("judge", [text], **options).differences(ran.out, ran.err, ran.status)
     return [f"chipfire judge - {options} on {text}", *found] if found else []
 
 
 def facts(program, numbers):
-    """Yields so many logs, each a name and what finds its faults."""
+    """Yields the logs with these numbers, each a name and what finds its faults."""
     for number in numbers:
         seed = f"spoilt logs {number}"
         yield seed, functools.partial(run_of, program, seed)

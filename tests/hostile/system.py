@@ -95,7 +95,7 @@ def uphill(folder, length):
 
 
 def unheard_progress(machine, command, *options):
-    """What is told of a long play cannot be written, and its answer is the same."""
+    """The progress of a long play cannot be written, and its result is the same."""
     for name, make in {**STREAMS, "closed": None}.items():
 
         def faults(make=make):
@@ -110,7 +110,7 @@ def unheard_progress(machine, command, *options):
                         os.close(file)
             return differences(ran, quiet.out, b"", quiet.status)
 
-        yield f"a long {command} that tells how it goes on: stream 2 is {name}", faults
+        yield f"a long {command} with progress: stream 2 is {name}", faults
 
 
 def size_limits(machine, worked):
@@ -134,8 +134,8 @@ def size_limits(machine, worked):
 
 
 def odd_files(machine, worked):
-    """A folder cannot be read, and a device without an end is too long; of files too many one cannot be opened, and no
-    further file is needed than the arguments name."""
+    """A folder cannot be read, and a device without an end is too long. Where too many files are open one cannot be opened,
+    and no file is needed but those of the arguments."""
     for place, path in worked.files():
         for odd, fault in ((machine.room, "29 Read"), ("/dev/zero", "30 TooLong"), ("/proc/self/mem", "29 Read")):
 
@@ -180,7 +180,7 @@ def is_unstarted(ran):
 
 
 def small_spaces(machine, worked):
-    """In little memory or on a small stack it answers, says that memory ran out, or is ended with nothing written."""
+    """In little memory or on a small stack it succeeds, says that memory ran out, or is ended with nothing written."""
     for limit, sizes, enough in (("AS", SPACES, 65536), ("STACK", STACKS, LEAST_STACK)):
         for size in sizes:
 
@@ -261,10 +261,10 @@ def read_some(pipe, count):
 
 
 def leaving_readers(machine):
-    """The reader of a long output goes away in its midst: what went out till then is right, and its length is told."""
+    """The reader of a long output goes away in its midst: what went out until then is right, and its length is reported."""
     edges = [[vertex, vertex - 1, 1] for vertex in range(1, 4096)]
     text = json.dumps({"edges": edges, "sink": 0, "version": 1, "vertices": 4096}).encode()
-    whole = expected.reference().answer("check", [text]).out
+    whole = expected.reference().outcome("check", [text]).out
     # (a pipe holds 65,536 bytes, and more than these are still to come)
     for count in (0, 1, 4096, 65_536, 70_000, len(whole) + 1):
 
@@ -280,8 +280,8 @@ def leaving_readers(machine):
                 ran = begun.end()
             if count > len(whole):
                 return differences(ran, b"", b"", 0) or ([] if read == whole else ["another output"])
-            told = re.fullmatch(rb"chipfire: fault 93 Write ([0-9]+)\n", ran.err)
-            is_well = told and count <= int(told[1]) < len(whole) and ran.status == 1 and read == whole[:count]
+            found = re.fullmatch(rb"chipfire: fault 93 Write ([0-9]+)\n", ran.err)
+            is_well = found and count <= int(found[1]) < len(whole) and ran.status == 1 and read == whole[:count]
             return [] if is_well else [f"after {count} bytes: {ran.err!r} and status {ran.status}"]
 
         yield f"a reader that leaves after {count} of {len(whole)} bytes", faults
@@ -320,7 +320,7 @@ def ended(machine, worked, seed):
 
 
 def many_words(machine):
-    """Far too many words, or a long one, are told as any other."""
+    """Far too many words, or a long one, are reported as any other."""
     many = ["plain"] * 100_000
     yield "100,000 words", lambda: fault_differences(machine.run(many), "91 Usage")
     long = ["plain", "x" * 100_000, "y"]
@@ -359,7 +359,7 @@ def wide_reports(machine, runs):
 
 
 def wide_rows(machine, runs):
-    """16 MiB of commas, less one, are refused in 160 MB, be they a header, a row, or a row behind a quote."""
+    """16 MiB of commas, less one, are refused in 160 MB, be they a header, a row, or a row after a quote."""
     replay = next(it for it in runs if it.words[:1] == ["replay"])
     graph, chips, _ = (path for _, path in replay.files())
     commands = {
@@ -376,7 +376,7 @@ def wide_rows(machine, runs):
                 ran = machine.run_under(f"AS={160 * 1000**2}", [*words, file.name])
             return fault_differences(ran, "24 Row 0" if begin else "23 Header")
 
-        yield f"{words[0]}: 16 MiB of commas behind {begin!r} in 160 MB", faults
+        yield f"{words[0]}: 16 MiB of commas after {begin!r} in 160 MB", faults
 
 
 def kinds(worked):

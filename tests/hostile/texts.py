@@ -1,4 +1,4 @@
-"""Random games with mutated files: the answer, or the first fault, must be the model's."""
+"""Random games with mutated files: the result, or the first fault, must be the model's."""
 import contextlib
 import functools
 import random
@@ -59,11 +59,11 @@ def placed(command, paths, draw):
 
 def played(graph, chips):
     """The report of a game, as a text, played to its end by the expected."""
-    return expected.report_answer(graph, list(chips), expected.MAX_CHIPS).out.decode()
+    return expected.report_outcome(graph, list(chips), expected.MAX_CHIPS).out.decode()
 
 
 def judged(draw):
-    """A command at random, its files, mutated, its options, and the answer that must come.
+    """A command at random, its files, mutated, its options, and the outcome that must come.
 
     A third file of `run` is the one of its feeds, and one of `plain` a guess.
     """
@@ -72,11 +72,11 @@ def judged(draw):
         files = mutate.mutated(mutate.random_files(command, draw, expected.Replay, played), draw)
         options = options_of(command, draw)
         with contextlib.suppress(expected.Unjudged):
-            return command, files, options, expected.reference().answer(command, files, **options)
+            return command, files, options, expected.reference().outcome(command, files, **options)
 
 
 def run_of(program, seed):
-    """What is wrong with the answer to the files of this seed."""
+    """What is wrong with the outcome of the files of this seed."""
     draw = random.Random(seed)
     command, files, options, wanted = judged(draw)
     with tempfile.TemporaryDirectory(prefix="chipfire-hostile-") as room:
@@ -92,7 +92,7 @@ def run_of(program, seed):
 
 
 def facts(program, numbers):
-    """Yields so many runs, each a name and what finds its faults."""
+    """Yields the runs with these numbers, each a name and what finds its faults."""
     for number in numbers:
         seed = f"mutated files {number}"
         yield seed, functools.partial(run_of, program, seed)

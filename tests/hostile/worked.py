@@ -1,4 +1,4 @@
-"""Runs with answers from outside: those that lie under examples/, which tests/cli/answers.py compares with the scripts there.
+"""Runs with results from outside: those that lie under examples/, which tests/cli/answers.py compares with the scripts there.
 
 A command is one more line in one of the lists that `worked_runs` joins. Words that end as files do are taken from
 examples/; the word `FILE` is a file that the run writes: its traces, or a report after its output.
@@ -20,7 +20,7 @@ TOGETHER = b'{"chips":[1,1,7],"closed":true,"fired":[5,2,0],"over":[],"sealed":[
 
 @dataclasses.dataclass
 class Worked:
-    """A run with its answer; `also` are the faults that may come in its place where the system refuses something."""
+    """A run with its result; `also` are the faults that may come in its place where the system refuses something."""
 
     name: str
     words: list
@@ -67,7 +67,7 @@ class Worked:
         return line_of(self.fault) if self.fault else b""
 
     def differences(self, ran):
-        """What of a finished run is not its answer."""
+        """What of a finished run is not its result."""
         found = differences(ran, self.out, self.line(), self.status)
         return found or self.file_faults(ran, is_whole=not self.fault)
 
@@ -131,11 +131,11 @@ def fault_differences(ran, fault):
     return differences(ran, b"", line_of(fault), 1)
 
 
-def started(examples, name, words, answer=None, **more):
+def started(examples, name, words, shown=None, **more):
     """A run with its files in a folder, whose output is that of a file there if one is named."""
     words = [f"{examples}/{word}" if word.endswith(FILE_ENDS) else word for word in words.split()]
-    if answer:
-        with open(f"{examples}/{answer}", "rb") as file:
+    if shown:
+        with open(f"{examples}/{shown}", "rb") as file:
             more["out"] = file.read()
     return Worked(name, words, **more)
 
@@ -144,7 +144,7 @@ def plays(run, triangle):
     """The runs that play a game, drop on it, or go to recurrent configurations."""
     return [
         run("small triangle", f"plain {triangle}", "triangle/report.json"),
-        run("told of", f"plain {triangle} --progress", "triangle/report.json"),
+        run("with progress", f"plain {triangle} --progress", "triangle/report.json"),
         run(
             "begun near the end",
             "plain path/graph.json path/chips.csv --limit 1099511627776",

@@ -55,7 +55,7 @@ static uint64_t verify(struct call *c)
                            chips, N, c->fired, c->fired_len, c->chips, c->chips_len, &c->place);
 }
 
-/* Tells the line where something is not so. */
+/* Writes the line of a check that fails. */
 static void expect(int is_so, int line)
 {
     if (!is_so) {
@@ -473,29 +473,30 @@ static void try_claims(void)
 static void try_detector(void)
 {
     struct chipfire_tally ins[] = {{1, 0, 0}, {3, 0, 0}}, outs[] = {{0, 0, 0}}, twice[] = {{2, 0, 0}, {2, 0, 0}};
-    uint64_t parent = CHIPFIRE_NEUTRAL, told = GUARD;
+    uint64_t parent = CHIPFIRE_NEUTRAL, result = GUARD;
     EXPECT(chipfire_books_check(ins, 2, outs, 1, parent) == 0 && chipfire_books_check(twice, 2, outs, 1, parent) == 46);
     EXPECT(chipfire_got(ins, 2, &parent, 3) == 0 && parent == 3 && ins[1].messages == 1);
     EXPECT(chipfire_got(ins, 2, &parent, 2) == 46 && parent == 3);
     EXPECT(chipfire_sent(outs, 1, 0) == 0 && outs[0].messages == 1 && chipfire_sent(outs, 1, 1) == 46);
     EXPECT(chipfire_got(ins, 2, &parent, 1) == 0 && parent == 3);
-    EXPECT(chipfire_may_ack(ins, 2, outs, 1, parent, 2, 1, &told) == 46 && told == GUARD);
-    EXPECT(chipfire_may_ack(ins, 2, outs, 1, parent, 1, 0, &told) == 0 && told == 1);
+    EXPECT(chipfire_may_ack(ins, 2, outs, 1, parent, 2, 1, &result) == 46 && result == GUARD);
+    EXPECT(chipfire_may_ack(ins, 2, outs, 1, parent, 1, 0, &result) == 0 && result == 1);
     EXPECT(chipfire_acked(ins, 2, outs, 1, &parent, 1, 0, 2) == 46 && ins[0].answered == 0);
     EXPECT(chipfire_acked(ins, 2, outs, 1, &parent, 1, 0, 1) == 0 && ins[0].answered == 1 && parent == 3);
     EXPECT(chipfire_acked(ins, 2, outs, 1, &parent, 3, 1, 1) == 47 && ins[1].answered == 0 && parent == 3);
-    EXPECT(chipfire_deficit(outs, 1, &told) == 0 && told == 1);
-    EXPECT(chipfire_is_over(outs, 1, 1, &told) == 0 && told == 0);
-    told = GUARD;
-    EXPECT(chipfire_settled(outs, 1, 0, 2, &told) == 46 && told == GUARD && outs[0].answered == 0);
-    EXPECT(chipfire_settled(outs, 1, 0, 1, &told) == 0 && told == 1 && outs[0].answered == 1);
-    EXPECT(chipfire_settled(outs, 1, 0, 0, &told) == 0 && told == 0 && outs[0].answered == 1);
+    EXPECT(chipfire_deficit(outs, 1, &result) == 0 && result == 1);
+    EXPECT(chipfire_is_over(outs, 1, 1, &result) == 0 && result == 0);
+    result = GUARD;
+    EXPECT(chipfire_settled(outs, 1, 0, 2, &result) == 46 && result == GUARD && outs[0].answered == 0);
+    EXPECT(chipfire_settled(outs, 1, 0, 1, &result) == 0 && result == 1 && outs[0].answered == 1);
+    EXPECT(chipfire_settled(outs, 1, 0, 0, &result) == 0 && result == 0 && outs[0].answered == 1);
     EXPECT(chipfire_acked(ins, 2, outs, 1, &parent, 3, 0, 1) == 47);
     EXPECT(chipfire_acked(ins, 2, outs, 1, &parent, 3, 7, 1) == 0 && parent == CHIPFIRE_NEUTRAL);
-    EXPECT(chipfire_is_over(outs, 1, 0, &told) == 0 && told == 0 && chipfire_is_over(outs, 1, 9, &told) == 0 && told == 1);
+    EXPECT(chipfire_is_over(outs, 1, 0, &result) == 0 && result == 0);
+    EXPECT(chipfire_is_over(outs, 1, 9, &result) == 0 && result == 1);
     EXPECT(chipfire_books_check(ins, 2, outs, 1, parent) == 0);
-    outs[0].answered = told = GUARD;
-    EXPECT(chipfire_deficit(outs, 1, &told) == 46 && chipfire_is_over(outs, 1, 1, &told) == 46 && told == GUARD);
+    outs[0].answered = result = GUARD;
+    EXPECT(chipfire_deficit(outs, 1, &result) == 46 && chipfire_is_over(outs, 1, 1, &result) == 46 && result == GUARD);
     EXPECT(chipfire_sent(outs, 1, 0) == 46 && outs[0].messages == 1);
 }
 
@@ -504,7 +505,7 @@ static void try_sums(void)
 {
     struct chipfire_tally ins[] = {{1, 0, 0}, {3, 0, 0}}, outs[] = {{0, 0, 0}};
     struct chipfire_books books = {ins, 2, outs, 1, CHIPFIRE_NEUTRAL, GUARD, GUARD};
-    uint64_t told = GUARD, word = GUARD;
+    uint64_t result = GUARD, word = GUARD;
     EXPECT(chipfire_books_verify(&books) == 46 && chipfire_books_open(&books) == 0 && chipfire_books_verify(&books) == 0);
     EXPECT(books.ins == ins && books.ins_len == 2 && books.outs == outs && books.outs_len == 1);
     EXPECT(books.parent == CHIPFIRE_NEUTRAL && books.owed == 0 && books.deficit == 0);
@@ -513,21 +514,23 @@ static void try_sums(void)
     EXPECT(chipfire_books_sent(&books, 0) == 0 && books.deficit == 1 && outs[0].messages == 1);
     EXPECT(chipfire_books_sent(&books, 1) == 46 && books.deficit == 1);
     EXPECT(chipfire_books_got(&books, 1) == 0 && books.parent == 3 && books.owed == 2);
-    EXPECT(chipfire_books_acknowledge(&books, 2, 1, &told, &word) == 46 && told == GUARD && word == GUARD);
-    EXPECT(chipfire_books_acknowledge(&books, 3, 1, &told, &word) == 0 && told == 0 && word == 0);
-    EXPECT(chipfire_books_acknowledge(&books, 1, 0, &told, &word) == 0 && told == 1 && word == 1);
+    EXPECT(chipfire_books_acknowledge(&books, 2, 1, &result, &word) == 46 && result == GUARD && word == GUARD);
+    EXPECT(chipfire_books_acknowledge(&books, 3, 1, &result, &word) == 0 && result == 0 && word == 0);
+    EXPECT(chipfire_books_acknowledge(&books, 1, 0, &result, &word) == 0 && result == 1 && word == 1);
     EXPECT(ins[0].answered == 1 && books.owed == 1 && books.parent == 3);
-    EXPECT(chipfire_books_acknowledge(&books, 3, 1, &told, &word) == 0 && told == 0 && books.parent == 3);
-    EXPECT(chipfire_books_is_over(&books, 1, &told) == 0 && told == 0);
-    told = GUARD;
-    EXPECT(chipfire_books_settled(&books, 0, 2, &told) == 46 && told == GUARD && outs[0].answered == 0 && books.deficit == 1);
-    EXPECT(chipfire_books_settled(&books, 0, 1, &told) == 0 && told == 1 && outs[0].answered == 1 && books.deficit == 0);
-    EXPECT(chipfire_books_settled(&books, 0, 0, &told) == 0 && told == 0 && books.deficit == 0);
-    EXPECT(chipfire_books_acknowledge(&books, 3, 0, &told, &word) == 0 && told == 0 && word == 0 && books.owed == 1);
-    EXPECT(chipfire_books_acknowledge(&books, 3, 7, &told, &word) == 0 && told == 1 && word == 1);
+    EXPECT(chipfire_books_acknowledge(&books, 3, 1, &result, &word) == 0 && result == 0 && books.parent == 3);
+    EXPECT(chipfire_books_is_over(&books, 1, &result) == 0 && result == 0);
+    result = GUARD;
+    EXPECT(chipfire_books_settled(&books, 0, 2, &result) == 46 && result == GUARD);
+    EXPECT(outs[0].answered == 0 && books.deficit == 1);
+    EXPECT(chipfire_books_settled(&books, 0, 1, &result) == 0 && result == 1);
+    EXPECT(outs[0].answered == 1 && books.deficit == 0);
+    EXPECT(chipfire_books_settled(&books, 0, 0, &result) == 0 && result == 0 && books.deficit == 0);
+    EXPECT(chipfire_books_acknowledge(&books, 3, 0, &result, &word) == 0 && result == 0 && word == 0 && books.owed == 1);
+    EXPECT(chipfire_books_acknowledge(&books, 3, 7, &result, &word) == 0 && result == 1 && word == 1);
     EXPECT(books.parent == CHIPFIRE_NEUTRAL && books.owed == 0 && ins[1].answered == 1);
-    EXPECT(chipfire_books_is_over(&books, 0, &told) == 0 && told == 0);
-    EXPECT(chipfire_books_is_over(&books, 9, &told) == 0 && told == 1);
+    EXPECT(chipfire_books_is_over(&books, 0, &result) == 0 && result == 0);
+    EXPECT(chipfire_books_is_over(&books, 9, &result) == 0 && result == 1);
     EXPECT(chipfire_books_verify(&books) == 0 && books.ins == ins && books.outs == outs && books.outs_len == 1);
     books.deficit = UINT64_MAX;
     EXPECT(chipfire_books_verify(&books) == 46 && chipfire_books_sent(&books, 0) == 46 && outs[0].messages == 1);
@@ -540,7 +543,7 @@ static void try_sums(void)
 static void try_nulls(void)
 {
     struct call c = begin();
-    uint64_t parent = CHIPFIRE_NEUTRAL, told = GUARD, place = GUARD;
+    uint64_t parent = CHIPFIRE_NEUTRAL, result = GUARD, place = GUARD;
     EXPECT(chipfire_stabilize_all(1, 0, NULL, 0, NULL, 0, NULL, 0, 9, NULL, 0, NULL, 0, NULL, 0, NULL, 0, &place) == 0);
     EXPECT(place == 0);
     EXPECT(chipfire_stabilize_all(c.vertices, c.sink, c.tails, EDGES, c.heads, EDGES, c.mults, EDGES, c.limit, NULL, 0,
@@ -567,31 +570,32 @@ static void try_nulls(void)
     EXPECT(chipfire_recurrent(1, 0, NULL, 0, NULL, 0, NULL, 0, 0, NULL, 0, &place) == 0 && place == 0);
     EXPECT(chipfire_are_recurrent(1, 0, NULL, 0, NULL, 0, NULL, 0, NULL, 0, NULL, 0, &place) == 0);
     EXPECT(chipfire_sent(NULL, 0, 0) == 46 && chipfire_got(NULL, 0, &parent, 0) == 46);
-    EXPECT(chipfire_may_ack(NULL, 0, NULL, 0, 0, 0, 1, &told) == 46);
+    EXPECT(chipfire_may_ack(NULL, 0, NULL, 0, 0, 0, 1, &result) == 46);
     EXPECT(chipfire_acked(NULL, 0, NULL, 0, &parent, 0, 1, 0) == 46);
-    EXPECT(chipfire_settled(NULL, 0, 0, 0, &told) == 46 && parent == CHIPFIRE_NEUTRAL && told == GUARD);
-    EXPECT(chipfire_deficit(NULL, 0, &told) == 0 && told == 0);
-    EXPECT(chipfire_is_over(NULL, 0, 1, &told) == 0 && told == 1);
+    EXPECT(chipfire_settled(NULL, 0, 0, 0, &result) == 46 && parent == CHIPFIRE_NEUTRAL && result == GUARD);
+    EXPECT(chipfire_deficit(NULL, 0, &result) == 0 && result == 0);
+    EXPECT(chipfire_is_over(NULL, 0, 1, &result) == 0 && result == 1);
     EXPECT(chipfire_books_check(NULL, 0, NULL, 0, CHIPFIRE_NEUTRAL) == 0 && chipfire_books_check(NULL, 0, NULL, 0, 0) == 46);
     struct chipfire_books none = {NULL, 0, NULL, 0, CHIPFIRE_NEUTRAL, GUARD, GUARD};
     EXPECT(chipfire_books_open(&none) == 0 && none.owed == 0 && none.deficit == 0 && chipfire_books_verify(&none) == 0);
-    told = GUARD;
+    result = GUARD;
     EXPECT(chipfire_books_sent(&none, 0) == 46 && chipfire_books_got(&none, 0) == 46);
-    EXPECT(chipfire_books_acknowledge(&none, 0, 1, &told, &place) == 46 && chipfire_books_settled(&none, 0, 0, &told) == 46);
-    EXPECT(told == GUARD && chipfire_books_is_over(&none, 1, &told) == 0 && told == 1 && none.ins == NULL);
+    EXPECT(chipfire_books_acknowledge(&none, 0, 1, &result, &place) == 46);
+    EXPECT(chipfire_books_settled(&none, 0, 0, &result) == 46);
+    EXPECT(result == GUARD && chipfire_books_is_over(&none, 1, &result) == 0 && result == 1 && none.ins == NULL);
 }
 
 /* A part without edges out acknowledges the message that engages it, and then the root, which has none into it, is over. */
 static void try_one_side(void)
 {
     struct chipfire_tally ins[] = {{4, 0, 0}}, outs[] = {{4, 0, 0}};
-    uint64_t parent = CHIPFIRE_NEUTRAL, told = GUARD;
+    uint64_t parent = CHIPFIRE_NEUTRAL, result = GUARD;
     EXPECT(chipfire_sent(outs, 1, 4) == 0 && chipfire_got(ins, 1, &parent, 4) == 0 && parent == 4);
     EXPECT(chipfire_books_check(ins, 1, NULL, 0, 4) == 0);
     EXPECT(chipfire_books_check(NULL, 0, outs, 1, CHIPFIRE_NEUTRAL) == 0);
-    EXPECT(chipfire_may_ack(ins, 1, NULL, 0, parent, 4, 1, &told) == 0 && told == 1);
+    EXPECT(chipfire_may_ack(ins, 1, NULL, 0, parent, 4, 1, &result) == 0 && result == 1);
     EXPECT(chipfire_acked(ins, 1, NULL, 0, &parent, 4, 1, 1) == 0 && parent == CHIPFIRE_NEUTRAL);
-    EXPECT(chipfire_settled(outs, 1, 4, 1, &told) == 0 && told == 1);
+    EXPECT(chipfire_settled(outs, 1, 4, 1, &result) == 0 && result == 1);
 }
 
 int main(void)

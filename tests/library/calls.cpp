@@ -12,7 +12,7 @@ using Row = std::vector<std::uint64_t>;
 
 static int wrong = 0;
 
-/// Tells the line where something is not so.
+/// Writes the line of a check that fails.
 static void expect(bool is_so, int line)
 {
     if (is_so) return;
@@ -164,8 +164,8 @@ static void acknowledge_all()
     EXPECT(before.size() == 2 && before[0].edge == 1 && before[0].count == 1 && before[1].edge == 0 && before[1].count == 1);
     EXPECT(one.parent() == 0u);
     one.done();
-    const auto behind = one.acknowledge();
-    EXPECT(behind.size() == 1 && behind[0].edge == 0 && behind[0].count == 2 && !one.parent());
+    const auto after = one.acknowledge();
+    EXPECT(after.size() == 1 && after[0].edge == 0 && after[0].count == 2 && !one.parent());
     log.str("");
     for (const std::uint64_t edge : {1u, 0u, 1u}) one.got(edge);
     one.add_work(2);
@@ -215,7 +215,7 @@ static void share_books()
     send();
     other.join();
     root.done();
-    std::uint64_t told[2] = {0, 0};
+    std::uint64_t acked[2] = {0, 0};
     auto get = [&](std::uint64_t &last) {
         for (std::uint64_t it = 0; it < many; it++) {
             one.got(0);
@@ -223,10 +223,10 @@ static void share_books()
             for (const auto &back : one.acknowledge()) last = std::max(last, back.count);
         }
     };
-    std::thread more(get, std::ref(told[0]));
-    get(told[1]);
+    std::thread more(get, std::ref(acked[0]));
+    get(acked[1]);
     more.join();
-    EXPECT(std::max(told[0], told[1]) == 2 * many && root.settled(0, 2 * many) == 2 * many && root.is_over());
+    EXPECT(std::max(acked[0], acked[1]) == 2 * many && root.settled(0, 2 * many) == 2 * many && root.is_over());
 }
 
 int main()

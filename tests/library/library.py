@@ -56,7 +56,7 @@ class Slice:
 
     def now(self):
         numbers = self.memory.tolist()
-        assert numbers.pop() == self.GUARD, "written behind its end"
+        assert numbers.pop() == self.GUARD, "written after its end"
         return numbers
 
 

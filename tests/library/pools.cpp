@@ -34,8 +34,8 @@ static std::string amid;
 /// Where the logs go.
 static std::string where;
 
-/// Says how it stands once the root was asked.
-static std::string told(bool is_over)
+/// How it stands once the root was asked.
+static std::string state_of(bool is_over)
 {
     if (!is_over) return "";
     return open_tasks > 0 ? "early" : "over";
@@ -50,7 +50,7 @@ void begin(Pool &pool, std::size_t me)
         pool.push(me, [](std::size_t) { open_tasks--; });
     }
     pool.turn(1);
-    amid = told(pool.is_over());
+    amid = state_of(pool.is_over());
     open_tasks--;
 }
 
@@ -64,7 +64,7 @@ std::string play_on(Pool &pool)
     for (int round = 0; round < ROUNDS; round++) {
         for (std::size_t me = 0; me < WORKERS; me++) pool.turn(me);
         if (!amid.empty()) return amid;
-        const std::string now = told(pool.is_over());
+        const std::string now = state_of(pool.is_over());
         if (!now.empty()) return now;
     }
     return "never over";

@@ -3,9 +3,9 @@
  *
  *     soak RUNS EARLY FOLDER
  *
- * There are so many runs, or fewer if so many ended early. It writes how many there were; how many ended early, while
+ * There are RUNS runs, or fewer if EARLY of them ended early. It writes the number of runs; how many ended early, while
  * there were tasks; how many were missed, which had not ended 10 seconds after the last task; and how many of the others
- * found another number of ways than there are. The first runs leave logs for `chipfire judge` in the folder: a part is a
+ * found a wrong number of ways. The first runs leave logs for `chipfire judge` in the folder: a part is a
  * process, and an edge a channel. The test edits calls of `opened`, `received` and `finished` into the example, and uses
  * of `late` into one that is wrong. */
 #define _POSIX_C_SOURCE 200809L
@@ -25,7 +25,7 @@ static void received(struct part *me, uint64_t edge);
 static void finished(struct part *me);
 static _Thread_local int64_t late = NO_EDGE;
 
-/* Draws one of so many numbers: others in each thread. */
+/* Draws a number below `many`: others in each thread. */
 static unsigned drawn(unsigned many)
 {
     static _Atomic uint64_t threads = 0;
@@ -35,7 +35,7 @@ static unsigned drawn(unsigned many)
     return (unsigned)(draw >> 33) % many;
 }
 
-/* Lets other threads go first, for less than so many microseconds. (Where others work beside, a thread that sleeps comes
+/* Lets other threads go first, for less than `most` microseconds. (Where others work beside, a thread that sleeps comes
  * back sooner than one that yields.) */
 static void linger(unsigned most)
 {
@@ -54,13 +54,13 @@ static long tasks, early, missed;
 static time_t last_task;
 static FILE *rows;
 
-/* Writes so many rows. */
+/* Writes the row `count` times. */
 static void write_rows(uint64_t count, uint64_t part, const char *kind, uint64_t edge)
 {
     while (rows != NULL && count-- > 0) fprintf(rows, "%" PRIu64 ",%s,%" PRIu64 "\n", part, kind, edge);
 }
 
-/* Keeps the books, between pauses: rows of what others then see come before, and rows of what was seen behind. */
+/* Keeps the books, between pauses: rows of what others then see come before, and rows of what was seen after. */
 static uint64_t sent(struct chipfire_books *books, uint64_t edge);
 static uint64_t acknowledged(struct chipfire_books *books, uint64_t edge, uint64_t passive, uint64_t *count, uint64_t *word);
 static uint64_t settled(struct chipfire_books *books, uint64_t edge, uint64_t word, uint64_t *more);
@@ -160,7 +160,7 @@ static uint64_t settled(struct chipfire_books *books, uint64_t edge, uint64_t wo
     return refusal;
 }
 
-/* Asks the root, and judges its answer. A run that is missed ends here. */
+/* Asks the root, and judges what it returns. A run that is missed ends here. */
 static uint64_t judged(const struct chipfire_books *books, uint64_t ended, uint64_t *over)
 {
     pthread_mutex_lock(&truth);
@@ -175,7 +175,7 @@ static uint64_t judged(const struct chipfire_books *books, uint64_t ended, uint6
     return refusal;
 }
 
-/* Begins a log in a folder, of the run with this number: it takes the place of the one that was so many runs before. */
+/* Begins the log of a run in a folder, in the place of the one LOGS runs before. */
 static bool begin_log(const char *folder, long run)
 {
     char path[4096];

@@ -2,7 +2,7 @@
 played.
 
 The games are those on graphs of two vertices, of three, with each edge as often as `MULTS` says, and up to three chips on
-a vertex. The definition is looked at itself: from each position every legal vertex is fired that the limit still allows,
+a vertex. The definition itself is tried: from each position every legal vertex is fired that the limit still allows,
 and all ways end with the same chips and counts."""
 import itertools
 import json
@@ -134,8 +134,9 @@ class Agreement(Room):
         for at, many in drops:
             fallen = [it + many * (v == at) for v, it in enumerate(chips)]
             chips, after, _ = rules.end(fallen, fired, LARGEST)
-            told = [new - old for new, old in zip(after, fired)]
-            rows.append((at, many, sum(told), sum(map(bool, told)), chips[rules.graph.sink] - fallen[rules.graph.sink]))
+            firings = [new - old for new, old in zip(after, fired)]
+            lost = chips[rules.graph.sink] - fallen[rules.graph.sink]
+            rows.append((at, many, sum(firings), sum(map(bool, firings)), lost))
             fired = after
         return rows, chips, fired
 
@@ -151,15 +152,15 @@ class Agreement(Room):
             report = json.load(file)
         self.assertEqual((report["chips"], report["fired"]), (chips, fired))
         columns = [row[2:] for row in rows]
-        status, place, told = avalanches(graph, [0] * graph.vertices, drops)
+        status, place, written = avalanches(graph, [0] * graph.vertices, drops)
         if is_stopped:
             self.assertEqual((status, place), (STOPPED, len(rows)))
         else:
-            self.assertEqual((status, told), (0, (chips, columns)))
+            self.assertEqual((status, written), (0, (chips, columns)))
         pile = Pile(graph)
         self.assertEqual(pile.new([0] * graph.vertices)[0], 0)
-        status, place, told = pile.drops(drops)
-        self.assertEqual((status, told[: len(rows)]), (STOPPED * is_stopped, columns))
+        status, place, written = pile.drops(drops)
+        self.assertEqual((status, written[: len(rows)]), (STOPPED * is_stopped, columns))
         self.assertEqual(pile.now(), [chips, fired])
         if is_stopped:
             self.assertEqual(place, len(rows))
@@ -176,10 +177,10 @@ class Agreement(Room):
         and N - 1 at 1, where one chip stays: so no vertex fires more often than 2N - 1 times. One chip more sets off two
         firings of 0 and one of 1, of which the limit allows one and one."""
         graph, many = Graph(3, 2, [(0, 1, 1), (1, 0, 1), (1, 2, 1)]), 2**39
-        told = (0, many, 3 * many - 2, 2, many - 1)
+        row = (0, many, 3 * many - 2, 2, many - 1)
         fired = [2 * many - 1, many - 1, 0]
-        self.assert_rows(graph, [(0, many)], [told], [0, 1, many - 1], fired)
-        self.assert_rows(graph, [(0, many), (0, 1), (1, 1)], [told], [1, 0, many], [2 * many, many, 0])
+        self.assert_rows(graph, [(0, many)], [row], [0, 1, many - 1], fired)
+        self.assert_rows(graph, [(0, many), (0, 1), (1, 1)], [row], [1, 0, many], [2 * many, many, 0])
 
 
 if __name__ == "__main__":

@@ -30,7 +30,7 @@ FAINT = """(() => {
         return share <= 0.04045 ? share / 12.92 : ((share + 0.055) / 1.055) ** 2.4;
     });
     const light = (colour) => parts(colour).reduce((sum, it, at) => sum + it * [0.2126, 0.7152, 0.0722][at], 0);
-    const behind = (it) => {
+    const background = (it) => {
         for (; it; it = it.parentElement) {
             const colour = getComputedStyle(it).backgroundColor;
             if (!/, 0\\)$/.test(colour)) return colour;
@@ -39,7 +39,7 @@ FAINT = """(() => {
     };
     const texts = [...document.querySelectorAll("h1, h2, p, label, button:enabled, select, input, summary, span")];
     return texts.filter((it) => it.offsetWidth).flatMap((it) => {
-        const [one, other] = [getComputedStyle(it).color, behind(it)].map(light).sort().reverse();
+        const [one, other] = [getComputedStyle(it).color, background(it)].map(light).sort().reverse();
         const ratio = (Math.max(one, other) + 0.05) / (Math.min(one, other) + 0.05);
         return ratio < 4.5 ? [`${it.tagName} ${it.textContent.slice(0, 20)}: ${ratio.toFixed(1)}`] : [];
     });
@@ -71,9 +71,9 @@ class Board(unittest.TestCase):
 
     def tearDown(self):
         """Nothing went wrong, and nothing was asked for but the page's own worker and files."""
-        told = self.browser.complaints()
-        asked = [it["params"].get("request", {}).get("url", "") for it in told]
-        self.assertEqual([it for it, url in zip(told, asked) if not url.startswith("blob:")], [])
+        complaints = self.browser.complaints()
+        asked = [it["params"].get("request", {}).get("url", "") for it in complaints]
+        self.assertEqual([it for it, url in zip(complaints, asked) if not url.startswith("blob:")], [])
 
     def chips(self):
         return [int(it) for it in self.browser.value("Array.from(chips)")]
@@ -176,15 +176,15 @@ class Board(unittest.TestCase):
                 self.assertLess(time.monotonic(), until, os.listdir(folder))
                 time.sleep(0.05)
             with open(files[0], encoding="ascii") as file:
-                told = json.load(file)
-            self.assertEqual([told[it] for it in ("sink", "version", "vertices")], [24, 1, 25])
+                graph = json.load(file)
+            self.assertEqual([graph[it] for it in ("sink", "version", "vertices")], [24, 1, 25])
             self.open("rows=3&columns=3")
             node = self.browser.ask("Runtime.evaluate", expression="document.getElementById('files')")["result"]
             self.browser.ask("DOM.setFileInputFiles", files=files[:2], objectId=node["objectId"])
             self.browser.wait(f"{STATUS}.includes('6 by 4') && {IS_DONE}")
             self.assertEqual(self.chips(), chips)
-            told = self.browser.value("[board.rows, board.columns, board.lattice, board.borders]")
-            self.assertEqual(told, [6, 4, "hexagonal", "sides"])
+            shown = self.browser.value("[board.rows, board.columns, board.lattice, board.borders]")
+            self.assertEqual(shown, [6, 4, "hexagonal", "sides"])
 
     def test_an_address_has_the_board_again(self):
         self.open("rows=7&columns=9&fill=uniform&amount=1")

@@ -10,7 +10,7 @@ COUNTS, EDGES, WORDS = (0, 1, LARGEST, LARGEST + 1), (3, 5), (0, 1, 2, LARGEST, 
 #: A tally is (edge, messages, answered), and a side has two of them at most.
 TALLIES = [*itertools.product(EDGES, COUNTS, COUNTS)]
 SIDES = [side for length in range(3) for side in itertools.product(TALLIES, repeat=length)]
-#: What stands on the other side: nothing, something open, all answered, and what is not sound.
+#: What stands on the other side: nothing, something open, all acknowledged, and what is not sound.
 OTHERS = [(), ((3, 1, 0),), ((3, 1, 1), (5, LARGEST, LARGEST)), ((5, 0, 1),)]
 
 
@@ -33,7 +33,7 @@ def are_sound(ins, outs, parent):
 
 
 def changed(side, edge, messages, answered):
-    """The side with this number of messages and answers more on the edge."""
+    """The side with this number of messages and acknowledgements more on the edge."""
     return tuple((e, m + messages * (e == edge), a + answered * (e == edge)) for e, m, a in side)
 
 
@@ -66,9 +66,9 @@ def wanted(call, ins, outs, parent, edge, word, passive):
 def made(call, ins, outs, parent, edge, word, passive):
     """The same, as the library returns it."""
     sides = [(WORD * (3 * len(side) + 1))(*itertools.chain(*side), KEPT) for side in (ins, outs)]
-    (its, lengths), now, told = zip(*((side, len(side) // 3) for side in sides)), WORD(parent), WORD(KEPT)
+    (its, lengths), now, written = zip(*((side, len(side) // 3) for side in sides)), WORD(parent), WORD(KEPT)
     of_ins, of_outs = zip(map(ctypes.addressof, its), lengths)
-    by, to = ctypes.byref(now), ctypes.byref(told)
+    by, to = ctypes.byref(now), ctypes.byref(written)
     words = {
         "sent": (*of_outs, edge), "got": (*of_ins, by, edge), "may_ack": (*of_ins, *of_outs, parent, edge, passive, to),
         "acked": (*of_ins, *of_outs, by, edge, passive, word), "settled": (*of_outs, edge, word, to),
@@ -76,8 +76,8 @@ def made(call, ins, outs, parent, edge, word, passive):
     }[call]
     status = getattr(LIBRARY, f"chipfire_{call}")(*words)
     after = [tuple(zip(side[0:-1:3], side[1::3], side[2::3])) for side in its]
-    assert all(side[-1] == KEPT for side in its), "written behind its end"
-    return status, told.value, *after, now.value
+    assert all(side[-1] == KEPT for side in its), "written after its end"
+    return status, written.value, *after, now.value
 
 
 def check(ins, outs, parent):
@@ -127,9 +127,9 @@ class Small(unittest.TestCase):
         for books in itertools.islice(others, None, None, 7):
             for call, edges in CALLS.items():
                 for word in (0, 1):
-                    status, told, *now = made(call, *books, edges[0], word, word)
+                    status, value, *now = made(call, *books, edges[0], word, word)
                     self.assertIn(status, (0, 46, 47))
-                    self.assertTrue(status == 0 or (told, *now) == (KEPT, *books), (call, books, word))
+                    self.assertTrue(status == 0 or (value, *now) == (KEPT, *books), (call, books, word))
 
 
 if __name__ == "__main__":

@@ -128,8 +128,8 @@ class Broken(Room):
             file.writelines([*rows, "};\n"])
         words = ["g++", "-std=c++17", "-pthread", f"-I{INCLUDE}", f"-I{self.room}", f"{HERE}/pools.cpp", STATIC]
         self.runs(*words, "-o", f"{self.room}/pools")
-        told = self.runs(f"{self.room}/pools", self.room).splitlines()
-        return dict(line.split(": ", 1) for line in told)
+        lines = self.runs(f"{self.room}/pools", self.room).splitlines()
+        return dict(line.split(": ", 1) for line in lines)
 
     def rows(self, name, process):
         """Returns the rows that a process of a pool wrote."""

@@ -2,7 +2,7 @@
 
 When they end is compared with the truth, a count of open tasks or messages under a lock of its own. A run ends *early*
 if the root says that it is over while some are open, and is *missed* if it does not say so 10 seconds after the last
-one. There are 300 runs, and a wrong use is run until one ends early. With CHIPFIRE_SOAK there are so many runs of each.
+one. There are 300 runs, and a wrong use is run until one ends early. CHIPFIRE_SOAK is the number of runs of each.
 The last 100 runs of each leave logs: `chipfire judge` calls no claim of the right ones early, and of a wrong use at
 least that of the run that ended early.
 """
@@ -46,7 +46,7 @@ KNIGHT_COUNTED = [
     ("            is_nearer =", "            received(edge)\n            is_nearer ="),
     ("        with part.lock:\n            part.busy -=",
      "        finished(edge)\n        with part.lock:\n            part.busy -="),
-    ("            self.mail.put((edge, None, word))", "            told(edge, word)\n"
+    ("            self.mail.put((edge, None, word))", "            acked(edge, word)\n"
      "                self.mail.put((edge, None, word))"),
     ("part.books.settled(edge, word)", "part.books.settled(edge, word)\n            heard(edge, word)"),
     ("part.books.is_over()", "judged(part.books)"),
@@ -59,7 +59,7 @@ KNIGHT_WRONG = {
                                       "            part.busy += 1\n        for out in")],
     "passive too early": [("acknowledge(part.busy == 0)", "acknowledge(True)")],
 }
-EDITED_IN = ["opened", "received", "finished", "told", "heard", "judged"]
+EDITED_IN = ["opened", "received", "finished", "acked", "heard", "judged"]
 #: How many runs ended early or were missed, found what is wrong, or were stopped since the books refused something.
 Outcome = collections.namedtuple("Outcome", "runs early missed wrong refused", defaults=(0,))
 
@@ -86,8 +86,7 @@ def moves_of_a_knight(side):
 
 
 class Judge:
-    """Knows the truth of one run of knight.py after another, and writes the rows of its log: a square is a process, and
-    an edge a channel."""
+    """Counts the open tasks of each run of knight.py, and writes its log: a square is a process, and an edge a channel."""
 
     def __init__(self):
         self.lock, self.draw = threading.Lock(), random.Random("library: knight")
@@ -126,7 +125,7 @@ class Judge:
                 self.row("passive", edge, 1)
             self.last = time.monotonic()
 
-    def told(self, edge, word):
+    def acked(self, edge, word):
         with self.lock:
             self.row("tell", edge, 1, word - self.acknowledged[1, edge])
             self.acknowledged[1, edge] = word
@@ -187,7 +186,7 @@ def knights(edits, runs, most_early, folder):
 
 
 class Soak(Room):
-    def told(self, name, *words, **how):
+    def measured(self, name, *words, **how):
         """Returns the outcome that a command writes, and how many of its logs the judge ends with each status. Shows
         both, with the seconds that the command took."""
         begun, folder = time.monotonic(), tempfile.mkdtemp(dir=self.room)
@@ -233,7 +232,7 @@ class Steal(Soak):
             file.write(edited(STEAL, STEAL_COUNTED + STEAL_WRONG.get(name, [])))
         program = f"{self.room}/soak"
         self.runs(*COMPILE, f"-I{self.room}", f"{ROOT}/tests/library/soak.c", *WITH_SHARED, "-o", program)
-        return self.told(f"steal.c, {name}", program, str(runs), str(MOST_EARLY))
+        return self.measured(f"steal.c, {name}", program, str(runs), str(MOST_EARLY))
 
     def test_it_ends_when_it_is_over(self):
         self.is_right()
@@ -258,7 +257,7 @@ class Knight(Soak):
     def outcome(self, name, runs):
         """Runs knight.py or a wrong use in a process of its own, since tests of memory follow in this one."""
         words = os.path.realpath(__file__), name, str(runs), str(MOST_EARLY)
-        return self.told(f"knight.py, {name}", sys.executable, *words, env=self.environment)
+        return self.measured(f"knight.py, {name}", sys.executable, *words, env=self.environment)
 
     def test_it_ends_when_it_is_over(self):
         self.is_right()

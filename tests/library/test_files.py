@@ -64,8 +64,8 @@ class Linked(Room):
 
     def test_the_version_is_that_of_the_program(self):
         version = library.LIBRARY.chipfire_version()
-        told = "{}.{}.{}".format(version // 10**6, version // 1000 % 1000, version % 1000)
-        self.assertEqual(self.runs(library.PROGRAM, "--version"), f"chipfire {told}\n")
+        text = "{}.{}.{}".format(version // 10**6, version // 1000 % 1000, version % 1000)
+        self.assertEqual(self.runs(library.PROGRAM, "--version"), f"chipfire {text}\n")
 
 
 class Explained(Room):
@@ -81,25 +81,25 @@ class Explained(Room):
     #: Those of a fault that files have too, in other words.
     OWN = {26: "the drop falls on no vertex", 53: "what was claimed is not how the game ends"}
 
-    def told(self):
-        """Returns what the header says of each status, by what it is called there: its number, and the sentence."""
+    def stated(self):
+        """Returns the number and the sentence of each status of the header, by its name there."""
         need("gcc")
         names = re.findall(r"^    CHIPFIRE_(\w+) = \d+,?$", text_of(HEADER), re.MULTILINE)
         shown = "".join(f' printf("%d %s\\n", CHIPFIRE_{it}, chipfire_strerror(CHIPFIRE_{it}));\n' for it in names)
         lines = f'#include <chipfire.h>\n#include <stdio.h>\nint main(void) {{\n{shown} puts(chipfire_strerror(15)); }}\n'
-        with open(f"{self.room}/told.c", "w", encoding="ascii") as file:
+        with open(f"{self.room}/stated.c", "w", encoding="ascii") as file:
             file.write(lines)
-        self.runs("gcc", "-std=c11", *STRICT, f"{self.room}/told.c", "-o", f"{self.room}/told")
-        *told, unknown = self.runs(f"{self.room}/told").splitlines()
+        self.runs("gcc", "-std=c11", *STRICT, f"{self.room}/stated.c", "-o", f"{self.room}/stated")
+        *said, unknown = self.runs(f"{self.room}/stated").splitlines()
         self.assertEqual(unknown, "no call answers this status")
-        return {name: (int(line.partition(" ")[0]), line.partition(" ")[2]) for name, line in zip(names, told)}
+        return {name: (int(line.partition(" ")[0]), line.partition(" ")[2]) for name, line in zip(names, said)}
 
     def test_each_status_by_its_name(self):
         """Each fault of the header has a constant, called as the program calls it, and the program's sentence."""
-        told = self.told()
-        self.assertEqual(told.pop("OK"), (0, "success"))
-        self.assertEqual([number for number, _ in told.values()], [*range(1, 15), 26, 46, 47, 53, 90])
-        for name, (number, sentence) in told.items():
+        stated = self.stated()
+        self.assertEqual(stated.pop("OK"), (0, "success"))
+        self.assertEqual([number for number, _ in stated.values()], [*range(1, 15), 26, 46, 47, 53, 90])
+        for name, (number, sentence) in stated.items():
             explained = self.runs(library.PROGRAM, "explain", str(number)).splitlines()[0]
             its, wanted = re.fullmatch(r"fault \d+ (\w+)[ \w]*: (.*)", explained).groups()
             self.assertEqual(name, "FAULT_" + re.sub(r"(?<=[a-z])(?=[A-Z])", "_", its).upper())
@@ -153,7 +153,7 @@ class Built(Room):
         self.runs("gcc", "-std=c11", "-g", *STRICT, *sanitized, f"{ROOT}/tests/library/calls.c", STATIC, "-o", calls)
         self.assertEqual(self.runs(calls), "")
 
-    def test_the_example_answers_what_the_page_shows(self):
+    def test_the_example_prints_what_the_page_shows(self):
         shown = re.search(r"^\$ target/grid\n(.*?)^(?:\$|```)", text_of(PAGE), re.DOTALL | re.MULTILINE)[1]
         for program in self.programs(EXAMPLE):
             self.assertEqual(self.runs(program), shown)

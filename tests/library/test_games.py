@@ -28,8 +28,8 @@ def grid(side):
 
 
 def stepped(graph, chips, limit, fired=None):
-    """Fires one vertex after another, the last that may fire first. Returns chips, counts, and how many vertices are
-    stopped; then how many chips came to the sink."""
+    """Fires one vertex after another, the last that may fire first. Returns chips, counts, the number of stopped vertices,
+    and the number of chips that the sink got."""
     chips, fired = list(chips), list(fired or [0] * graph.vertices)
     degree, before = [0] * graph.vertices, chips[graph.sink]
     for tail, _, mult in graph.edges:
@@ -125,31 +125,32 @@ class Small(unittest.TestCase):
 
 
 class First(unittest.TestCase):
-    """Which of two faults is told, as the header says."""
+    """Which of two faults is reported, as the header says."""
 
     def test_in_the_order_of_the_header(self):
-        """A call has all faults but 3, which Memory has. Each is mended in turn: the next of the header's list is told."""
+        """A call has all faults but 3, which Memory has. They are mended in turn; each call reports the next one of the
+        header's list."""
         call = {"vertices": 0, "sink": 5, "edges": [(2, 7, 0), (1, 2, 0)], "chips": [LARGEST, 1], "limit": LARGEST + 1,
                 "at": [9], "amounts": []}
-        told = []
+        found = []
         for mend in (
             {"amounts": [LARGEST + 1]}, {"vertices": 3}, {"sink": 2}, {"edges": [(2, 2, 0), (1, 2, 0)]},
             {"edges": [(2, 2, 1), (1, 2, 0)]}, {"edges": [(2, 0, 1), (1, 2, 0)]}, {"edges": [(0, 1, 1)]},
             {"edges": [(0, 1, 1), (1, 2, 1)]}, {"chips": [LARGEST, 1, 0]}, {"chips": [1, 0, 0]}, {"limit": 0},
             {"chips": [0, 0, 0]}, {"at": [0]}, {"amounts": [1]}, {"limit": 1},
         ):
-            told.append(self.told_of(call))
+            found.append(self.status_of(call))
             call.update(mend)
-        self.assertEqual(self.told_of(call), 0)
+        self.assertEqual(self.status_of(call), 0)
         graph = Graph(3, 2, call["edges"])
-        told += [verify(graph, [1, 0, 0], [0, 0, 0], [0, 0, 0], limit)[0] for limit in (LARGEST + 1, LARGEST)]
+        found += [verify(graph, [1, 0, 0], [0, 0, 0], [0, 0, 0], limit)[0] for limit in (LARGEST + 1, LARGEST)]
         with open(HEADER, encoding="ascii") as file:
             listed = file.read().partition("The first fault is the first of these:")[2].partition(".\n")[0]
         wanted = [int(it) for it in re.findall(r"\d+", listed)]
-        self.assertEqual(told, [it for it in wanted[:-1] if it != 3] + [11, 53])
+        self.assertEqual(found, [it for it in wanted[:-1] if it != 3] + [11, 53])
         self.assertEqual((wanted[:4], wanted[-1]), ([12, 1, 2, 3], 53))
 
-    def told_of(self, call):
+    def status_of(self, call):
         """Returns the status of a call for drops that writes nothing if it is refused."""
         graph, columns = Graph(call["vertices"], call["sink"], call["edges"]), [[7] * len(call["at"]) for _ in range(3)]
         return called(LIBRARY.chipfire_avalanches, graph, call["limit"], [call["at"], call["amounts"]],
@@ -179,8 +180,8 @@ class First(unittest.TestCase):
 
 
 class Random(Room):
-    def program_answers(self, graph, chips, limit):
-        """Returns what the program answers to a game: (0, 0, [(chips, fired, stopped)]), or number and place of a fault."""
+    def program_result(self, graph, chips, limit):
+        """Returns the program's result of a game: (0, 0, [(chips, fired, stopped)]), or number and place of a fault."""
         paths = f"{self.room}/graph.json", f"{self.room}/chips.csv"
         with open(paths[0], "w", encoding="ascii") as file:
             json.dump({"version": 1, "vertices": graph.vertices, "sink": graph.sink, "edges": graph.edges}, file)
@@ -190,8 +191,8 @@ class Random(Room):
         fault = re.fullmatch(r"chipfire: fault (\d+) \w+(?: (\d+))?\n", ran.stderr)
         if fault:
             return int(fault[1]), int(fault[2] or 0), None
-        told = json.loads(ran.stdout)
-        return 0, 0, [(told["chips"], told["fired"], len(told["over"]))]
+        report = json.loads(ran.stdout)
+        return 0, 0, [(report["chips"], report["fired"], len(report["over"]))]
 
     def test_games_beside_firing_one_by_one(self):
         draw = random.Random("library: games")
@@ -225,8 +226,8 @@ class Random(Room):
         draw, graph = random.Random("library: grids"), grid(20)
         games = [[draw.randint(0, 7) for _ in range(graph.vertices)] for _ in range(5)]
         found = stabilize_all(graph, games)[2]
-        for chips, answer in zip(games, found):
-            self.assertEqual((0, 0, [answer]), self.program_answers(graph, chips, LARGEST))
+        for chips, result in zip(games, found):
+            self.assertEqual((0, 0, [result]), self.program_result(graph, chips, LARGEST))
 
 
 class Limits(unittest.TestCase):
@@ -260,7 +261,7 @@ class Limits(unittest.TestCase):
 
 class Memory(unittest.TestCase):
     def test_with_ever_more(self):
-        """A call answers 90 and has written nothing, and from some size on the outcome."""
+        """A call returns 90 and writes nothing; from some size on it writes the outcome."""
         graph = grid(120)
         chips, at = [2] * graph.vertices, [1] * 1000
         games, drops = ([[]], [chips, chips, [5]]), ([at, at], [chips, at, at, at])
@@ -270,7 +271,7 @@ class Memory(unittest.TestCase):
             self.assertGreater(enough, 0)
             self.assertEqual(found, [90] * enough + [0] * (len(found) - enough))
 
-    def test_sizes_are_looked_at_before_memory_is_taken(self):
+    def test_sizes_are_read_before_memory_is_taken(self):
         """With one edge too many, where no edge can be copied."""
         edges, place, empty = (WORD * (2**23 + 1))(), Slice([7]), Slice([])
         column = ctypes.addressof(edges), len(edges)
@@ -281,13 +282,13 @@ class Memory(unittest.TestCase):
                 self.assertEqual(self.status(function, words, [], 0), fault)
 
     def child(self, function, graph, inputs, outputs, room):
-        """Returns the status of a call in a process that may take so many bytes more than it has; 255 if slices are other."""
+        """Returns the status of a call in a process that may take `room` bytes more; 255 if other arrays were written."""
         inputs, outputs, place = [Slice(it) for it in inputs], [Slice(it) for it in outputs], Slice([7])
         words = [*graph.words(), LARGEST, *(word for it in (*inputs, *outputs) for word in it.words()), place.words()[0]]
         return self.status(function, words, outputs, room)
 
     def status(self, function, words, outputs, room):
-        """Returns the same of a call with these words, which may write these slices."""
+        """Returns the same of a call with these words, which may write these arrays."""
         child = os.fork()
         if child == 0:
             # (what other tests gave back may lie free in this process, and would be room too)

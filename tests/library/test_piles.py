@@ -54,12 +54,12 @@ class Pile:
     def play(self, visits):
         left = Slice([GUARD])
         status = LIBRARY.chipfire_pile_play(self.at, visits, left.words()[0])
-        return self.answer(status, left.now()[0], GUARD)
+        return self.result(status, left.now()[0], GUARD)
 
     def drop(self, vertex, amount):
-        told = [Slice([GUARD]) for _ in range(3)]
-        status = LIBRARY.chipfire_pile_drop(self.at, vertex, amount, *(it.words()[0] for it in told))
-        return self.answer(status, tuple(it.now()[0] for it in told), (GUARD,) * 3)
+        numbers = [Slice([GUARD]) for _ in range(3)]
+        status = LIBRARY.chipfire_pile_drop(self.at, vertex, amount, *(it.words()[0] for it in numbers))
+        return self.result(status, tuple(it.now()[0] for it in numbers), (GUARD,) * 3)
 
     def drops(self, drops):
         """Returns the status, the place and all rows, of which those that were not written are guards."""
@@ -70,8 +70,8 @@ class Pile:
         return status, place.now()[0], list(zip(*(it.now() for it in rows)))
 
     def measure(self, drops, timed=False, room=None):
-        """Returns the status, the place, and what is written: all rows, durations, ends, and what fired; `room` is how many
-        vertices there is room for, and None if that is not asked."""
+        """Returns the status, the place, and what is written: all rows, durations, ends, and what fired. There is room for
+        `room` vertices; None leaves them out."""
         columns = [Slice(it) for it in zip(*drops)] if drops else [Slice([]), Slice([])]
         many = [len(drops)] * 3 + [len(drops) * timed, 0 if room is None else len(drops)] + 2 * [room or 0]
         written, place = [Slice([GUARD] * it) for it in many], Slice([7])
@@ -86,7 +86,7 @@ class Pile:
     def copy(self, function):
         numbers = Slice([GUARD] * self.graph.vertices)
         status = function(self.at, *numbers.words())
-        return self.answer(status, numbers.now(), numbers.numbers)
+        return self.result(status, numbers.now(), numbers.numbers)
 
     def now(self):
         """Returns chips and counts."""
@@ -96,7 +96,7 @@ class Pile:
         LIBRARY.chipfire_pile_free(self.at)
         return self.struct.has_pile, self.struct.pile
 
-    def answer(self, status, written, before):
+    def result(self, status, written, before):
         assert status == 0 or written == before, "a fault that has written"
         return (0, written) if status == 0 else (status, None)
 
@@ -171,18 +171,18 @@ class Piles(unittest.TestCase):
                 where += [v for v, count in enumerate(many) if count]
                 times += filter(None, many)
                 ends.append(len(where))
-        status, place, *told, ends_told, where_told, times_told = pile.measure(drops, timed, room)
+        status, place, *found, found_ends, found_where, found_times = pile.measure(drops, timed, room)
         self.assertEqual((status, place), (13 if stopped else 0, len(rows)))
         left = len(drops) - len(rows)
-        self.assertEqual(told, [rows + [(GUARD,) * 3] * left, (lengths + [GUARD] * left) * timed])
+        self.assertEqual(found, [rows + [(GUARD,) * 3] * left, (lengths + [GUARD] * left) * timed])
         if room is None:
-            self.assertEqual((ends_told, where_told, times_told), ([], [], []))
+            self.assertEqual((found_ends, found_where, found_times), ([], [], []))
         else:
-            pairs = [*zip(where_told, times_told)]
+            pairs = [*zip(found_where, found_times)]
             begins = [0, *ends]
             # (in a drop vertices stand in any order)
             pairs = [it for begin, end in zip(begins, ends) for it in sorted(pairs[begin:end])] + pairs[begins[-1]:]
-            self.assertEqual(ends_told, ends + [GUARD] * left)
+            self.assertEqual(found_ends, ends + [GUARD] * left)
             self.assertEqual(pairs, [*zip(where, times)] + [(GUARD, GUARD)] * (room - len(where)))
         self.assertEqual(pile.now(), [chips, fired])
 
@@ -193,17 +193,17 @@ class Piles(unittest.TestCase):
         self.assertEqual(pile.now(), before)
         portions = 0
         while True:
-            told, now = pile.play(visits), pile.now()
+            played, now = pile.play(visits), pile.now()
             portions += 1
             self.assertTrue(all(map(int.__le__, before[1], now[1])))
-            if told != (0, 1):
+            if played != (0, 1):
                 break
             self.assertGreater(sum(now[1]), sum(before[1]))
             before = now
         self.assertEqual(now, ends)
         for _ in range(2):
-            self.assertEqual(told, (13, None) if stopped else (0, 0))
-            told = pile.play(visits)
+            self.assertEqual(played, (13, None) if stopped else (0, 0))
+            played = pile.play(visits)
         self.assertEqual(pile.now(), ends)
         return portions
 
@@ -264,8 +264,8 @@ class Small(Piles):
             self.assertEqual((status, place.now(), [it.now() for it in slices]), (12, [0], before), changes)
             self.assertEqual(pile.now(), [[1, 1, 0], [0, 0, 0]])
         for drops, fault, place in ([(2, 0), (3, 1)], 26, 1), ([(2, LARGEST - 2), (0, 1)], 10, 1):
-            told = pile.measure(drops, True, 9)
-            self.assertEqual(told, (fault, place, [(GUARD,) * 3] * 2, [GUARD] * 2, [GUARD] * 2, [GUARD] * 9, [GUARD] * 9))
+            found = pile.measure(drops, True, 9)
+            self.assertEqual(found, (fault, place, [(GUARD,) * 3] * 2, [GUARD] * 2, [GUARD] * 2, [GUARD] * 9, [GUARD] * 9))
             self.assertEqual(pile.now(), [[1, 1, 0], [0, 0, 0]])
         self.assertEqual(pile.measure([], True, 9), (0, 0, [], [], [], [GUARD] * 9, [GUARD] * 9))
         pile.free()
@@ -392,7 +392,7 @@ class Random(Piles):
 
 class Memory(Piles):
     def within(self, room, call, look):
-        """Returns what look makes of a call's status in a process that may take so many bytes more in the call."""
+        """Returns what `look` makes of the status of a call for which the process may take `room` bytes more."""
         child = os.fork()
         if child == 0:
             try:
@@ -415,7 +415,7 @@ class Memory(Piles):
         """A call returns 90 and changes nothing, and with enough memory it does not. A drop takes none."""
         graph = grid(120)
         chips, pile = [2] * graph.vertices, self.pile(graph)
-        numbers, place, told = Slice(chips), Slice([7]), [Slice([7]) for _ in range(3)]
+        numbers, place, outcome = Slice(chips), Slice([7]), [Slice([7]) for _ in range(3)]
         self.assertEqual(pile.new([1] * graph.vertices, 9), (0, 0))
         new = (pile.at, *graph.words(), LARGEST, *numbers.words(), place.words()[0])
         before = pile.now()
@@ -427,7 +427,7 @@ class Memory(Piles):
             enough = found.index(0)
             self.assertGreater(enough, 0)
             self.assertEqual(found, [90] * enough + [0] * (len(found) - enough))
-        drop = (pile.at, 0, 5, *(it.words()[0] for it in told))
+        drop = (pile.at, 0, 5, *(it.words()[0] for it in outcome))
         self.assertEqual(self.within(0, lambda: LIBRARY.chipfire_pile_drop(*drop), lambda status: status), 0)
         columns = [Slice([0, 7, 9]), *(Slice([it] * 3) for it in (5, GUARD, GUARD, GUARD))]
         drops = (pile.at, *(word for it in columns for word in it.words()), place.words()[0])

@@ -1,4 +1,4 @@
-"""Books with sums: all small ones, each call beside the words of chipfire.h and beside the calls on slices."""
+"""Books with sums: all small ones, each call beside the words of chipfire.h and beside the calls on arrays."""
 import ctypes
 import itertools
 import random
@@ -53,7 +53,7 @@ class Kept:
     def now(self):
         """Both sides, the parent, and the sums."""
         its = self.struct
-        assert all(side[-1] == KEPT for side in self.sides), "written behind its end"
+        assert all(side[-1] == KEPT for side in self.sides), "written after its end"
         assert (its.ins, its.ins_len, its.outs, its.outs_len) == self.pointed, "points elsewhere"
         sides = [tuple(zip(side[0:-1:3], side[1::3], side[2::3])) for side in self.sides]
         return *sides, its.parent, its.owed, its.deficit
@@ -73,8 +73,8 @@ def sums(ins, outs):
 def wanted_sums(name, ins, outs, parent, edge, word, passive):
     """What a step on sound books returns, both numbers that it writes, and the books after it."""
     if name != "acknowledge":
-        status, told, *after = wanted(name, ins, outs, parent, edge, word, passive)
-        return (status, told, KEPT), (*after, *sums(*after[:2]))
+        status, value, *after = wanted(name, ins, outs, parent, edge, word, passive)
+        return (status, value, KEPT), (*after, *sums(*after[:2]))
     status, count, *_ = wanted("may_ack", ins, outs, parent, edge, word, passive)
     if status:
         return (status, KEPT, KEPT), (ins, outs, parent, *sums(ins, outs))
@@ -119,10 +119,10 @@ class Small(unittest.TestCase):
         for its in itertools.islice(small(), None, None, 11):
             for name, number, word in itertools.product(STEPS[:4], (0, 1, NEUTRAL), (0, 1)):
                 books = Kept(*its, number, number)
-                status, *told = books.step(name, EDGES[0], word, word)
+                status, *value = books.step(name, EDGES[0], word, word)
                 self.assertIn(status, (0, 46))
                 if status:
-                    self.assertEqual((told, books.now()), ([KEPT, KEPT], (*its, number, number)), (name, its, number))
+                    self.assertEqual((value, books.now()), ([KEPT, KEPT], (*its, number, number)), (name, its, number))
 
     def test_no_sum_passes_an_end(self):
         """A side of another sum: nothing is counted below 0, or above the greatest word."""
@@ -139,7 +139,7 @@ class Small(unittest.TestCase):
 
 
 class Beside(unittest.TestCase):
-    def test_random_steps_beside_the_calls_on_slices(self):
+    def test_random_steps_beside_the_calls_on_arrays(self):
         for seed in range(300):
             draw = random.Random(seed)
             ins, outs = (tuple((e, 0, 0) for e in sorted(draw.sample(range(9), draw.randint(0, 5)))) for _ in "io")
@@ -152,15 +152,15 @@ class Beside(unittest.TestCase):
         """Makes a step on both, and returns the other books after it."""
         name = draw.choice(STEPS)
         edge, word, passive = draw.randrange(9), draw.randrange(6), draw.randrange(2)
-        status, told, so_far = books.step(name, edge, word, passive)
+        status, value, so_far = books.step(name, edge, word, passive)
         if name == "acknowledge":
             other, count, *_ = made("may_ack", *beside, edge, 0, passive)
-            self.assertEqual((status, told), (other, count))
-            _, _, *beside = made("acked", *beside, edge, told, passive) if not other else (0, 0, *beside)
+            self.assertEqual((status, value), (other, count))
+            _, _, *beside = made("acked", *beside, edge, value, passive) if not other else (0, 0, *beside)
             self.assertEqual(so_far, KEPT if other else next(it[2] for it in beside[0] if it[0] == edge))
         else:
             other, count, *beside = made(name, *beside, edge, word, passive)
-            self.assertEqual((status, told, so_far), (other, count, KEPT))
+            self.assertEqual((status, value, so_far), (other, count, KEPT))
         deficit = made("deficit", *beside, 0, 0, 0)[1]
         self.assertEqual(books.now(), (*beside, opened(beside[0]), deficit))
         return tuple(beside)

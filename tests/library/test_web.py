@@ -1,5 +1,5 @@
 """The package for browsers and Node, beside the native library: random calls, each fault, memory that runs out, a large
-grid, its types, and that the same sources make the same bytes. With CHIPFIRE_SOAK there are so many random calls, else
+grid, its types, and that the same sources make the same bytes. CHIPFIRE_SOAK is the number of random calls, else
 1,000."""
 import array
 import collections
@@ -64,8 +64,8 @@ def limit_of(draw):
     return draw.choice([LARGEST, LARGEST, LARGEST, 2**20, 0, 1, 7, LARGEST + 1, NEUTRAL])
 
 
-def ended(status, place, told):
-    return [status, place, *([] if status else told)]
+def ended(status, place, written):
+    return [status, place, *([] if status else written)]
 
 
 def games(draw):
@@ -74,8 +74,8 @@ def games(draw):
     chips = chips_of(draw, graph, count)
     guesses = [draw.choice([0, 1, 5, 2**39, NEUTRAL]) for _ in chips] if draw.random() < 0.4 else []
     outputs = [chips, [0] * len(chips), [0] * count]
-    told = called(library.LIBRARY.chipfire_stabilize_all, graph, limit, [guesses], outputs)
-    return "stabilizeAll", [columns_of(graph), limit, guesses, chips, count], [ended(*told)]
+    returned = called(library.LIBRARY.chipfire_stabilize_all, graph, limit, [guesses], outputs)
+    return "stabilizeAll", [columns_of(graph), limit, guesses, chips, count], [ended(*returned)]
 
 
 def drops_of(draw, graph):
@@ -86,8 +86,8 @@ def drops_of(draw, graph):
 def drops(draw):
     graph, limit = graph_of(draw), limit_of(draw)
     chips, its = chips_of(draw, graph), drops_of(draw, graph)
-    status, place, told = avalanches(graph, chips, its, limit)
-    columns = [] if status else [told[0], *([row[i] for row in told[1]] for i in range(3))]
+    status, place, returned = avalanches(graph, chips, its, limit)
+    columns = [] if status else [returned[0], *([row[i] for row in returned[1]] for i in range(3))]
     at, amounts = ([it[i] for it in its] for i in range(2))
     return "avalanches", [columns_of(graph), limit, at, amounts, chips], [ended(status, place, columns)]
 
@@ -95,8 +95,8 @@ def drops(draw):
 def claims(draw):
     graph, limit = graph_of(draw), limit_of(draw)
     chips = chips_of(draw, graph)
-    told = stabilize_all(graph, [chips], limit)[2]
-    ends, fired = told[0][:2] if told else (chips, [0] * len(chips))
+    returned = stabilize_all(graph, [chips], limit)[2]
+    ends, fired = returned[0][:2] if returned else (chips, [0] * len(chips))
     if ends and draw.random() < 0.5:
         side = draw.choice([ends, fired])
         side[draw.randrange(len(side))] ^= draw.choice([1, 2**63])
@@ -109,9 +109,9 @@ def piles(draw):
     status, place = pile.new(chips, limit)
     steps, found = [], [[status, place]]
     for drop in drops_of(draw, graph) if not status else []:
-        step, told = step_on(draw, pile, limit, drop)
+        step, returned = step_on(draw, pile, limit, drop)
         steps.append(step)
-        found += [told, pile.now()]
+        found += [returned, pile.now()]
     pile.free()
     return "pile", [columns_of(graph), limit, chips, steps], found
 
@@ -123,8 +123,8 @@ def step_on(draw, pile, limit, drop):
         chips = chips_of(draw, pile.graph)
         return [what, chips], [pile.put(chips, limit), 0]
     if what == "drop":
-        status, told = pile.drop(*drop)
-        return [what, *drop], ended(status, 0, told)
+        status, returned = pile.drop(*drop)
+        return [what, *drop], ended(status, 0, returned)
     its = drops_of(draw, pile.graph)
     status, place, rows = pile.drops(its)
     made = {0: len(rows), 13: place}.get(status, 0)
@@ -138,14 +138,14 @@ def groups(draw):
     chips = chips_of(draw, graph, draw.choice([0, 1, 1, 3]))
     rows = [chips[i:i + graph.vertices] for i in range(0, len(chips), graph.vertices)]
     if name in ("burning", "identity"):
-        status, place, *told = (burning if name == "burning" else identity)(graph)
+        status, place, *returned = (burning if name == "burning" else identity)(graph)
     elif name == "areRecurrent":
-        status, place, *told = are_recurrent(graph, rows)
+        status, place, *returned = are_recurrent(graph, rows)
     else:
         function = getattr(library.LIBRARY, f"chipfire_{name}")
         status, place, found = represented(function, graph, rows)
-        told = [sum(found, [])]
-    return "group", [columns_of(graph), name, chips], [ended(status, place, told)]
+        returned = [sum(found, [])]
+    return "group", [columns_of(graph), name, chips], [ended(status, place, returned)]
 
 
 def edges_of(draw):
@@ -176,9 +176,9 @@ def books(draw):
     steps, status = [], kept.call("open")
     found = [[status, 0]]
     for _ in range(0 if status else draw.choice([5, 40])):
-        given, told = step_of(draw, kept)
+        given, returned = step_of(draw, kept)
         steps.append(given)
-        found += [told, [kept.struct.parent, kept.struct.deficit]]
+        found += [returned, [kept.struct.parent, kept.struct.deficit]]
     return "books", [ins, outs, steps], found
 
 
@@ -189,8 +189,8 @@ def step_of(draw, kept):
         return [name, flag], [0, 0, *acknowledged(kept, flag)]
     word = draw.choice([0, 1, 1, 2, 3, LARGEST, NEUTRAL])
     words = {"settled": [edge, word], "isOver": [flag]}.get(name, [edge])
-    status, told, _ = kept.step({"isOver": "is_over"}.get(name, name), edge, word, flag)
-    return [name, *words], ended(status, 0, [told] if name in ("settled", "isOver") else [])
+    status, returned, _ = kept.step({"isOver": "is_over"}.get(name, name), edge, word, flag)
+    return [name, *words], ended(status, 0, [returned] if name in ("settled", "isOver") else [])
 
 
 def grids(draw):

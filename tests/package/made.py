@@ -182,8 +182,8 @@ EMULATOR = "#!/bin/sh\nshift 2\nexec \"$@\"\n"
 
 @functools.cache
 def made_up_tools(version="wasm-opt version 1 (made up)", prints=None, compiler="gcc 1 (made up)"):
-    """Returns a PATH with a wasm-opt of this version, a Node that prints another, or that of the program, and what stands for a
-    cross compiler and an emulator of aarch64, if one is named."""
+    """Returns a PATH with a wasm-opt of this version, a Node that prints `prints` or else the version of the program, and
+    what stands for a cross compiler and an emulator of aarch64, if one is named."""
     folder = f"{rooms()}/tools {version} {prints} {compiler}"
     os.makedirs(f"{folder}/lib")
     tools = {
@@ -201,8 +201,8 @@ def made_up_tools(version="wasm-opt version 1 (made up)", prints=None, compiler=
 
 
 def make_up_module(top, data=b"\0asm made up"):
-    """Has the script of a checkout that makes the package for browsers and Node take these bytes for the module, since the
-    real one takes the kit."""
+    """Changes the script that makes the package for browsers and Node in a checkout: it takes these bytes for the module,
+    where the real one needs the kit."""
     script = f"{top}/tools/webassembly.py"
     old, text = "{MODULE: module(), ", read(script).decode()
     assert text.count(old) == 1
@@ -210,8 +210,8 @@ def make_up_module(top, data=b"\0asm made up"):
 
 
 def make_up_aarch64(top, built=None):
-    """Has the script of a checkout that makes what is for aarch64 take what was built for it in a folder, or else what is for
-    this machine and a byte more, since the real one takes the kit."""
+    """Changes the script that makes what is for aarch64 in a checkout: it takes what a folder has for it, or what is for
+    this machine and a byte more. The real one needs the kit."""
     names = [os.path.basename(PROGRAM), *LIBRARIES]
     files = {name: f"{built or os.path.dirname(PROGRAM)}/{name}" for name in names}
     more = bytes(built is None)
@@ -226,8 +226,8 @@ for name, path in {files!r}.items():
 
 
 def release(top, path=None, built=None):
-    """Makes a release in a checkout by the tools on a PATH, with scripts that stand for those that take the kit, and leaves
-    nothing built there."""
+    """Makes a release in a checkout by the tools on a PATH, and leaves nothing built there. Made-up scripts stand for those
+    that need the kit."""
     make_up_module(top)
     make_up_aarch64(top, built)
     commit(top)

@@ -36,11 +36,11 @@ class Packed(Linked):
     COMPILER = aarch64.TOOL
     starting = staticmethod(aarch64.starting)
 
-    def program_answers(self, program):
+    def program_runs(self, program):
         """Tries a program as it was unpacked."""
         self.assertTrue(os.access(program, os.X_OK))
         self.assertTrue(made.read(program) == made.read(f"{built()}/chipfire"))
-        self.answers(emulator.command(program))
+        self.tries(emulator.command(program))
 
     def test_what_is_stated(self):
         stated = made.read(f"{home()}/release/PROVED").decode()
@@ -56,13 +56,13 @@ class Packed(Linked):
 
     def test_the_archive(self):
         top = made.unpack(path_of(f"-{MACHINE}-linux.tar.xz"))
-        self.program_answers(f"{top}/bin/chipfire")
+        self.program_runs(f"{top}/bin/chipfire")
         self.is_linked(f"{top}/lib", made.version(), f"{top}/include")
 
     def test_the_debian_package(self):
         path, root = path_of(f"_{DEBIAN}.deb"), made.room()
         made.run("dpkg-deb", "-x", path, root, check=True)
-        self.program_answers(f"{root}/usr/bin/chipfire")
+        self.program_runs(f"{root}/usr/bin/chipfire")
         libraries = f"{root}/usr/lib/{MACHINE}-linux-gnu"
         self.is_linked(libraries, made.version(), f"{root}/usr/include", PKG_CONFIG_SYSROOT_DIR=root)
         shown = made.run("dpkg-deb", "-f", path, "Architecture", "Depends", check=True).stdout
@@ -83,4 +83,4 @@ class Packed(Linked):
             self.assertTrue(made.read(f"{carried}/{made.SHARED}") == made.read(f"{built()}/{made.SHARED}"))
             self.assertEqual(os.path.exists(f"{carried}/chipfire"), has_program)
             if has_program:
-                self.program_answers(f"{carried}/chipfire")
+                self.program_runs(f"{carried}/chipfire")

@@ -96,9 +96,9 @@ class NotMade(made.Test):
     def refuses(self, top, why, **more):
         made.build(top)
         before = {name: made.read(f"{top}/release/{name}") for name in os.listdir(f"{top}/release")}
-        answer = releases(top, **more)
-        self.assertEqual((answer.returncode, answer.stdout), (1, ""))
-        self.assertEqual(answer.stderr.splitlines()[-1], f"package: release: {why}")
+        ran = releases(top, **more)
+        self.assertEqual((ran.returncode, ran.stdout), (1, ""))
+        self.assertEqual(ran.stderr.splitlines()[-1], f"package: release: {why}")
         self.assertEqual({name: made.read(f"{top}/release/{name}") for name in os.listdir(f"{top}/release")}, before)
 
     def test_without_a_tool(self):
@@ -233,21 +233,21 @@ class Compared(Comparing):
 
     def test_another_file_of_the_same_tools(self):
         for name in os.listdir(f"{built()}/js"):
-            answer = self.compare(released(), self.another(f"js/{name}"))
-            self.fails(answer, f"the same kit and wasm-opt version 1 .made up. made another {name} here from the same sources")
+            ran = self.compare(released(), self.another(f"js/{name}"))
+            self.fails(ran, f"the same kit and wasm-opt version 1 .made up. made another {name} here from the same sources")
 
     def test_other_tools(self):
         """Then bytes are not compared."""
         folder = self.another("js/chipfire.wasm")
         for path, here in ((made.made_up_tools("wasm-opt version 2"), "wasm-opt version 2"), (without_tools(), "no wasm-opt")):
-            answer = self.compare(released(), folder, PATH=path)
-            self.goes_on(answer, *self.ANY, rf"{TITLE}was made by .*, and is not compared: here are {made.KIT} and {here}\.")
+            ran = self.compare(released(), folder, PATH=path)
+            self.goes_on(ran, *self.ANY, rf"{TITLE}was made by .*, and is not compared: here are {made.KIT} and {here}\.")
 
     def test_other_sources(self):
         top = clone()
         change_page(top)
-        answer = self.compare(top, self.another("js/chipfire.wasm"))
-        self.goes_on(answer, *self.ANY, f"{TITLE}was made of other sources than these, or is not there.")
+        ran = self.compare(top, self.another("js/chipfire.wasm"))
+        self.goes_on(ran, *self.ANY, f"{TITLE}was made of other sources than these, or is not there.")
 
     def test_what_is_missing(self):
         folder = f"{made.room()}/target"

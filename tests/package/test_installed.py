@@ -51,8 +51,8 @@ def game():
     return graph, chips, played.stdout
 
 
-class Answers(made.Test):
-    def answers(self, program):
+class Tried(made.Test):
+    def tries(self, program):
         """Tries the game that is built in, the grid, and a fault."""
         graph, chips, report = game()
         self.assertEqual(made.run(program).stdout, BUILT_IN)
@@ -67,15 +67,15 @@ class Answers(made.Test):
         made.need("lintian")
         said = made.run("lintian", "--display-info", "--show-overrides", "--allow-root", package)
         lines = [line.split(": ", 2) for line in said.stdout.splitlines() if line[:2] in ("E:", "W:", "I:", "O:")]
-        told = {(kind, rest.split()[0]) for kind, _, rest in lines}
+        found = {(kind, rest.split()[0]) for kind, _, rest in lines}
         page = made.read(f"{made.ROOT}/docs/PACKAGES.md").decode()
-        explained = {tag for _, tag in told if f"| `{tag}` |" in page}
-        self.assertEqual((said.stderr, {tag for _, tag in told}), ("", explained))
-        self.assertFalse([tag for kind, tag in told if kind in "EW"])
-        self.assertIn(("O", "unstripped-binary-or-object"), told)
+        explained = {tag for _, tag in found if f"| `{tag}` |" in page}
+        self.assertEqual((said.stderr, {tag for _, tag in found}), ("", explained))
+        self.assertFalse([tag for kind, tag in found if kind in "EW"])
+        self.assertIn(("O", "unstripped-binary-or-object"), found)
 
 
-class Linked(Answers):
+class Linked(Tried):
     """What programs in C and C++ find by pkg-config, and by CMake."""
 
     #: The compiler of C.
@@ -149,9 +149,9 @@ class Archive(Linked):
         shown = made.run("bash", "-c", f"{where}\n{linked} && ./grid", cwd=room, check=True, here=made.unpacked()).stdout
         self.assertTrue(shown.startswith("0320230\n"), shown)
 
-    def test_it_is_one_folder_and_answers(self):
+    def test_it_is_one_folder_and_runs(self):
         self.assertEqual(os.path.basename(made.unpacked()), f"chipfire-{made.version()}")
-        self.answers(f"{made.unpacked()}/bin/chipfire")
+        self.tries(f"{made.unpacked()}/bin/chipfire")
 
     def test_it_has_the_examples(self):
         triangle = f"{made.unpacked()}/share/doc/chipfire/examples/triangle"
@@ -176,15 +176,15 @@ class DebianPackage(Linked):
         made.run("dpkg", *words, made.path_of(".deb"), check=True)
         return root
 
-    def test_dpkg_installs_it_and_it_answers(self):
-        told = made.run("dpkg-query", f"--admindir={self.root()}/var/lib/dpkg", "-W", "-f", "${Status} ${Version}", "chipfire")
-        self.assertEqual(told.stdout, f"install ok installed {made.version()}")
-        self.answers(f"{self.root()}/usr/bin/chipfire")
+    def test_dpkg_installs_it_and_it_runs(self):
+        ran = made.run("dpkg-query", f"--admindir={self.root()}/var/lib/dpkg", "-W", "-f", "${Status} ${Version}", "chipfire")
+        self.assertEqual(ran.stdout, f"install ok installed {made.version()}")
+        self.tries(f"{self.root()}/usr/bin/chipfire")
 
-    def test_it_unpacks_and_answers(self):
+    def test_it_unpacks_and_runs(self):
         root = made.room()
         made.run("dpkg-deb", "-x", made.path_of(".deb"), root, check=True)
-        self.answers(f"{root}/usr/bin/chipfire")
+        self.tries(f"{root}/usr/bin/chipfire")
 
     def test_a_program_in_c_is_linked_with_it(self):
         root = self.root()
@@ -202,8 +202,8 @@ class DebianPackage(Linked):
         self.is_found(f"{self.root()}/usr", made.version())
 
     def test_dpkg_finds_each_file_as_it_was(self):
-        told = made.run("dpkg", f"--root={self.root()}", "--verify", "chipfire")
-        self.assertEqual((told.returncode, told.stdout), (0, ""))
+        ran = made.run("dpkg", f"--root={self.root()}", "--verify", "chipfire")
+        self.assertEqual((ran.returncode, ran.stdout), (0, ""))
 
     def test_man_finds_its_page(self):
         made.need("man")
@@ -214,7 +214,7 @@ class DebianPackage(Linked):
         self.is_explained(made.path_of(".deb"))
 
 
-class Wheel(Answers):
+class Wheel(Tried):
     @staticmethod
     @made.kept
     def room():
@@ -223,15 +223,15 @@ class Wheel(Answers):
         made.pip(room, "install", "--no-index", made.path_of(".whl"), check=True)
         return room
 
-    def test_its_command_answers(self):
-        self.answers(f"{self.room()}/bin/chipfire")
+    def test_its_command_runs(self):
+        self.tries(f"{self.room()}/bin/chipfire")
 
-    def test_the_package_answers_by_the_program_in_it(self):
+    def test_the_package_runs_the_program_in_it(self):
         graph, chips, report = game()
         asked = made.run(f"{self.room()}/bin/python", "-c", PLAY, graph, chips, cwd=made.room())
         self.assertEqual(asked.stderr, "")
-        *answers, program = asked.stdout.splitlines(keepends=True)
-        self.assertEqual(answers, [BUILT_IN, report, "20 NotJson True\n", f"{made.version()}\n"])
+        *lines, program = asked.stdout.splitlines(keepends=True)
+        self.assertEqual(lines, [BUILT_IN, report, "20 NotJson True\n", f"{made.version()}\n"])
         self.assertTrue(program.startswith(os.path.realpath(self.room())), program)
         self.assertEqual(made.read(program.strip()), made.read(made.PROGRAM))
 
@@ -334,7 +334,7 @@ print(chipfire.plain(chipfire.path(1), [3]).fired)
 
 
 class OldPython(made.Test):
-    """A Python older than the package takes is told so."""
+    """The package refuses a Python that is too old for it, and says so."""
 
     #: A Python that takes itself for an older one begins with this.
     OLD = b"import sys\nsys.version_info = 3, 8, 18, 'final', 0\n"
@@ -356,17 +356,17 @@ class OldPython(made.Test):
     def test_what_is_started_says_which_it_takes(self):
         taken = (f"{made.ROOT}/tools/release.py", "--take", made.room(), "")
         for words in ((f"{made.ROOT}/package.py",), taken, ("-c", "import chipfire")):
-            answer = self.runs(*words)
-            self.assertEqual((answer.returncode, answer.stdout), (1, ""), words)
+            ran = self.runs(*words)
+            self.assertEqual((ran.returncode, ran.stdout), (1, ""), words)
             said = f"requires Python {self.required()}, and {sys.executable} is Python 3.8.18"
-            self.assertTrue(answer.stderr.splitlines()[-1].endswith(said), answer.stderr)
+            self.assertTrue(ran.stderr.splitlines()[-1].endswith(said), ran.stderr)
 
     def test_a_wheel_is_made_that_pip_can_refuse(self):
         room = made.room()
         make = f"import build_wheel; print(build_wheel.build_wheel({room!r}))"
-        answer = self.runs("-c", make)
-        self.assertEqual(answer.stdout, f"chipfire-{made.version()}-py3-none-any.whl\n", answer.stderr)
-        with zipfile.ZipFile(f"{room}/{answer.stdout.strip()}") as wheel:
+        ran = self.runs("-c", make)
+        self.assertEqual(ran.stdout, f"chipfire-{made.version()}-py3-none-any.whl\n", ran.stderr)
+        with zipfile.ZipFile(f"{room}/{ran.stdout.strip()}") as wheel:
             metadata = wheel.read(f"chipfire-{made.version()}.dist-info/METADATA").decode()
         self.assertIn(f"\nRequires-Python: {self.required()}\n", metadata)
 
@@ -376,9 +376,9 @@ class OldPython(made.Test):
         if not old:
             self.skipTest("there is no Python of version 3.7 or 3.8")
         room = made.virtual_environment(old[0])
-        answer = made.pip(room, "install", "--no-index", f"{made.home()}/python")
-        self.assertIn("Package 'chipfire' requires a different Python: ", answer.stderr)
-        self.assertNotIn("Traceback", answer.stdout + answer.stderr)
+        ran = made.pip(room, "install", "--no-index", f"{made.home()}/python")
+        self.assertIn("Package 'chipfire' requires a different Python: ", ran.stderr)
+        self.assertNotIn("Traceback", ran.stdout + ran.stderr)
 
     def test_it_understands_what_says_so(self):
         for name in self.STARTED:

@@ -87,9 +87,9 @@ def other():
     made.write(program, made.read(made.PROGRAM) + b"\0")
     os.chmod(program, 0o755)
     made.build(top, program)
-    answer = made.package(top)
-    if answer.returncode != 0:
-        raise AssertionError(answer.stderr)
+    ran = made.package(top)
+    if ran.returncode != 0:
+        raise AssertionError(ran.stderr)
     return top
 
 
@@ -99,17 +99,17 @@ class Checked(made.Test):
 
     def takes(self, path, top=None):
         """Checks that a file is taken, and returns what is said."""
-        answer = self.check(path, top)
-        self.assertEqual((answer.returncode, answer.stderr), (0, ""), path)
-        return answer.stdout
+        ran = self.check(path, top)
+        self.assertEqual((ran.returncode, ran.stderr), (0, ""), path)
+        return ran.stdout
 
     def refuses(self, path, why, top=None):
         """Checks that a file is refused, with one line that says why."""
-        answer = self.check(path, top)
-        self.assertEqual((answer.returncode, answer.stdout), (1, ""), path)
-        self.assertTrue(answer.stderr.startswith(f"package: {path}: "), answer.stderr)
-        self.assertIn(why, answer.stderr)
-        self.assertEqual(answer.stderr.count("\n"), 1, answer.stderr)
+        ran = self.check(path, top)
+        self.assertEqual((ran.returncode, ran.stdout), (1, ""), path)
+        self.assertTrue(ran.stderr.startswith(f"package: {path}: "), ran.stderr)
+        self.assertIn(why, ran.stderr)
+        self.assertEqual(ran.stderr.count("\n"), 1, ran.stderr)
 
 
 class Taken(Checked):

@@ -46,7 +46,7 @@ def current_pythons():
 
 
 def proved_crates():
-    """Returns the crates that program and libraries stand on, and their own, by the lines of crates.txt."""
+    """Returns the crates that program and libraries depend on, and their own, by the lines of crates.txt."""
     lines = made.read(f"{made.ROOT}/crates.txt").decode().splitlines()
     direct = {line.partition(":")[0].split()[0]: line.partition(":")[2].split() for line in lines if line[:1] not in ("", "#")}
     found, open_ones = set(), ["chipfire", "chip_exports"]
@@ -66,14 +66,14 @@ class Made(made.Test):
         self.assertEqual(set(os.listdir(f"{made.home()}/dist")), names)
 
     def test_the_same_bytes_each_time(self):
-        """By this Python, the oldest and the newest, and whatever dpkg-deb is told by the environment."""
+        """By this Python, the oldest and the newest, and whatever the environment says to dpkg-deb."""
         top = made.checkout()
         made.build(top)
         found = []
         for python in (sys.executable, *current_pythons()):
             surrounded = {"TZ": "Asia/Tokyo", "DPKG_DEB_COMPRESSOR_LEVEL": "1"} if found else {}
-            answer = made.package(top, python=python, **surrounded)
-            self.assertEqual(answer.returncode, 0, answer.stderr)
+            ran = made.package(top, python=python, **surrounded)
+            self.assertEqual(ran.returncode, 0, ran.stderr)
             found.append({name: made.read(f"{top}/dist/{name}") for name in os.listdir(f"{top}/dist")})
             made.write(f"{top}/dist/left over", b"")
             self.assertTrue(found[0] == found[-1], python)
@@ -127,7 +127,7 @@ class Made(made.Test):
                 shown = made.run(shell, "-c", line, cwd=made.home(), LC_ALL="en_US.UTF-8", check=True).stdout.split()[0]
                 self.assertIn(f"\n{word} sha256:{shown}\n", stated, line)
 
-    def test_sources_that_are_not_committed_are_told(self):
+    def test_sources_that_are_not_committed_are_reported(self):
         top = made.checkout()
         with open(f"{top}/crates/chip_graph/src/lib.rt", "a", encoding="utf-8") as file:
             file.write("// one line more\n")
@@ -181,9 +181,9 @@ class Compressed(made.Test):
 
 class NotMade(made.Test):
     def refuses(self, top, why):
-        answer = made.package(top)
-        self.assertEqual((answer.returncode, answer.stdout), (1, ""))
-        self.assertIn(why, answer.stderr)
+        ran = made.package(top)
+        self.assertEqual((ran.returncode, ran.stdout), (1, ""))
+        self.assertIn(why, ran.stderr)
         self.assertFalse(os.path.exists(f"{top}/dist"))
 
     def test_where_nothing_is_proved_and_no_kit_is_there(self):
@@ -226,7 +226,7 @@ class OneVersion(made.Test):
         self.assertRegex(changes, rf"(?s)\A(# chipfire [\d.]+ \(not yet released\)\n.*?\n)?# chipfire {name}, ")
 
     def test_it_stands_in_one_place(self):
-        """Beside the source that the program has it from, only the changes, the tests of what it prints and a release name it."""
+        """Only the source of the program, the changes, the tests of what it prints and a release have it."""
         version = re.compile(rb"(?<![\w.])%b(?![\w.])" % re.escape(made.version().encode()))
         files = [it for it in made.repository_files() if not it.startswith("release/")]
         having = {name for name in files if version.search(made.read(f"{made.ROOT}/{name}"))}

@@ -73,7 +73,7 @@ class Carried(made.Test):
         before = made.run("git", "rev-parse", "HEAD~1", cwd=released(), check=True).stdout
         self.assertIn(f"\ncommit {before}", made.read(f"{released()}/release/PROVED").decode())
 
-    def test_a_clone_answers_within_a_second_and_keeps_the_program(self):
+    def test_a_clone_runs_within_a_second_and_keeps_the_program(self):
         top = clone()
         triangle, begun = f"{top}/examples/triangle", seconds()
         asked = made.run(f"{top}/chipfire", "check", f"{triangle}/graph.json")
@@ -91,9 +91,9 @@ class Carried(made.Test):
         top = clone()
         change_sources(top)
         made.build(top)
-        answer = made.package(top, "--release", PATH=made.made_up_tools())
-        self.assertEqual((answer.returncode, answer.stdout), (1, ""))
-        self.assertIn("package: release: the sources are not those of a commit", answer.stderr)
+        ran = made.package(top, "--release", PATH=made.made_up_tools())
+        self.assertEqual((ran.returncode, ran.stdout), (1, ""))
+        self.assertIn("package: release: the sources are not those of a commit", ran.stderr)
 
 
 #: What a Python begins with that takes its system for another.
@@ -124,9 +124,9 @@ class Elsewhere(made.Test):
             tools = made.room()
             made.write(f"{tools}/uname", f"#!/bin/sh\necho {' '.join(system)}\n".encode())
             os.chmod(f"{tools}/uname", 0o755)
-            answer = made.run(f"{made.ROOT}/chipfire", "--take", PATH=f"{tools}:{made.PATH}")
-            self.assertEqual((answer.returncode, answer.stdout), (1, ""))
-            self.assertEqual(answer.stderr, f"chipfire: {self.said(*system)}\n")
+            ran = made.run(f"{made.ROOT}/chipfire", "--take", PATH=f"{tools}:{made.PATH}")
+            self.assertEqual((ran.returncode, ran.stdout), (1, ""))
+            self.assertEqual(ran.stderr, f"chipfire: {self.said(*system)}\n")
 
     def test_pip(self):
         """It asks build_wheel.py, as is done here: the wheel has no program, and says why."""
@@ -134,19 +134,19 @@ class Elsewhere(made.Test):
             room = made.room()
             build = f"import build_wheel; print(build_wheel.build_wheel({room!r}))"
             where = f"{self.python(*system)}:{made.ROOT}/python"
-            answer = made.run(sys.executable, "-c", build, PYTHONPATH=where, check=True)
-            self.assertEqual(answer.stdout, f"chipfire-{made.version()}-py3-none-any.whl\n")
+            ran = made.run(sys.executable, "-c", build, PYTHONPATH=where, check=True)
+            self.assertEqual(ran.stdout, f"chipfire-{made.version()}-py3-none-any.whl\n")
             because = "chipfire: the package has no program, since the one in release/ is not taken: "
-            self.assertEqual(answer.stderr, f"{because}{self.said(*system)}\n")
+            self.assertEqual(ran.stderr, f"{because}{self.said(*system)}\n")
 
     def test_the_first_import(self):
         """What needs no program works, and what needs one says the same; a clone is not searched."""
         ask = "import chipfire; print(chipfire.order(chipfire.grid(2, 2))); chipfire.check(chipfire.grid(2, 2))"
         for system in self.SYSTEMS:
             where = f"{self.python(*system)}:{made.ROOT}/python"
-            answer = made.run(sys.executable, "-c", ask, PYTHONPATH=where)
-            self.assertEqual(answer.stdout, "192\n", answer.stderr)
-            first, *_, last = answer.stderr.splitlines()
+            ran = made.run(sys.executable, "-c", ask, PYTHONPATH=where)
+            self.assertEqual(ran.stdout, "192\n", ran.stderr)
+            first, *_, last = ran.stderr.splitlines()
             self.assertIn(f"RuntimeWarning: chipfire has no program: {self.said(*system)}, which is graphs, ", first)
             self.assertTrue(last.endswith(f"ProgramNotFound: [Errno 2] the program is not found: {self.said(*system)}: 'chipfire'"))
 
@@ -161,8 +161,8 @@ class OnAarch64(made.Test):
         return made.run(sys.executable, f"{top}/tools/release.py", "--take", room, "", PYTHONPATH=place), room
 
     def test_the_starter_takes_them(self):
-        answer, room = self.takes(clone())
-        self.assertEqual((answer.returncode, answer.stdout), (0, ""), answer.stderr)
+        ran, room = self.takes(clone())
+        self.assertEqual((ran.returncode, ran.stdout), (0, ""), ran.stderr)
         self.assertTrue(made.read(f"{room}/chipfire") == made.read(made.PROGRAM) + bytes(1))
         for name in made.LIBRARIES:
             self.assertTrue(made.read(f"{room}/{name}") == made.read(made.library(name)) + bytes(1))
@@ -172,9 +172,9 @@ class OnAarch64(made.Test):
         top = clone()
         with open(f"{top}/tools/malloc.c", "a", encoding="utf-8") as file:
             file.write("/* one line more */\n")
-        answer, _ = self.takes(top)
-        self.assertEqual(answer.returncode, 1)
-        self.assertIn("is not taken: it has nothing for aarch64 that was made of these sources", answer.stderr)
+        ran, _ = self.takes(top)
+        self.assertEqual(ran.returncode, 1)
+        self.assertIn("is not taken: it has nothing for aarch64 that was made of these sources", ran.stderr)
 
     def test_pip_takes_them(self):
         top, place, room = clone(), made.room(), made.room()
@@ -263,9 +263,9 @@ class Packed(made.Test):
             top = clone()
             if not words:
                 change_sources(top)
-            answer = made.package(top, *words, PATH=made.made_up_tools())
-            self.assertEqual((answer.returncode, answer.stdout), (1, ""), words)
-            self.assertIn("chipfire: the program has to be proved and built first", answer.stderr)
+            ran = made.package(top, *words, PATH=made.made_up_tools())
+            self.assertEqual((ran.returncode, ran.stdout), (1, ""), words)
+            self.assertIn("chipfire: the program has to be proved and built first", ran.stderr)
 
     def test_a_release_of_another_program_needs_another_version(self):
         top = clone()
@@ -275,9 +275,9 @@ class Packed(made.Test):
         made.write(program, made.read(made.PROGRAM) + b"\0")
         os.chmod(program, 0o755)
         made.build(top, program)
-        answer = made.package(top, "--release", PATH=made.made_up_tools())
-        self.assertEqual((answer.returncode, answer.stdout), (1, ""))
-        self.assertRegex(answer.stderr, f"release: the release of commit [0-9a-f]{{12}} has version {made.version()}, and another")
+        ran = made.package(top, "--release", PATH=made.made_up_tools())
+        self.assertEqual((ran.returncode, ran.stdout), (1, ""))
+        self.assertRegex(ran.stderr, f"release: the release of commit [0-9a-f]{{12}} has version {made.version()}, and another")
         self.assertEqual(made.read(f"{top}/release/PROVED"), made.read(f"{released()}/release/PROVED"))
 
 
@@ -380,13 +380,13 @@ class Comparing(made.Test):
         surrounded = {"PATH": made.made_up_tools(), **more}
         return made.run(f"{top}/tools/release.py", "--compare", folder or built(), kit, **surrounded)
 
-    def goes_on(self, answer, *lines):
-        self.assertEqual((answer.returncode, answer.stderr), (0, ""))
-        self.assertRegex(answer.stdout, "".join([r"\A", *(rf"{line}\n" for line in lines), r"\Z"]))
+    def goes_on(self, ran, *lines):
+        self.assertEqual((ran.returncode, ran.stderr), (0, ""))
+        self.assertRegex(ran.stdout, "".join([r"\A", *(rf"{line}\n" for line in lines), r"\Z"]))
 
-    def fails(self, answer, line):
-        self.assertEqual((answer.returncode, answer.stdout), (1, ""))
-        self.assertRegex(answer.stderr, rf"\Achipfire: the program in release/ is refused: {line}\n\Z")
+    def fails(self, ran, line):
+        self.assertEqual((ran.returncode, ran.stdout), (1, ""))
+        self.assertRegex(ran.stderr, rf"\Achipfire: the program in release/ is refused: {line}\n\Z")
 
     def another(self, name):
         """Returns a folder with what was built, in which one file is another."""
@@ -405,14 +405,14 @@ class Compared(Comparing):
 
     def test_another_program_or_library_for_aarch64(self):
         for name, word in (("chipfire", "program"), *((it, it) for it in made.LIBRARIES)):
-            answer = self.compare(released(), self.another(f"aarch64/{name}"))
-            self.fails(answer, f"the same kit and gcc 1 .made up., made up made another aarch64-{word} here from the same sources")
+            ran = self.compare(released(), self.another(f"aarch64/{name}"))
+            self.fails(ran, f"the same kit and gcc 1 .made up., made up made another aarch64-{word} here from the same sources")
 
     def test_another_compiler_for_aarch64(self):
         path = made.made_up_tools(compiler="gcc 2")
-        answer = self.compare(released(), self.another("aarch64/chipfire"), PATH=path)
+        ran = self.compare(released(), self.another("aarch64/chipfire"), PATH=path)
         of_it = f"{PARTS[0]} in release/ was made by .*, and is not compared: here are {made.KIT} and gcc 2, made up."
-        self.goes_on(answer, ".*", of_it, ".*")
+        self.goes_on(ran, ".*", of_it, ".*")
 
     def test_another_program_or_library_of_the_same_kit(self):
         for name, word in (("chipfire", "program"), *((it, it) for it in made.LIBRARIES)):
@@ -420,10 +420,10 @@ class Compared(Comparing):
 
     def test_another_kit(self):
         for folder, made_here in ((None, "the same"), (self.another("chipfire"), "another program")):
-            answer = self.compare(released(), folder, "another kit")
+            ran = self.compare(released(), folder, "another kit")
             of_program = f"{made.KIT} built what is in release/, and another kit built {made_here} here."
             of_parts = (f"{it} in release/ was made by .*, and is not compared: .*" for it in PARTS)
-            self.goes_on(answer, of_program, *of_parts)
+            self.goes_on(ran, of_program, *of_parts)
 
     def test_a_library_is_missing(self):
         for name in made.LIBRARIES:
@@ -434,8 +434,8 @@ class Compared(Comparing):
     def test_other_sources(self):
         top = clone()
         change_sources(top)
-        answer = self.compare(top, self.another("chipfire"))
-        self.goes_on(answer, "release/ was built from other sources than these, at commit [0-9a-f]{12}.")
+        ran = self.compare(top, self.another("chipfire"))
+        self.goes_on(ran, "release/ was built from other sources than these, at commit [0-9a-f]{12}.")
 
     def test_a_byte_changed(self):
         for sources, machine in (("the same", "x86_64"), ("others", "x86_64"), ("others", "aarch64")):

@@ -61,14 +61,14 @@ class Browser:
             message["sessionId"] = self._session
         os.write(self._out, json.dumps(message).encode() + b"\0")
         while True:
-            told = self._told()
-            if told.get("id") == self._number:
-                if "error" in told:
-                    raise RuntimeError(f"{method}: {told['error']}")
-                return told["result"]
-            self.events.append(told)
+            reply = self._reply()
+            if reply.get("id") == self._number:
+                if "error" in reply:
+                    raise RuntimeError(f"{method}: {reply['error']}")
+                return reply["result"]
+            self.events.append(reply)
 
-    def _told(self):
+    def _reply(self):
         while b"\0" not in self._rest:
             more = os.read(self._in, 1 << 20)
             if not more:
@@ -93,10 +93,10 @@ class Browser:
 
     def value(self, expression):
         """The value of an expression in the page."""
-        told = self.ask("Runtime.evaluate", expression=expression, returnByValue=True, awaitPromise=True)
-        if "exceptionDetails" in told:
-            raise AssertionError(f"{expression}: {told['exceptionDetails']}")
-        return told["result"].get("value")
+        reply = self.ask("Runtime.evaluate", expression=expression, returnByValue=True, awaitPromise=True)
+        if "exceptionDetails" in reply:
+            raise AssertionError(f"{expression}: {reply['exceptionDetails']}")
+        return reply["result"].get("value")
 
     def press(self, key):
         """Presses a key, as on the keyboard."""
@@ -135,8 +135,8 @@ class Browser:
 
     def complaints(self):
         """What went wrong in the page: exceptions, errors on its console, and requests for anything but the page."""
-        told = [event for event in self.events if event.get("method") == "Runtime.exceptionThrown"]
+        complaints = [event for event in self.events if event.get("method") == "Runtime.exceptionThrown"]
         noted = [event for event in self.events if event.get("method") == "Log.entryAdded"]
-        told += [event for event in noted if event["params"]["entry"]["level"] == "error"]
+        complaints += [event for event in noted if event["params"]["entry"]["level"] == "error"]
         asked = [event for event in self.events if event.get("method") == "Network.requestWillBeSent"]
-        return told + [event for event in asked if not event["params"]["request"]["url"].startswith("file:")]
+        return complaints + [event for event in asked if not event["params"]["request"]["url"].startswith("file:")]

@@ -587,7 +587,7 @@ class RootReads(Core):
 
 
 class Snapshot(_Silent):
-    """An event in which the root reads all vertices, and nobody tells it anything."""
+    """An event in which the root reads all vertices, and gets nothing from anybody."""
 
     over = False
 

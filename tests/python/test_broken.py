@@ -20,7 +20,7 @@ from test_examples import SCRIPTS
 PAGES, SIDE, STEPS = 30, 4, 100_000
 #: What the process of the search reports to the root, which listens only then, and whether that has claimed.
 FORK = multiprocessing.get_context("fork")
-TOLD, CLAIMED = FORK.SimpleQueue(), FORK.Event()
+OUTCOMES, CLAIMED = FORK.SimpleQueue(), FORK.Event()
 NEVER = "it has no message left and is engaged"
 
 
@@ -85,7 +85,7 @@ def answered_twice_shared(me):
         yield message.content
         me.done()
         answer_by_hand(me, message, got)
-        TOLD.put("it has answered")
+        OUTCOMES.put("it has acknowledged")
         CLAIMED.wait()
         return
 
@@ -238,14 +238,14 @@ class Own:
 
     def get(self, *words):
         if self.left == 0:
-            TOLD.put("it has no message left" if self.me.books.parent is None else NEVER)
+            OUTCOMES.put("it has no message left" if self.me.books.parent is None else NEVER)
         self.left -= 1
         return self.inbox.get(*words)
 
 
 def wait(detector):
     """Waits, once the process has reported its state."""
-    never = TOLD.get() == NEVER
+    never = OUTCOMES.get() == NEVER
     try:
         detector.wait(0.01 if never else None)
     except TimeoutError:
@@ -270,7 +270,7 @@ class Queens(Broken):
                 search(me, *words)
             except chipfire.Fault as fault:
                 refusals.put(words_of(fault))
-                TOLD.put("it was refused")
+                OUTCOMES.put("it was refused")
 
         example.__dict__.update(said=said, search=caught, log=log, wait=wait)
         try:

@@ -137,11 +137,11 @@ class InBrowser(unittest.TestCase):
 
     def open(self, simulation, size=(1280, 720), is_phone=False):
         """Opens the page of a simulation, and returns the simulation that it shows."""
-        told = chipfire.lab.pages.spelled_out(simulation)
+        run = chipfire.lab.pages.spelled_out(simulation)
         self.browser.resize(*size, is_phone)
         chipfire.page(simulation, f"{self.folder}/run.html")
         self.browser.go(f"file://{self.folder}/run.html")
-        return told
+        return run
 
     def picture(self, name):
         """Leaves a picture for somebody to look at, if one is wanted."""
@@ -182,15 +182,15 @@ class EachEvent(InBrowser):
     def test_the_schedules_of_the_examples(self):
         for name in DETECTOR:
             with self.subTest(name):
-                told = self.open(detector(name))
-                books, core = books_of(told), opened(told.setting)
+                run = self.open(detector(name))
+                books, core = books_of(run), opened(run.setting)
                 self.shown(core, 0)
-                for step, (event, reply, lines) in enumerate(zip(told.schedule, told.replies, books), 1):
+                for step, (event, reply, lines) in enumerate(zip(run.schedule, run.replies, books), 1):
                     self.assertEqual(core.step(*event), str(reply))
                     self.browser.press("ArrowRight")
                     shown = self.shown(core, step)
-                    self.assertEqual(books_shown(shown, told.setting.graph), lines)
-                    self.assertEqual(shown["counter"], f"event {step} of {len(told.schedule)}")
+                    self.assertEqual(books_shown(shown, run.setting.graph), lines)
+                    self.assertEqual(shown["counter"], f"event {step} of {len(run.schedule)}")
                     self.assertEqual(bool(shown["marked"]), self.has_changed(event, reply))
                     if step == len(books) // 2:
                         self.picture(name)
@@ -204,13 +204,13 @@ class EachEvent(InBrowser):
         return reply.kind not in ("not-now", "empty", "full")
 
     def test_back_to_the_start(self):
-        told = self.open(detector("deficit"))
+        run = self.open(detector("deficit"))
         self.browser.press("End")
         self.assertEqual(self.browser.value(COUNTER), "event 32 of 32")
-        cores = [opened(told.setting)]
+        cores = [opened(run.setting)]
         for count in range(1, 33):
-            cores.append(opened(told.setting))
-            for event in told.schedule[:count]:
+            cores.append(opened(run.setting))
+            for event in run.schedule[:count]:
                 cores[-1].step(*event)
         for step in range(32, 0, -1):
             self.shown(cores[step], step)
@@ -220,14 +220,14 @@ class EachEvent(InBrowser):
     def test_a_recorded_run_on_a_grid(self):
         files = [f"{EXAMPLES}/grid/graph.json", f"{EXAMPLES}/grid/chips.csv"]
         chipfire.run(*files, workers=4, trace=f"{self.folder}/trace.csv", trace_rows=2**20)
-        told = self.open(chipfire.recorded(*files, f"{self.folder}/trace.csv"), size=(1920, 1080))
-        self.assertEqual(told.report, chipfire.Report.read(f"{EXAMPLES}/grid/report.json"))
-        books, core, looked = books_of(told), opened(told.setting), range(0, len(told.schedule) + 1, 500)
-        for step, event in enumerate(told.schedule, 1):
+        run = self.open(chipfire.recorded(*files, f"{self.folder}/trace.csv"), size=(1920, 1080))
+        self.assertEqual(run.report, chipfire.Report.read(f"{EXAMPLES}/grid/report.json"))
+        books, core, looked = books_of(run), opened(run.setting), range(0, len(run.schedule) + 1, 500)
+        for step, event in enumerate(run.schedule, 1):
             core.step(*event)
-            if step in looked or step == len(told.schedule):
+            if step in looked or step == len(run.schedule):
                 self.browser.value(f"goTo({step})")
-                self.assertEqual(books_shown(self.shown(core, step), told.setting.graph), books[step - 1])
+                self.assertEqual(books_shown(self.shown(core, step), run.setting.graph), books[step - 1])
                 if step == looked[len(looked) // 3]:
                     self.picture("grid")
         self.assertEqual(self.browser.complaints(), [])
@@ -385,8 +385,8 @@ class Choices(InBrowser):
         made = self.browser.value(f"document.querySelectorAll('#possible button')[{place}].click(), {self.NOW}")
         *_, reply = [core.step(*event) for event in events]
         kind, *numbers = reply.split()
-        told = words.reply(events[-1], chipfire.Reply(kind, tuple(map(int, numbers))))
-        self.assertEqual((made["event"], made["reply"]), (f"{done + len(events)}. {said[place]}", told))
+        reply = words.reply(events[-1], chipfire.Reply(kind, tuple(map(int, numbers))))
+        self.assertEqual((made["event"], made["reply"]), (f"{done + len(events)}. {said[place]}", reply))
         return done + len(events)
 
     def test_random_paths(self):
@@ -510,10 +510,10 @@ class Screens(InBrowser):
         self.browser.press("p")
         self.browser.press("ArrowRight")
         roles = ("button", "table", "slider", "listbox", "combobox", "image", "toolbar", "region")
-        told = [(role, name) for role, name in self.browser.names() if role in roles]
-        self.assertEqual([it for it in told if not re.search("[A-Za-z]{2}", it[1])], [])
+        named = [(role, name) for role, name in self.browser.names() if role in roles]
+        self.assertEqual([it for it in named if not re.search("[A-Za-z]{2}", it[1])], [])
         self.assertLessEqual({("table", "Root"), ("table", "Vertices"), ("table", "Edges"), ("button", "To the start"),
-                              ("button", "To the end"), ("button", "All keys")}, {*told})
+                              ("button", "To the end"), ("button", "All keys")}, {*named})
 
 
 class Legible(InBrowser):
@@ -693,10 +693,10 @@ class Legible(InBrowser):
             });
         }).length"""
         for graph in (chipfire.complete(6), chipfire.complete(7), chipfire.wheel(9), chipfire.torus(4, 4), chipfire.cycle(15)):
-            told = self.open(chipfire.simulate(graph, {1: 4 * len(graph.edges) // 3}, [], rounds=9, limit=2), (1400, 900))
+            run = self.open(chipfire.simulate(graph, {1: 4 * len(graph.edges) // 3}, [], rounds=9, limit=2), (1400, 900))
             self.assertGreater(len(graph.edges), 20)
             self.assertEqual(self.browser.value(through), [])
-            for step in range(0, len(told.schedule), 1 + len(told.schedule) // 40):
+            for step in range(0, len(run.schedule), 1 + len(run.schedule) // 40):
                 self.browser.value(f"goTo({step})")
                 self.assertEqual(self.browser.value(over), 0, step)
             self.picture(f"lines-{len(graph.edges)}")
@@ -723,10 +723,10 @@ class Legible(InBrowser):
             self.assertEqual(len(self.browser.value(boxes)), count, step)
 
     def test_the_diagram_of_a_large_graph_shows_the_parts_of_the_window(self):
-        told = self.open(chipfire.simulate(chipfire.grid(8, 8), {27: 40}, [], rounds=100), (1400, 900))
+        run = self.open(chipfire.simulate(chipfire.grid(8, 8), {27: 40}, [], rounds=100), (1400, 900))
         self.browser.press("d")
         parts = "[...document.querySelectorAll('#diagram .life')].length"
-        for step in range(0, len(told.schedule), 40):
+        for step in range(0, len(run.schedule), 40):
             self.browser.value(f"goTo({step})")
             self.assertLessEqual(self.browser.value(parts), 20)
             self.assertGreaterEqual(self.browser.value(self.LETTERS)[0], 9, step)
@@ -767,7 +767,7 @@ class Lessons(InBrowser):
         score = "Right: 1 of 2; forbidden: 0 of 1; why: 1 of 1"
         event = "9. Vertex 0 tries to acknowledge to the root (edge 4)."
         self.says(event, f"Right: it waits for acknowledgements. {refused}", score, 9)
-        # Whoever asks once more goes on without an answer; a second answer to the same event counts no more.
+        # Whoever asks once more goes on without an answer; a second answer to the same event does not count.
         self.browser.press("ArrowRight")
         self.browser.press("ArrowRight")
         self.assertEqual(self.browser.value(f"{SCORE} + {AT}"), f"{score}10")
@@ -784,14 +784,14 @@ class Lessons(InBrowser):
         self.assertEqual(self.browser.complaints(), [])
 
     def test_predicting_acknowledgements_alone(self):
-        told = self.open(detector("deficit"))
+        run = self.open(detector("deficit"))
         self.browser.press("p")
         self.browser.press("a")
         asked = []
-        for _ in range(2 * len(told.schedule)):
+        for _ in range(2 * len(run.schedule)):
             self.browser.press("ArrowRight")
             asked.append(self.browser.value("asked"))
-        acks = [step for step, event in enumerate(told.schedule, 1) if event.kind == "ack"]
+        acks = [step for step, event in enumerate(run.schedule, 1) if event.kind == "ack"]
         self.assertEqual([step for step in asked if step], acks)
 
     def test_predicting_what_a_wrong_detector_does(self):
@@ -874,7 +874,7 @@ class Lessons(InBrowser):
                                       "sink 2). Nothing was done.")])
 
     def test_the_space_time_diagram(self):
-        told = self.open(detector("deficit"))
+        run = self.open(detector("deficit"))
         self.browser.press("d")
         for step in (0, 14, 32):
             self.browser.value(f"goTo({step})")
@@ -883,9 +883,9 @@ class Lessons(InBrowser):
             self.picture(f"diagram-{step}")
         # All messages, acknowledgements and spells of engagement, found once more from the replies.
         story = self.browser.value("story")
-        core, messages, answers, bands, engaged = opened(told.setting), [[4, 0, 1]], [], [], {}
+        core, messages, acks, bands, engaged = opened(run.setting), [[4, 0, 1]], [], [], {}
         cells, given = {4: [messages[0]]}, {}
-        for step, event in enumerate(told.schedule, 1):
+        for step, event in enumerate(run.schedule, 1):
             before = [vertex.parent for vertex in core.vertices]
             reply = core.step(*event)
             if event.kind == "put":
@@ -894,11 +894,11 @@ class Lessons(InBrowser):
             elif event.kind == "take" and reply.startswith("got"):
                 cells[event.at].pop(0)[2] = step
             elif event.kind == "ack" and reply.startswith("done"):
-                answers.append([event.at, step, None])
-                given.setdefault(event.at, []).append(answers[-1])
+                acks.append([event.at, step, None])
+                given.setdefault(event.at, []).append(acks[-1])
             elif event.kind == "settle":
-                for answer in given.pop(event.at, []):
-                    answer[2] = step
+                for ack in given.pop(event.at, []):
+                    ack[2] = step
             for vertex, was in enumerate(before):
                 now = core.vertices[vertex].parent
                 if was is None and now is not None:
@@ -906,7 +906,7 @@ class Lessons(InBrowser):
                     bands.append(engaged[vertex])
                 elif was is not None and now is None:
                     engaged[vertex][2] = step
-        for kind, key, wanted in [("messages", "edge", messages), ("answers", "edge", answers), ("bands", "vertex", bands)]:
+        for kind, key, wanted in [("messages", "edge", messages), ("answers", "edge", acks), ("bands", "vertex", bands)]:
             self.assertEqual([[it[key], it["from"], it.get("to")] for it in story[kind]], wanted)
         self.browser.value("goTo(31)")
         self.browser.value("document.querySelector('[data-step=\"29\"]').dispatchEvent(new Event('click', {bubbles: true}))")
@@ -953,16 +953,16 @@ class Lessons(InBrowser):
         runs["cycle"] = chipfire.simulate(chipfire.cycle(6), {2: 3, 4: 2}, [], rounds=100)
         runs["names"] = chipfire.simulate(names, {"Ann": 6, "Bob": 3}, [], rounds=100)
         for name, simulation in runs.items():
-            told = self.open(simulation, size=(1280, 900))
-            for step in range(len(told.schedule) + 1):
+            run = self.open(simulation, size=(1280, 900))
+            for step in range(len(run.schedule) + 1):
                 self.browser.value(f"goTo({step})")
                 self.assertEqual(self.browser.value(OVERLAPS), [], (name, step))
 
     def test_the_edges_of_the_root_lead_round_vertices(self):
         # On a path whose vertices stand below each other the root's edge to the last would lead through all others.
         graph = chipfire.Graph(4, 3, ((0, 1), (1, 2), (2, 3)))
-        told = chipfire.simulate(graph, {2: 1}, [])
-        chipfire.page(told, f"{self.folder}/run.html", positions={vertex: (0, vertex) for vertex in range(4)})
+        run = chipfire.simulate(graph, {2: 1}, [])
+        chipfire.page(run, f"{self.folder}/run.html", positions={vertex: (0, vertex) for vertex in range(4)})
         self.browser.go(f"file://{self.folder}/run.html")
         near = """(() => {
             const line = document.querySelector(".edge.of-root .line");

@@ -231,11 +231,11 @@ class Written(unittest.TestCase):
     def test_a_page_of_each_computation_and_detector(self):
         for game in (FIRING, *(games[-1] for games in GAMES.values())):
             for name in ("right", "safra", "credit"):
-                told = chipfire.play(game, chipfire.random_schedule(game, 2, name), name)
-                self.assertEqual((told.root_closed, told.left), (True, ()))
-                text = self.page(lambda file, told=told: chipfire.page(told, file))
+                run = chipfire.play(game, chipfire.random_schedule(game, 2, name), name)
+                self.assertEqual((run.root_closed, run.left), (True, ()))
+                text = self.page(lambda file, run=run: chipfire.page(run, file))
                 data = self.data(text)
-                self.assertEqual(len(data["steps"]), len(told.schedule))
+                self.assertEqual(len(data["steps"]), len(run.schedule))
                 self.assertEqual(data["end"], {"text": "The root is closed: all is over.", "isWrong": False})
                 self.assertIn("Nothing on this page is proved", text)
                 self.assertEqual("own" in data["start"]["root"][0], name != "right")
@@ -297,13 +297,13 @@ class Written(unittest.TestCase):
 
     def test_nobody_is_asked_of_an_acknowledgement_where_there_are_none(self):
         for detector, count in (("right", 1), ("safra", 0)):
-            told = chipfire.play(FIRING, [("take", 4), ("ack", 4)], detector)
-            data = self.data(self.page(lambda file: chipfire.page(told, file)))
+            run = chipfire.play(FIRING, [("take", 4), ("ack", 4)], detector)
+            data = self.data(self.page(lambda file: chipfire.page(run, file)))
             self.assertEqual(sum("yes" in step for step in data["steps"] if step["kind"] == "ack"), count)
 
     def test_states_and_loads_are_on_the_page(self):
-        told = chipfire.play(GAMES["shortest paths"][0], [("take", 4), ("put", 0)])
-        data = self.data(self.page(lambda file: chipfire.page(told, file)))
+        run = chipfire.play(GAMES["shortest paths"][0], [("take", 4), ("put", 0)])
+        data = self.data(self.page(lambda file: chipfire.page(run, file)))
         taken = [change[:4] for change in data["steps"][0]["changes"]]
         self.assertIn(["vertices", 0, "chips", "0"], taken)
         self.assertIn(["edges", 0, "claimed", "3"], taken)
@@ -312,8 +312,8 @@ class Written(unittest.TestCase):
 
     def test_a_message_that_carries_0_is_claimed(self):
         # Vertex 0 claims one on each of its edges, and puts that of edge 0.
-        told = chipfire.play(GAMES["flooding"][0], [("take", 4), ("put", 0)])
-        data = self.data(self.page(lambda file: chipfire.page(told, file)))
+        run = chipfire.play(GAMES["flooding"][0], [("take", 4), ("put", 0)])
+        data = self.data(self.page(lambda file: chipfire.page(run, file)))
         said = [[data["words"][word] for *_, word in step["changes"]] for step in data["steps"]]
         self.assertEqual([it for it in said[0] if "claimed" in it],
                          ["edge 0: 0 claimed and not put", "edge 1: 0 claimed and not put"])

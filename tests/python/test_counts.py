@@ -35,9 +35,9 @@ class Verify(unittest.TestCase):
         counts = ([2, 1, 0], [2, 1], {0: 2, 1: 1}, report.odometer, [2.0, 1.0])
         forms = (report, f"{EXAMPLES}/triangle/report.json", *counts)
         for graph, chips in itertools.product((TRIANGLE, TRIANGLE_FILE), ([4, 0, 0], {0: 4}, CHIPS_FILE)):
-            for told in forms:
-                self.assertIs(chipfire.verify(graph, chips, told), True)
-                self.assertIs(chipfire.verify(graph, {0: 5}, told), False)
+            for claim in forms:
+                self.assertIs(chipfire.verify(graph, chips, claim), True)
+                self.assertIs(chipfire.verify(graph, {0: 5}, claim), False)
         self.assertTrue(chipfire.Program().verify(TRIANGLE, CHIPS_FILE, report, progress=True))
 
     def test_counts_are_verified_where_the_slow_player_has_them(self):
@@ -57,9 +57,9 @@ class Verify(unittest.TestCase):
         self.assertTrue(chipfire.verify(TRIANGLE, [5, 0, 0], report.fired, limit=2))
         for limit in (None, 1, 3):
             self.assertFalse(chipfire.verify(TRIANGLE, [5, 0, 0], report, limit=limit))
-        for told in (chipfire.Report((2, 0, 3), (2, 1, 0)), chipfire.Report((1, 1, 3), (2, 1, 0), (0,)),
+        for claim in (chipfire.Report((2, 0, 3), (2, 1, 0)), chipfire.Report((1, 1, 3), (2, 1, 0), (0,)),
                      chipfire.Report((2, 0, 3), (2, 1, 0), (), (0,))):
-            self.assertFalse(chipfire.verify(TRIANGLE, [5, 0, 0], told, limit=2))
+            self.assertFalse(chipfire.verify(TRIANGLE, [5, 0, 0], claim, limit=2))
 
     def test_stages_are_verified_together(self):
         last = chipfire.resume(TRIANGLE, chipfire.plain(TRIANGLE, [5, 0, 0], limit=1))
@@ -69,9 +69,9 @@ class Verify(unittest.TestCase):
 
     def test_what_can_be_no_report_of_the_graph_is_refused(self):
         other = chipfire.plain(chipfire.path(5), 1)
-        for told in (other, [1], [1, 2, 3, 4], [0.5, 0, 0], "no such file"):
+        for claim in (other, [1], [1, 2, 3, 4], [0.5, 0, 0], "no such file"):
             with self.assertRaises((ValueError, TypeError, OSError)):
-                chipfire.verify(TRIANGLE, [5, 0, 0], told)
+                chipfire.verify(TRIANGLE, [5, 0, 0], claim)
 
     @unittest.skipUnless(has("numpy"), "NumPy is not here")
     def test_arrays_of_numpy(self):

@@ -103,9 +103,9 @@ class Rules(unittest.TestCase):
         detector["a"].send("b")
         detector["a"].done()
         for raised in (lambda: detector["a"].send("b"), lambda: detector.wait(PATIENCE)):
-            with self.assertRaises(chipfire.Fault) as told:
+            with self.assertRaises(chipfire.Fault) as raised_fault:
                 raised()
-            self.assertEqual((told.exception.number, told.exception.place), (32, (1,)))
+            self.assertEqual((raised_fault.exception.number, raised_fault.exception.place), (32, (1,)))
         self.played(detector)
 
     def test_what_is_refused(self):

@@ -50,8 +50,8 @@ class Sections(unittest.TestCase):
             sections = documented(name)[1]
             self.assertLessEqual({"Notes", "Examples", "See Also"}, {*sections}, name)
             said = "Nothing of this is proved" in sections["Notes"]
-            told = re.search(r"^Proved: [^\0]*Not\s+proved: ", sections["Notes"], re.MULTILINE)
-            self.assertNotEqual(said, bool(told), name)
+            has_both = re.search(r"^Proved: [^\0]*Not\s+proved: ", sections["Notes"], re.MULTILINE)
+            self.assertNotEqual(said, bool(has_both), name)
 
     def test_each_function_has_its_parameters_and_what_it_returns_and_raises(self):
         for name in NAMES:
@@ -92,9 +92,9 @@ class Examples(unittest.TestCase):
             if name in WANTED and not has(WANTED[name]):
                 continue
             text = inspect.getdoc(getattr(chipfire, name))
-            told = []
-            found = runner.run(parser.get_doctest(text, {"chipfire": chipfire}, name, None, 0), out=told.append)
-            self.assertEqual((found.failed, "".join(told)), (0, ""), name)
+            output = []
+            found = runner.run(parser.get_doctest(text, {"chipfire": chipfire}, name, None, 0), out=output.append)
+            self.assertEqual((found.failed, "".join(output)), (0, ""), name)
             self.assertTrue(found.attempted or name == "from_sage", name)
 
 

@@ -64,11 +64,11 @@ class Recurrent(unittest.TestCase):
                     self.assertEqual(chipfire.random_recurrent(graph, seed, 12), found)
 
     def test_progress_and_parts(self):
-        grid, told = chipfire.grid(5, 4), []
+        grid, reports = chipfire.grid(5, 4), []
         whole = chipfire.random_recurrent(grid, 9, 10)
         with mock.patch("chipfire.ensembles.wilson._PART", 3 * grid.vertices):
-            parts = chipfire.random_recurrent(grid, 9, 10, progress=lambda done, all_: told.append((done, all_)))
-        self.assertEqual((parts, told[0], told[-1], told), (whole, (3, 10), (10, 10), sorted(told)))
+            parts = chipfire.random_recurrent(grid, 9, 10, progress=lambda done, all_: reports.append((done, all_)))
+        self.assertEqual((parts, reports[0], reports[-1], reports), (whole, (3, 10), (10, 10), sorted(reports)))
 
     def test_a_configuration_of_a_number_is_the_same_beside_others(self):
         grid = chipfire.grid(5, 4)
@@ -127,10 +127,10 @@ class Chains(unittest.TestCase):
 
     def test_the_seed_is_reported_from_which_all_is_played_again(self):
         grid = chipfire.grid(7, 5)
-        for seed, told in [(3, 3), ("3", "3"), (None, None), (3.0, 3), (2.5, 2.5), (b"3", b"3"),
+        for seed, wanted in [(3, 3), ("3", "3"), (None, None), (3.0, 3), (2.5, 2.5), (b"3", b"3"),
                            (bytearray(b"3"), b"3"), (True, 1), (-3, -3)]:
             found = chipfire.chains(grid, 3, 40, seed)
-            self.assertTrue(seed is None or (type(found.seed), found.seed) == (type(told), told), seed)
+            self.assertTrue(seed is None or (type(found.seed), found.seed) == (type(wanted), wanted), seed)
             again = chipfire.chains(grid, 3, 40, found.seed)
             for one, other in [(found, again), (found, pickle.loads(pickle.dumps(found))), (found, copy.copy(found))]:
                 self.assertEqual((one.seed, one.seeds, repr(one)), (other.seed, other.seeds, repr(other)))

@@ -63,7 +63,7 @@ class Scripts(unittest.TestCase):
         self.assertEqual(colours, [position[side * row : side * row + side] for row in range(side)])
         self.assertEqual(said, f"{file_name}: {side} by {side}, {firings} firings, {position[-1]} chips lost\n")
 
-    def test_a_picture_tells_how_it_is_asked_for(self):
+    def test_a_picture_says_how_it_is_asked_for(self):
         for words, said in [([], "usage: picture.py"), (["0", "9", "a.png"], "the width is below 1: 0"),
                             (["9", "-9", "a.png"], "below 0: -9"), (["9", "9", "a.xyz"], ".xyz")]:
             words = [sys.executable, f"{SCRIPTS}/picture.py", *words]
@@ -95,9 +95,9 @@ class Scripts(unittest.TestCase):
     def test_the_session_of_the_readme(self):
         with open(f"{SCRIPTS}/README.md", encoding="utf-8") as file:
             sessions = doctest.DocTestParser().get_doctest(file.read().replace("```", ""), {}, "README.md", None, 0)
-        told = []
-        failed, tried = doctest.DocTestRunner(verbose=False).run(sessions, out=told.append)
-        self.assertEqual((failed, tried > 5), (0, True), "".join(told))
+        output = []
+        failed, tried = doctest.DocTestRunner(verbose=False).run(sessions, out=output.append)
+        self.assertEqual((failed, tried > 5), (0, True), "".join(output))
 
 
 if __name__ == "__main__":

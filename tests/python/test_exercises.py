@@ -33,8 +33,8 @@ class Exercises(unittest.TestCase):
         with tempfile.NamedTemporaryFile("w", suffix=".csv") as chips:
             chips.write("vertex,chips\n0,4\n")
             chips.flush()
-            told = explore("answers.py:OneByOne", [f"{EXAMPLES}/detector/two-edges.json", chips.name])
-        self.assertEqual((told[0], re.search("[0-9]+ states", told[1])[0]), (0, "516 states"))
+            found = explore("answers.py:OneByOne", [f"{EXAMPLES}/detector/two-edges.json", chips.name])
+        self.assertEqual((found[0], re.search("[0-9]+ states", found[1])[0]), (0, "516 states"))
 
     def test_no_class_is_left_out(self):
         for file in ("given.py", "answers.py"):

@@ -308,14 +308,14 @@ class Knowledge(unittest.TestCase):
     def test_a_claim_by_hand(self):
         # Process 1 reports to process 2 that it is passive, and process 0 sent to it and claims.
         sent = [(0, "active", 0), (0, "send", 0), (0, "passive", 0), (1, "receive", 0)]
-        told = [(1, "passive", 0), (1, "tell", 1), (0, "hear", 1)]
+        reports = [(1, "passive", 0), (1, "tell", 1), (0, "hear", 1)]
         claim = (0, "over", 0)
-        self.assertIsNone(locality.unknown([*sent, *told, claim]))
+        self.assertIsNone(locality.unknown([*sent, *reports, claim]))
         self.assertEqual(locality.unknown([*sent, claim]), (1, "took a message of edge 0"))
-        self.assertEqual(locality.unknown([*sent, *told[:2], claim, told[2]]), (1, "took a message of edge 0"))
-        late = [*sent, told[1], told[0], told[2], claim]
+        self.assertEqual(locality.unknown([*sent, *reports[:2], claim, reports[2]]), (1, "took a message of edge 0"))
+        late = [*sent, reports[1], reports[0], reports[2], claim]
         self.assertEqual(locality.unknown(late), (1, "became passive"))
-        self.assertIsNone(locality.unknown([*sent, *told]))
+        self.assertIsNone(locality.unknown([*sent, *reports]))
 
     def test_what_is_said(self):
         found = chipfire.explore(PAIR, students.RootReads)
@@ -406,10 +406,10 @@ class AtTheShell(unittest.TestCase):
             PAIR.graph.write(game[0])
             chipfire.write_chips(game[1], PAIR.graph, PAIR.chips)
             for name, status in (("NoDeficit", 2), ("ThreeInARow", 3), ("RootReads", 5), ("Plain", 0)):
-                told, text, _ = self.asked(f"{file}:{name}", *game)
-                self.assertEqual((told, "event,at,count\n" in text), (status, status != 0), text)
-            told, text, said = self.asked(f"{file}:TakesChips", *game)
-            self.assertEqual((told, text), (1, "event,at,count\ntake,2,0\n"))
+                ended, text, _ = self.asked(f"{file}:{name}", *game)
+                self.assertEqual((ended, "event,at,count\n" in text), (status, status != 0), text)
+            status, text, said = self.asked(f"{file}:TakesChips", *game)
+            self.assertEqual((status, text), (1, "event,at,count\ntake,2,0\n"))
             self.assertIn("it changes chips of vertex 0", said)
             self.assertIn("with each send as one step", self.asked(f"{file}:Plain", *game, "--whole-sends")[1])
 
@@ -418,16 +418,17 @@ class AtTheShell(unittest.TestCase):
         with open(f"{root}/docs/tasks/explore-your-own.md", encoding="utf-8") as page:
             rows = re.findall(r"^\| ([0-9]) \| (.*?) \|", page.read(), re.MULTILINE)
         _, text, _ = self.asked("--help")
-        told = " ".join(text.split())
+        shown = " ".join(text.split())
         for number, words in rows:
             if number != "1":  # (an error is 1 of each command)
-                self.assertIn(f"{number} {HELP[number][0]}", told)
+                self.assertIn(f"{number} {HELP[number][0]}", shown)
                 self.assertIn(HELP[number][1], words)
         self.assertEqual({number for number, _ in rows}, {*HELP, "1"})
 
     def test_a_file_without_a_class(self):
-        told, _, said = self.asked("mine.py")
-        self.assertEqual((told, said), (1, "chipfire: mine.py is a file, and a detector is a class in it: mine.py:CLASS\n"))
+        status, _, said = self.asked("mine.py")
+        line = "chipfire: mine.py is a file, and a detector is a class in it: mine.py:CLASS\n"
+        self.assertEqual((status, said), (1, line))
 
 
 if __name__ == "__main__":

@@ -29,10 +29,10 @@ OTHER = 54321
 #: What is asked of the package; the last line is what it finds.
 ASK = """
 import json, warnings
-with warnings.catch_warnings(record=True) as told:
+with warnings.catch_warnings(record=True) as caught:
     warnings.simplefilter("always")
     import chipfire
-    found = {"imported": [str(it.message) for it in told]}
+    found = {"imported": [str(it.message) for it in caught]}
     for name, call in [
         ("program", chipfire.find_program), ("library", chipfire.find_library),
         ("fired", lambda: chipfire.plain(chipfire.path(1), [3]).fired),
@@ -42,7 +42,7 @@ with warnings.catch_warnings(record=True) as told:
             found[name] = call()
         except FileNotFoundError as error:
             found[name], found["why"] = None, str(error)
-    found["told"] = [str(it.message) for it in told]
+    found["warned"] = [str(it.message) for it in caught]
 print(json.dumps(found))
 """
 #: A library that leaves a file when it is loaded.
@@ -94,7 +94,7 @@ class Places(WithFolder):
                 file.write("release\n")
         return top
 
-    def installed(self, python, name="site", **told):
+    def installed(self, python, name="site", **contents):
         """A folder with the package as pip installs it from a folder, without a program."""
         site = self.file(name)
         shutil.copytree(f"{ROOT}/python/chipfire", f"{site}/chipfire", ignore=shutil.ignore_patterns("__pycache__"))
@@ -104,7 +104,7 @@ class Places(WithFolder):
         os.mkdir(f"{site}/chipfire-{version}.dist-info")
         url = "file://" + python.replace("%", "%25").replace(" ", "%20")
         with open(f"{site}/chipfire-{version}.dist-info/direct_url.json", "w", encoding="ascii") as file:
-            json.dump(told or {"dir_info": {}, "url": url}, file)
+            json.dump(contents or {"dir_info": {}, "url": url}, file)
         return site
 
     def asked(self, package, path="/nowhere", user=None, here=None, python=sys.executable):
@@ -156,7 +156,7 @@ class Clones(Places):
         for package in (f"{top}/python", self.installed(f"{top}/python")):
             found = self.asked(package)
             self.assertEqual((found["library"], found["fired"]), (f"{top}/target/libchipfire.so", [1, 0]), found)
-            self.assertEqual(found["told"], [])
+            self.assertEqual(found["warned"], [])
 
     def test_one_that_others_may_change_is_not_used_and_its_library_not_loaded(self):
         spoiled_ones = [("", False), ("", True), ("target", False), ("target/chipfire", False)]
@@ -191,7 +191,7 @@ class Clones(Places):
             found = self.asked(package)
             self.assertEqual((found["library"], found["loaded"], found["fired"]), (None, False, [1, 0]), found)
             slower = "each call starts the program, slower"
-            self.assertEqual(found["told"], [
+            self.assertEqual(found["warned"], [
                 f"{library} is not loaded, since {library} can be written by everybody: {slower}"])
 
     def test_a_folder_above_it_may_be_everybody_s_if_it_is_sticky(self):
@@ -257,11 +257,11 @@ class Clones(Places):
     def test_what_pip_was_named_otherwise_is_none(self):
         top = self.clone()
         url = f"file://{top}/python"
-        for number, told in enumerate([
+        for number, contents in enumerate([
             {"url": url, "vcs_info": {"vcs": "git", "commit_id": "0"}}, {"url": url, "archive_info": {}},
         ]):
-            with self.subTest(told):
-                self.finds_none("it neither lies in a clone", self.installed("", f"site{number}", **told))
+            with self.subTest(contents):
+                self.finds_none("it neither lies in a clone", self.installed("", f"site{number}", **contents))
 
     def test_what_stands_in_direct_url(self):
         good = {"dir_info": {}, "url": "file:///a%20b/%c3%a9/python"}
@@ -275,8 +275,8 @@ class Clones(Places):
         ]:
             with self.subTest(changed):
                 self.assertEqual(finding._folder_of({**good, **changed}), folder)
-        for told in ([], None, "file:///a", 3, {"url": "file:///a"}, {"dir_info": {}}):
-            self.assertIsNone(finding._folder_of(told))
+        for contents in ([], None, "file:///a", 3, {"url": "file:///a"}, {"dir_info": {}}):
+            self.assertIsNone(finding._folder_of(contents))
 
     def test_a_direct_url_that_is_no_json_counts_for_nothing(self):
         top = self.clone()
@@ -370,11 +370,11 @@ class Without(Places):
         return subprocess.run([sys.executable, *words, "-c", code], env=given, capture_output=True, encoding="utf-8")
 
     def test_the_first_import_says_so_once(self):
-        told = self.runs("import chipfire\nimport chipfire, chipfire.library\nfrom chipfire import grid").stderr
-        self.assertTrue(told.startswith("<string>:1: RuntimeWarning: chipfire has no program: "), told)
-        self.assertEqual(told.count("Warning"), 1)
+        warned = self.runs("import chipfire\nimport chipfire, chipfire.library\nfrom chipfire import grid").stderr
+        self.assertTrue(warned.startswith("<string>:1: RuntimeWarning: chipfire has no program: "), warned)
+        self.assertEqual(warned.count("Warning"), 1)
         for said in ("the package carries none", "none is on the PATH", "work without it", "CHIPFIRE", "./chipfire"):
-            self.assertIn(said, told)
+            self.assertIn(said, warned)
 
     def test_the_warning_can_be_turned_off(self):
         ran = self.runs("import chipfire", "-W", "ignore:chipfire has no program:RuntimeWarning")
@@ -389,8 +389,8 @@ class Without(Places):
         os.mkdir(self.file("release/release"))
         with open(self.file("release/release/PROVED"), "w", encoding="ascii"):
             pass
-        told = self.runs("import chipfire", package=site).stderr
-        self.assertIn("carries none, since the one in release/ was not taken: it is for another system; the clone", told)
+        warned = self.runs("import chipfire", package=site).stderr
+        self.assertIn("carries none, since the one in release/ was not taken: it is for another system; the clone", warned)
         self.assertFalse(os.path.exists(f"{self.file('here')}/started"))
 
     def test_nothing_is_said_if_there_is_one(self):

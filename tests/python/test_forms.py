@@ -392,31 +392,31 @@ class Table(unittest.TestCase):
     def setUp(self):
         warnings.simplefilter("ignore", PendingDeprecationWarning)  # (of matrices of NumPy, as they are made)
 
-    def check(self, call, form, wanted, told):
+    def check(self, call, form, wanted, outcome):
         """Gives a form to a function, which returns what is wanted or refuses it with one sentence of ours."""
         with warnings.catch_warnings():
             warnings.simplefilter("error")
-            if not isinstance(told, str):
+            if not isinstance(outcome, str):
                 self.assertEqual(call(form), wanted)
                 return
             with self.assertRaises((TypeError, ValueError, KeyError)) as raised:
                 call(form)
         said = str(raised.exception)
-        self.assertIn(told, said)
+        self.assertIn(outcome, said)
         self.assertFalse("\n" in said or any(it in said for it in BARE), said)
 
     @unittest.skipUnless(chipfire.find_library(), "the program would be started for each")
     def test_each_form_of_chips_at_each_function(self):
-        for (name, make, told), (function, call) in ((form, it) for form in forms() for it in OF_CHIPS.items()):
+        for (name, make, outcome), (function, call) in ((form, it) for form in forms() for it in OF_CHIPS.items()):
             with self.subTest(form=name, function=function):
-                is_plain = not isinstance(told, str)
-                numbers = [*told, 0][:7] if is_plain and len(told) < 7 else told
-                self.check(call, make(), call(numbers) if is_plain else None, told)
+                is_plain = not isinstance(outcome, str)
+                numbers = [*outcome, 0][:7] if is_plain and len(outcome) < 7 else outcome
+                self.check(call, make(), call(numbers) if is_plain else None, outcome)
 
     @unittest.skipUnless(chipfire.find_library(), "some forms are results of the library")
     def test_forms_that_look_like_rows_of_one_square(self):
-        for name, make, told in forms():
-            is_other = not isinstance(told, str) or "another graph" in told or "vertices" in told
+        for name, make, outcome in forms():
+            is_other = not isinstance(outcome, str) or "another graph" in outcome or "vertices" in outcome
             if is_other or name in ("sets", "dicts"):
                 continue
             with self.subTest(form=name), self.assertRaises((TypeError, ValueError, KeyError)):
@@ -426,16 +426,16 @@ class Table(unittest.TestCase):
                 TALL.chips(wrong)
 
     def test_what_is_no_graph_at_each_function(self):
-        for given, told in no_graphs():
+        for given, outcome in no_graphs():
             for function, call in OF_GRAPHS.items():
-                with self.subTest(form=told, function=function):
-                    self.check(call, given, None, told)
+                with self.subTest(form=outcome, function=function):
+                    self.check(call, given, None, outcome)
 
     def test_each_form_of_edges(self):
-        for edges, told in triangle_edges():
-            with self.subTest(type(edges), told=told):
-                wanted = None if isinstance(told, str) else [("a", "b", 1), ("b", "c", told), ("c", "s", 1)]
-                self.check(self.undirected, edges, wanted, told)
+        for edges, outcome in triangle_edges():
+            with self.subTest(type(edges), outcome=outcome):
+                wanted = None if isinstance(outcome, str) else [("a", "b", 1), ("b", "c", outcome), ("c", "s", 1)]
+                self.check(self.undirected, edges, wanted, outcome)
         with self.assertRaisesRegex(ValueError, "edge 0 is neither"):
             chipfire.Graph(3, 0, [{1, 0}])
 
@@ -449,9 +449,9 @@ class Table(unittest.TestCase):
             lambda it: chipfire.Pile(GRID, 3).drops(it).size.tolist(),
         ):
             wanted = call([0, 1, 1, 4])
-            for form, told in values_in_order():
-                with self.subTest(type(form), told=told):
-                    self.check(call, form, wanted, told or None)
+            for form, outcome in values_in_order():
+                with self.subTest(type(form), outcome=outcome):
+                    self.check(call, form, wanted, outcome or None)
 
     def undirected(self, edges):
         """The edges of the graph, each once, by names."""
@@ -472,7 +472,7 @@ class Table(unittest.TestCase):
         self.assertEqual(chipfire.Graph(1, 0, numpy.zeros((0, 3), "i8")), chipfire.Graph(1, 0, []))
         self.assertEqual(wanted.long_columns, chipfire.Graph(3, 2, numpy.array(rows)).long_columns)
         self.assertEqual(chipfire.Graph(3, 2, numpy.array(rows)).degrees(), (4, 3, 0))
-        for place, value, told in [
+        for place, value, outcome in [
             (1, -1, "the head of edge 2 is below 0: -1"), (0, -1, "the tail of edge 2 is below 0: -1"),
             (2, 0.5, "the multiplicity of edge 2 is no whole number: 0.5"),
             (2, numpy.nan, "the multiplicity of edge 2 is no whole number: nan"),
@@ -480,9 +480,9 @@ class Table(unittest.TestCase):
         ]:
             wrong = numpy.array(rows, float)
             wrong[2, place] = value
-            self.check(lambda it: chipfire.Graph(3, 2, it), wrong, None, told)
+            self.check(lambda it: chipfire.Graph(3, 2, it), wrong, None, outcome)
             if float(value).is_integer():
-                self.check(lambda it: chipfire.Graph(3, 2, it), wrong.astype("i8"), None, told)
+                self.check(lambda it: chipfire.Graph(3, 2, it), wrong.astype("i8"), None, outcome)
         for wrong in (numpy.zeros((2, 4), int), numpy.zeros((2, 1), int), numpy.zeros((2, 3, 1), int)):
             self.check(lambda it: chipfire.Graph(3, 2, it), wrong, None, "edge 0 is neither (tail, head) nor")
         self.check(lambda it: chipfire.Graph(3, 2, it), numpy.zeros(3, int), None, "edge 0 is neither (tail, head) nor")
@@ -538,10 +538,10 @@ class Table(unittest.TestCase):
 
     def test_each_form_of_sizes(self):
         wanted, some = chipfire.power_law([0, 1, 1, 4]), {"no dict", "no Counter", "no Configuration"}
-        for given, told in values_in_order():
-            if not any(it in told for it in some):  # (which are histograms)
-                with self.subTest(type(given), told=told):
-                    self.check(chipfire.power_law, given, wanted, told or None)
+        for given, outcome in values_in_order():
+            if not any(it in outcome for it in some):  # (which are histograms)
+                with self.subTest(type(given), outcome=outcome):
+                    self.check(chipfire.power_law, given, wanted, outcome or None)
         self.assertEqual(chipfire.power_law(collections.Counter([0, 1, 1, 4])), wanted)
         if sparse:
             self.assertEqual(chipfire.power_law(sparse.csr_matrix([[0, 1], [1, 4]])), wanted)
@@ -550,14 +550,14 @@ class Table(unittest.TestCase):
         mask, table = chipfire.region([[1, 1], [0, 1]]), chipfire.Graph.undirected([("a", "b"), ("b", "c")], "c")
         rows = [(masks, chipfire.region, mask), (tables, lambda it: chipfire.from_edges(it, "c"), table)]
         for some, call, wanted in rows:
-            for given, told in some():
-                with self.subTest(type(given), told=told):
-                    self.check(call, given, wanted, told or None)
+            for given, outcome in some():
+                with self.subTest(type(given), outcome=outcome):
+                    self.check(call, given, wanted, outcome or None)
         for wrong in (None, {0: 1}, GRID, [(0, 1)], "file"):
             rows = [(chipfire.from_networkx, "a graph of NetworkX, and no "),
                     (chipfire.from_sage, "a graph of SageMath, and no ")]
-            for maker, told in rows:
-                self.check(lambda it: maker(it, 0), wrong, None, told + type(wrong).__name__)
+            for maker, outcome in rows:
+                self.check(lambda it: maker(it, 0), wrong, None, outcome + type(wrong).__name__)
 
     @unittest.skipUnless(numpy, "NumPy is not here")
     def test_vertices_and_sinks_of_numpy(self):
@@ -591,8 +591,8 @@ class Table(unittest.TestCase):
         wrong += [({0: rows}, "and no dict"), ({(1, 2)}, "and no set")]
         wrong += [(pandas.DataFrame(rows), "and no DataFrame")] if pandas else []
         for call in (chipfire.stabilize_many, chipfire.are_recurrent):
-            for form, told in wrong:
-                self.check(lambda it: call(GRID, it), form, None, told)
+            for form, outcome in wrong:
+                self.check(lambda it: call(GRID, it), form, None, outcome)
 
     @unittest.skipUnless(numpy, "NumPy is not here")
     def test_divisors(self):
@@ -608,9 +608,9 @@ class Table(unittest.TestCase):
         rows = [(numbers[:6], "a divisor has chips on the sink too, and there are 6 numbers"), ({3, 4}, "no set"),
                            (chipfire.Divisor(LINE, 1), "one of another graph"),
                            (networkx and networkx.Graph(), "no Graph")]
-        for form, told in rows:
+        for form, outcome in rows:
             if form is not None:
-                self.check(lambda it: chipfire.Divisor(RING, it), form, None, told)
+                self.check(lambda it: chipfire.Divisor(RING, it), form, None, outcome)
 
 
 if __name__ == "__main__":

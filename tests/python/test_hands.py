@@ -92,9 +92,9 @@ class Sage(unittest.TestCase):
                 call()
         rows = [({"z": 1}, KeyError, "no vertex 'z'"), ({1, 2}, TypeError, "no set"), ([0.5] * 3, TypeError, "'a'"),
                 (chipfire.cycle(4).max_stable(), ValueError, "one of another graph"), ([1], ValueError, "for 1 vertices")]
-        for wrong, kind, told in rows:
+        for wrong, kind, text in rows:
             for call in (lambda: most & wrong, lambda: wrong & most):
-                with self.subTest(wrong=wrong), self.assertRaisesRegex(kind, told):
+                with self.subTest(wrong=wrong), self.assertRaisesRegex(kind, text):
                     call()
         stuck = chipfire.Graph(3, 2, [(0, 1), (1, 0)])
         for call in (stuck.identity, stuck.order):
@@ -249,15 +249,15 @@ class Sizes(unittest.TestCase):
                 ((3, 3), {"rows": 3}, "said: width, height, rows"),
                 ((3, 3), {"rows": 3, "columns": 3}, "said: width, height, rows, columns")]
         for make, name in ((chipfire.grid, "a grid"), (chipfire.torus, "a torus")):
-            for sizes, named, told in rows:
-                with self.subTest(name, told=told), self.assertRaises(TypeError) as raised:
+            for sizes, named, text in rows:
+                with self.subTest(name, text=text), self.assertRaises(TypeError) as raised:
                     make(*sizes, **named)
-                self.assertEqual(str(raised.exception), f"{name} has a width and a height, or rows and columns; {told}")
+                self.assertEqual(str(raised.exception), f"{name} has a width and a height, or rows and columns; {text}")
         with self.assertRaisesRegex(TypeError, "said: width, height, rows, columns"):
             chipfire.grid(3, 3, 3, rows=3, columns=3)
-        for sizes, told in [({"rows": 0, "columns": 3}, "the number of rows is below 1: 0"),
+        for sizes, text in [({"rows": 0, "columns": 3}, "the number of rows is below 1: 0"),
                             ({"rows": 3, "columns": -1}, "the number of columns is below 1: -1")]:
-            with self.assertRaisesRegex(ValueError, told):
+            with self.assertRaisesRegex(ValueError, text):
                 chipfire.grid(**sizes)
         with self.assertRaisesRegex(TypeError, "the number of rows is no whole number: 'x'"):
             chipfire.grid(rows="x", columns=3)
@@ -538,9 +538,9 @@ class Notebooks(unittest.TestCase):
     @unittest.skipUnless(has("matplotlib"), "Matplotlib is not here")
     def test_they_show_how_many_there_are_of_each_size(self):
         image, pyplot = (importlib.import_module(f"matplotlib.{it}") for it in ("image", "pyplot"))
-        for result, told in self.results():
+        for result, text in self.results():
             shown = result._repr_html_()
-            self.assertIn(told, shown)
+            self.assertIn(text, shown)
             data = shown.partition("base64,")[2].partition('"')[0]
             with tempfile.NamedTemporaryFile(suffix=".png") as file:
                 file.write(base64.b64decode(data))

@@ -208,7 +208,7 @@ class FirstAndExpected(WithFolder):
 
 class LongLogs(unittest.TestCase):
     def test_the_program_is_started_twice_for_any_number_of_cuts(self):
-        # Each process hears from the one before it once more than that tells it: by hand each is cut at its row 20.
+        # Each process has one hear more than the one before it has tells: by hand each is cut at its row 20.
         count, turns = 300, 10
         rows = [
             row for it in range(count)

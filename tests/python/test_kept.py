@@ -284,19 +284,19 @@ print(pile.report == other.report, pile.drop(12, 9) == other.drop(12, 9), flush=
 
 
 class Forks(unittest.TestCase):
-    def told(self, word):
+    def asked(self, word):
         run = [sys.executable, "-c", FORK, word]
         return subprocess.run(run, stdout=subprocess.PIPE, encoding="ascii", check=True, timeout=100).stdout.split()
 
     def test_a_child_makes_a_pile_of_its_own(self):
         for threads in ("none", "ended"):
-            self.assertEqual(self.told(threads), [str(IS_HERE)] * 2 + ["True"] * 3)
+            self.assertEqual(self.asked(threads), [str(IS_HERE)] * 2 + ["True"] * 3)
 
     def test_a_child_of_a_process_with_threads_asks_the_program(self):
         for threads in ("Python", "C"):
-            self.assertEqual(self.told(threads), ["False"] * 2 + ["True"] * 3)
+            self.assertEqual(self.asked(threads), ["False"] * 2 + ["True"] * 3)
 
-    def test_where_the_system_tells_no_threads_those_of_python_count(self):
+    def test_where_the_system_lists_no_threads_those_of_python_count(self):
         with mock.patch("os.listdir", side_effect=FileNotFoundError):
             self.assertEqual(library._count_threads(), threading.active_count())
 

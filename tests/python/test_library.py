@@ -32,7 +32,7 @@ IS_HERE = chipfire.find_library() is not None
 
 
 def configurations(graph, more):
-    """All chips below the degree of each vertex and so many more; the sink has two."""
+    """All chips below the degree of each vertex plus `more`; the sink has two."""
     degrees = graph.degrees()
     ranges = [[2] if vertex == graph.sink else range(degree + more) for vertex, degree in enumerate(degrees)]
     return [*itertools.product(*ranges)]
@@ -95,7 +95,7 @@ class Many(unittest.TestCase):
         with mock.patch("chipfire.configurations.stabilization.import_optional", return_value=None):
             self.assertEqual(chipfire.stabilize_many(TRIANGLE, rows), list(map(tuple, found.tolist())))
 
-    def test_what_is_no_configuration_is_told_with_its_row(self):
+    def test_what_is_no_configuration_is_reported_with_its_row(self):
         for row, refusal, said in [
             ([0, -1, 0], ValueError, "chips in row 1 of vertex 1 is below 0: -1"), ([[]], ValueError, "row"),
             ([0, 0.5, 0], TypeError, "chips in row 1 of vertex 1 is no whole number: 0.5"),
@@ -222,11 +222,11 @@ class Ways(WithFolder):
 
     @unittest.skipUnless(IS_HERE, "the library is not called")
     def test_long_plays_are_made_in_portions_and_interrupted_between_two(self):
-        grid, told = chipfire.grid(60, 60), []
+        grid, readings = chipfire.grid(60, 60), []
 
         def clock():
-            told.append(1)
-            if len(told) > 4:
+            readings.append(1)
+            if len(readings) > 4:
                 raise KeyboardInterrupt
             return 0.0
 
@@ -268,7 +268,7 @@ class Ways(WithFolder):
 
     def test_a_long_claim_that_fires_more_is_not_verified(self):
         """The chips that it leaves are its own, and stable ones: only the counts are too high."""
-        told = 0
+        refused = 0
         for graph in (TRIANGLE, chipfire.path(3), chipfire.cycle(4)):
             chips = [9] * graph.vertices
             right = slow_report(graph, chips)
@@ -280,19 +280,19 @@ class Ways(WithFolder):
                 claim = dataclasses.replace(right, fired=tuple(counts), chips=tuple(ends))
                 with mock.patch.object(library, "MOST_WORK", 0):
                     self.assertEqual(chipfire.verify(graph, chips, claim), claim == right, claim)
-                told += claim != right
-        self.assertGreater(told, 0)
+                refused += claim != right
+        self.assertGreater(refused, 0)
 
     @unittest.skipUnless(IS_HERE, "the library is not called")
     def test_a_library_of_another_version_is_not_called(self):
         self.addCleanup(library._beside.cache_clear)
         library._beside.cache_clear()
-        with mock.patch.object(library, "version", return_value="0.0.1"), warnings.catch_warnings(record=True) as told:
+        with mock.patch.object(library, "version", return_value="0.0.1"), warnings.catch_warnings(record=True) as warned:
             warnings.simplefilter("always")
             self.assertIsNone(chipfire.find_library())
             self.assertEqual(chipfire.plain(TRIANGLE, [4, 0, 0]).fired, (2, 1, 0))
-        self.assertEqual(len(told), 1)
-        self.assertRegex(str(told[0].message), r"libchipfire.so has version [0-9.]+, and the package 0.0.1")
+        self.assertEqual(len(warned), 1)
+        self.assertRegex(str(warned[0].message), r"libchipfire.so has version [0-9.]+, and the package 0.0.1")
 
     @unittest.skipUnless(IS_HERE, "the library is not called")
     def test_a_copy_of_the_folder_has_no_version_and_calls_none(self):
@@ -409,27 +409,27 @@ class Arrays(unittest.TestCase):
                  chipfire.Graph(3, 2, [(0, 2), (2, 1)]), chipfire.Graph(4, 3, [(0, 3), (1, 2), (2, 1)]),
                  chipfire.Graph(2**64 + 2, 1, [(0, 1)])]
         for graph in wrong:
-            with self.subTest(graph=graph.columns), self.assertRaises(chipfire.Fault) as told:
+            with self.subTest(graph=graph.columns), self.assertRaises(chipfire.Fault) as raised:
                 library.stabilize_all(graph, zeros(min(graph.vertices, 9)), zeros(min(graph.vertices, 9)), zeros(1))
             if graph.vertices < 9:
                 with self.assertRaises(chipfire.Fault) as asked:
                     chipfire.check(graph)
-                self.assertEqual(told.exception.args, asked.exception.args)
+                self.assertEqual(raised.exception.args, asked.exception.args)
         arrays = [array("Q", it) for it in ([4, 0, 0, 2**40, 1, 0], [7] * 6, [7] * 2)]
         before = [it[:] for it in arrays]
-        with self.assertRaises(chipfire.Fault) as told:
+        with self.assertRaises(chipfire.Fault) as raised:
             library.stabilize_all(TRIANGLE, *arrays)
         with self.assertRaises(chipfire.Fault) as asked:
             chipfire.plain(TRIANGLE, [2**40, 1, 0])
-        self.assertEqual((told.exception.args, arrays), (asked.exception.args, before))
+        self.assertEqual((raised.exception.args, arrays), (asked.exception.args, before))
         for at, amounts, limit, number in [
             ([0, 3], [1, 1], 9, 26), ([0, 1], [1, 2**40], 9, 10), ([0, 1], [4, 9], 2, 13), ([0], [1, 1], 9, 12),
         ]:
             arrays = [array("Q", it) for it in (at, amounts, [1, 0, 0], [7] * 2, [7] * 2, [7] * 2)]
             before = [it[:] for it in arrays]
-            with self.subTest(number), self.assertRaises(chipfire.Fault) as told:
+            with self.subTest(number), self.assertRaises(chipfire.Fault) as raised:
                 library.avalanches(TRIANGLE, *arrays, limit=limit)
-            self.assertEqual((told.exception.number, arrays), (number, before))
+            self.assertEqual((raised.exception.number, arrays), (number, before))
 
     def test_what_is_no_such_array(self):
         good = {"chips": zeros(3), "fired": zeros(3), "stopped": zeros(1)}
@@ -457,9 +457,9 @@ class Arrays(unittest.TestCase):
                     it.append(0)
             return 12
         with mock.patch.object(library, "loaded", return_value=mock.Mock(chipfire_stabilize_all=grow)):
-            with self.assertRaises(chipfire.Fault) as told:
+            with self.assertRaises(chipfire.Fault) as raised:
                 library.stabilize_all(TRIANGLE, *arrays)
-        self.assertEqual(told.exception.number, 12)
+        self.assertEqual(raised.exception.number, 12)
         for it in arrays:
             it.append(0)
 

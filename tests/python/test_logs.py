@@ -32,7 +32,7 @@ def named(rows, processes, channels):
     return [(processes(process), kind, channels(channel)) for process, kind, channel in rows]
 
 
-def told(rows, **options):
+def lines_of(rows, **options):
     """What is said of rows: the lines, or the number and the place of the fault."""
     try:
         return str(chipfire.judge_log(rows, **options)).split("\n")
@@ -115,8 +115,8 @@ class Verdicts(unittest.TestCase):
         # passive after the last message that it sent, which is before a hears of it.
         rows = [("a", "send", "x"), ("a", "hear", "x"), ("a", "over", 0), ("c", "receive", "y"), ("c", "tell", "y")]
         rows += [("b", *it) for it in [("receive", "x"), ("send", "y"), ("hear", "y"), ("tell", "x"), ("passive", 0)]]
-        self.assertEqual(told(rows, reactive=True), ["over a 2 early: process b is active", "end missed"])
-        self.assertEqual(told(rows[:-1], reactive=True), ["over a 2 right", "end claimed"])
+        self.assertEqual(lines_of(rows, reactive=True), ["over a 2 early: process b is active", "end missed"])
+        self.assertEqual(lines_of(rows[:-1], reactive=True), ["over a 2 right", "end claimed"])
 
     def test_names_of_any_kind(self):
         for names in [
@@ -184,7 +184,7 @@ class Faults(WithFolder):
         rows = [*RIGHT, ("b", "hear", "lost"), ("b", "over", 0), ("c", "receive", "z"), ("a", "over", 0)]
         self.assertEqual(fault_of(self, rows).place, ("b", 5))
         lines = ["cut b 5", "cut c 3", "over a 4 right", "over a 5 right", "end claimed"]
-        self.assertEqual(told(rows, cut=True), lines)
+        self.assertEqual(lines_of(rows, cut=True), lines)
         self.assertEqual(chipfire.judge_log(rows, cut=True).cut, {"b": 5, "c": 3})
 
     def test_files(self):
@@ -192,10 +192,10 @@ class Faults(WithFolder):
         text = "process,kind,channel\n" + "".join(f"{','.join(map(str, row))}\n" for row in rows)
         file = self.file("log.csv", text)
         for options in [{}, {"past": True}, {"cut": True}, {"reactive": True}]:
-            self.assertEqual(told(file, **options), ["over 0 4 right", "end claimed"])
+            self.assertEqual(lines_of(file, **options), ["over 0 4 right", "end claimed"])
         activity = self.file("activity.csv", re.sub(".*,(active|passive),.*\n", "", text))
-        self.assertEqual(told(activity, reactive=True), ["over 0 2 right", "end claimed"])
-        self.assertEqual(told(activity), [32, 0])
+        self.assertEqual(lines_of(activity, reactive=True), ["over 0 2 right", "end claimed"])
+        self.assertEqual(lines_of(activity), [32, 0])
 
     def test_files_with_faults(self):
         head = "process,kind,channel\n"
@@ -241,7 +241,7 @@ class Random(unittest.TestCase):
     def test_numbers(self):
         for draw, rows in self.drawn(1, 200):
             with_past = draw.random() < 0.5
-            self.assertEqual(told(rows, past=with_past), expected(rows, with_past), rows)
+            self.assertEqual(lines_of(rows, past=with_past), expected(rows, with_past), rows)
 
     def test_names(self):
         found = Counter()
@@ -251,14 +251,14 @@ class Random(unittest.TestCase):
             if must[0] == 70:
                 must[1] = "abcd"[must[1]]
             must = [it if isinstance(it, int) else in_letters(it) for it in must]
-            came = told(named(rows, "dcba".__getitem__, "CBA".__getitem__), past=True)
+            came = lines_of(named(rows, "dcba".__getitem__, "CBA".__getitem__), past=True)
             self.assertEqual(came, must, rows)
             found[came[0] if isinstance(came[0], int) else came[0].split()[0]] += 1
         self.assertEqual({"over", "end", 31, 32, 33, 70}, found.keys())
 
     def test_names_without_an_order(self):
         for _, rows in self.drawn(3, 100):
-            came = told(named(rows, [0, "b", None, ()].__getitem__, [1j, (), ""].__getitem__))
+            came = lines_of(named(rows, [0, "b", None, ()].__getitem__, [1j, (), ""].__getitem__))
             must = expected(rows)
             came, must = (Counter(re.findall(r"right|early|\bend \w+|^\[\d+", str(it))) for it in (came, must))
             self.assertEqual(came, must, rows)
@@ -313,8 +313,8 @@ class Random(unittest.TestCase):
                     found.update((kind, *it) for it in zip(was, now))
         self.assertEqual({it[0] for it in found if it[1:] == ("early:", "right")}, {"send", "active"})
         rows = [*(("b", kind, 0) for kind in ("active", "tell", "passive", "tell")), ("a", "hear", 0), ("a", "over", 0)]
-        self.assertEqual(told(rows), ["over a 1 early: process b is active", "end unclaimed"])
-        self.assertEqual(told([rows[0], *rows[2:]]), ["over a 1 right", "end claimed"])
+        self.assertEqual(lines_of(rows), ["over a 1 early: process b is active", "end unclaimed"])
+        self.assertEqual(lines_of([rows[0], *rows[2:]]), ["over a 1 right", "end claimed"])
 
     def test_messages_that_overtake_one_another(self):
         """Basic messages of a channel may come in any order: a claim has the verdict by all cuts where each message has a
@@ -323,7 +323,7 @@ class Random(unittest.TestCase):
         for draw, rows in self.drawn(8, 10_000, most=14, slips=0):
             apart, overtaken = with_own_channels(draw, rows)
             if overtaken and any(kind == "over" for _, kind, _ in rows) and isinstance(expected(rows)[0], str):
-                both = (told(rows), expected(apart))
+                both = (lines_of(rows), expected(apart))
                 was, now = ([line.split(" ")[:4] for line in lines if line.startswith("over")] for lines in both)
                 self.assertEqual(was, now, rows)
                 count += 1
@@ -338,7 +338,7 @@ class Random(unittest.TestCase):
             must = reactive(rows)
             if isinstance(must[0], int) and must[0] != 70:
                 continue
-            self.assertEqual(told(rows, past=True, reactive=True), must, rows)
+            self.assertEqual(lines_of(rows, past=True, reactive=True), must, rows)
             first = str(must[0])
             found["early" if "early" in first else first.split()[0]] += 1
         self.assertGreater(min(found[it] for it in ("early", "over", "end", "70")), 5, found)
@@ -507,7 +507,7 @@ class ShiViz(WithFolder):
         twice = [*events, ("b", {"a": 2, "b": 2}, "receive 1")]
         rows = chipfire.read_shiviz(govector(twice), kind_of, message_of=message_of)
         self.assertEqual(rows[1:], [("a", "send", ("1", "b")), *[("b", "receive", ("1", "b"))] * 2])
-        self.assertEqual(told(rows), [70, "b", 1])
+        self.assertEqual(lines_of(rows), [70, "b", 1])
 
     def test_both_layouts_from_a_text_and_a_file(self):
         wanted = chipfire.read_shiviz(govector(self.BROADCAST), kind_of)

@@ -112,8 +112,8 @@ class Words(unittest.TestCase):
                 self.assertEqual(chipfire.Configuration(graph, chips).order(), times, (plain, chips))
             group = chipfire.Group(graph)
             for chips in around(plain, 2, 1):
-                told = chipfire.Configuration(graph, chips).order(), group.order(chips)
-                self.assertEqual(told, (model.order_of(of(chips)),) * 2, (plain, chips))
+                found = chipfire.Configuration(graph, chips).order(), group.order(chips)
+                self.assertEqual(found, (model.order_of(of(chips)),) * 2, (plain, chips))
 
     def test_sums_of_all_stable_chips(self):
         for plain, graph in played():
@@ -141,11 +141,11 @@ class Words(unittest.TestCase):
             found, of = model.recurrents(plain), model.classes(plain)
             superstables = model.superstables(plain)
             for chips in around(plain, 2, 1):
-                told = chipfire.recurrent_representative(graph, chips)
-                self.assertEqual((told.numbers in found, of(told.numbers)), (True, of(chips)), (plain, chips))
-                told = chipfire.superstable_representative(graph, chips)
-                self.assertIn(tuple(told.values()), superstables, (plain, chips))
-                self.assertEqual(of(told.numbers), of(chips), (plain, chips))
+                its = chipfire.recurrent_representative(graph, chips)
+                self.assertEqual((its.numbers in found, of(its.numbers)), (True, of(chips)), (plain, chips))
+                its = chipfire.superstable_representative(graph, chips)
+                self.assertIn(tuple(its.values()), superstables, (plain, chips))
+                self.assertEqual(of(its.numbers), of(chips), (plain, chips))
 
     def test_the_group_and_polynomials(self):
         for plain, graph in played():
@@ -190,13 +190,13 @@ class Plays(unittest.TestCase):
             for chips in twice(plain):
                 if poor(plain, chips) is not None:
                     continue
-                told, (left, fired), wanted = chipfire.drops(graph, chips, inner), play(chips), []
+                found_rows, (left, fired), wanted = chipfire.drops(graph, chips, inner), play(chips), []
                 for vertex in inner:
                     before = left[plain.sink]
                     left, fired = play((*left[:vertex], left[vertex] + 1, *left[vertex + 1 :]))
                     wanted.append((sum(fired), sum(map(bool, fired)), left[plain.sink] - before))
-                self.assertEqual([*zip(told.size, told.extent, told.lost)], wanted, (plain, chips))
-                self.assertEqual((told.report.chips, told.report.graph), (left, graph), (plain, chips))
+                self.assertEqual([*zip(found_rows.size, found_rows.extent, found_rows.lost)], wanted, (plain, chips))
+                self.assertEqual((found_rows.report.chips, found_rows.report.graph), (left, graph), (plain, chips))
                 if chipfire.is_stable(graph, chips):
                     found = chipfire.avalanches(graph, chips, inner)
                     self.assertEqual([(it.size, it.extent, it.lost) for it in found], wanted, (plain, chips))
@@ -206,8 +206,8 @@ class Plays(unittest.TestCase):
         # (nine chips fire four times, and once or twice if limits say so)
         self.assertEqual([chipfire.plain(graph, 9, limit=it).chips for it in (1, 2)], [(7, 2), (5, 4)])
         self.assertEqual(chipfire.plain(graph, 9).chips, (1, 8))
-        told = chipfire.avalanche(graph, 2, "a")
-        self.assertEqual((told.size, told.lost, told.configuration), (1, 2, {"a": 1}))
+        result = chipfire.avalanche(graph, 2, "a")
+        self.assertEqual((result.size, result.lost, result.configuration), (1, 2, {"a": 1}))
         for question in (chipfire.stabilize, chipfire.plain):
             with self.assertRaisesRegex(ValueError, "vertex 'a' has 0 chips and 1 loop"):
                 question(graph, 0)
@@ -219,13 +219,13 @@ class Plays(unittest.TestCase):
         graph = chipfire.from_edges(table([(*it, 1) for it in sides] + [(1, 1, 1), (2, 2, 3)]), 0, loops="sage")
         free = chipfire.Graph.undirected(sides, 0)
         self.assertEqual(graph.loops, [0, 2, 6])
-        drawn, told = chipfire.random_recurrent(graph, 1, 200), chipfire.chains(graph, 4, 30, "seed")
+        drawn, played_on = chipfire.random_recurrent(graph, 1, 200), chipfire.chains(graph, 4, 30, "seed")
         self.assertEqual({chips.numbers for chips in drawn}, {(0, 3, 7), (0, 2, 7), (0, 3, 6)})
         wanted = chipfire.chains(free, 4, 30, "seed")
         for name in ("size", "extent", "lost"):
-            self.assertEqual([*map(list, getattr(told, name))], [*map(list, getattr(wanted, name))])
+            self.assertEqual([*map(list, getattr(played_on, name))], [*map(list, getattr(wanted, name))])
         after = [[count + more for count, more in zip(row, (0, 2, 6))] for row in wanted.chips]
-        self.assertEqual([*map(list, told.chips)], after)
+        self.assertEqual([*map(list, played_on.chips)], after)
 
     def test_what_takes_no_loops(self):
         graph = chipfire.from_edges(ONE, "out", loops="sage")

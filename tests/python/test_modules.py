@@ -176,11 +176,11 @@ class Modules(unittest.TestCase):
             self.assertIs(module, importlib.import_module(f"chipfire.{room}.{name}"))
 
     def test_the_words_of_the_machine_are_in_its_module_and_reachable(self):
-        told = pydoc.plain(pydoc.render_doc(chipfire))
-        self.assertIn("class Configuration", told)
+        page = pydoc.plain(pydoc.render_doc(chipfire))
+        self.assertIn("class Configuration", page)
         for name in ("Board", "Event", "Schedule", "Setting", "Simulation", "TraceRow", "write_trace"):
             self.assertIs(getattr(chipfire, name), getattr(chipfire.machine, name))
-            self.assertNotIn(f"class {name}", told)
+            self.assertNotIn(f"class {name}", page)
 
     def test_what_is_asked_for_is_all_that_an_import_brings(self):
         asked = [sys.executable, "-c", "import chipfire, sys; print(*sys.modules)"]

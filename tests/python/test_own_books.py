@@ -30,7 +30,7 @@ class Run:
         self.left = messages
         self.log = []
         self.books = [books_of(process, self.log) for process in range(4)]
-        self.transit, self.answers = [], []
+        self.transit, self.acks = [], []
         self.at_work = {0}
 
     def send(self, process):
@@ -46,7 +46,7 @@ class Run:
         self.at_work.add(head)
 
     def settle(self):
-        edge, count = self.answers.pop(self.draw.randrange(len(self.answers)))
+        edge, count = self.acks.pop(self.draw.randrange(len(self.acks)))
         self.books[EDGES[edge][0]].settled(edge, count)
 
     def step(self):
@@ -57,12 +57,12 @@ class Run:
             self.send(process)
         elif kind == "get" and self.transit:
             self.get()
-        elif kind == "settle" and self.answers:
+        elif kind == "settle" and self.acks:
             self.settle()
         elif kind == "rest":
             self.at_work.discard(process)
         elif process:
-            self.answers += self.books[process].acknowledge(process not in self.at_work)
+            self.acks += self.books[process].acknowledge(process not in self.at_work)
         return self.books[0].is_over(0 not in self.at_work)
 
 
@@ -154,9 +154,9 @@ class Duties(unittest.TestCase):
 
 class Refused(unittest.TestCase):
     def is_refused(self, number, words, call, *arguments):
-        with self.assertRaises(chipfire.Fault) as told:
+        with self.assertRaises(chipfire.Fault) as raised:
             call(*arguments)
-        self.assertEqual((told.exception.number, told.exception.words), (number, words))
+        self.assertEqual((raised.exception.number, raised.exception.words), (number, words))
 
     def test_what_a_passive_process_may_not(self):
         log = []
@@ -214,9 +214,9 @@ class Refused(unittest.TestCase):
 
     def test_without_a_library_it_says_what_to_do(self):
         with mock.patch.object(library, "_beside", return_value=(None, "there is none beside /x")):
-            with self.assertRaises(chipfire.ProgramNotFound) as told:
+            with self.assertRaises(chipfire.ProgramNotFound) as raised:
                 Books([0])
-        self.assertIn("there is none beside /x; `./chipfire` in a clone", str(told.exception))
+        self.assertIn("there is none beside /x; `./chipfire` in a clone", str(raised.exception))
 
 
 class Misuse(unittest.TestCase):
@@ -249,9 +249,9 @@ class Misuse(unittest.TestCase):
         """The root claims that it is over, and its books are sound."""
         log = self.played(note_sent=False)
         self.assertIn((0, "over", 0), log)
-        with self.assertRaises(chipfire.Fault) as told:
+        with self.assertRaises(chipfire.Fault) as raised:
             chipfire.judge_log(log)
-        self.assertEqual((told.exception.number, told.exception.place), (70, (2, 0)))
+        self.assertEqual((raised.exception.number, raised.exception.place), (70, (2, 0)))
 
     def test_a_message_is_lost(self):
         """It is waited for without end, and the log says which one."""

@@ -144,10 +144,10 @@ class Plain(WithFolder):
     def test_the_progress_of_a_play_goes_to_standard_error(self):
         lines = ["chipfire: progress: 1 rounds, 3 firings", "chipfire: progress: 2 rounds, 4 firings"]
         program = self.program("; ".join(f"echo '{line}' >&2" for line in lines))
-        with contextlib.redirect_stderr(io.StringIO()) as told:
+        with contextlib.redirect_stderr(io.StringIO()) as progress:
             reports = [chipfire.plain(TRIANGLE, [4, 0, 0], program=program, progress=True)]
             reports.append(chipfire.resume(TRIANGLE, reports[0], program=program, progress=True))
-        self.assertEqual(([it.fired for it in reports], told.getvalue().splitlines()), ([(2, 1, 0)] * 2, 2 * lines))
+        self.assertEqual(([it.fired for it in reports], progress.getvalue().splitlines()), ([(2, 1, 0)] * 2, 2 * lines))
 
     def test_what_is_there_or_not_goes_by_its_truth(self):
         program = self.program(f'echo "$@" >{self.file("words")}')
@@ -350,8 +350,8 @@ class Detector(WithFolder):
         self.assertEqual(early.why, "the message that engaged the vertex may not be acknowledged yet")
 
     def test_the_names_of_rules_are_those_of_the_program(self):
-        told = subprocess.run([chipfire.find_program(), "explain", "rule"], capture_output=True, encoding="utf-8").stdout
-        named = {int(number): (name, why) for number, name, why in re.findall(r"(?m)^rule (\d+) (\w+): (.*)$", told)}
+        listed = subprocess.run([chipfire.find_program(), "explain", "rule"], capture_output=True, encoding="utf-8").stdout
+        named = {int(number): (name, why) for number, name, why in re.findall(r"(?m)^rule (\d+) (\w+): (.*)$", listed)}
         self.assertEqual(chipfire.machine.UNMET, named)
         self.assertEqual(chipfire.machine.UNMET.keys(), chipfire.RULES.keys())
 
@@ -575,9 +575,9 @@ class Mistakes(WithFolder):
             ('case "$*" in *--l*) false;; esac', "words `--large --limit=3`"),
             ('case "$*" in *--large*--limit*) false;; esac', f"words `plain (graph) {CHIPS_FILE} --large --limit=3`"),
         ]
-        for taken, told in tried:
+        for taken, words in tried:
             fault = self.fault(chipfire.plain, TRIANGLE, CHIPS_FILE, limit=3, program=self.program(f"{taken} || {usage}"))
-            said = f"fault 91 Usage: it does not take the {told}"
+            said = f"fault 91 Usage: it does not take the {words}"
             self.assertEqual(str(fault).partition("\n")[0].rstrip(), said, fault)
         taken = 'case "$*" in *--limit*) false;; plain*) test $# -ge 3;; esac'
         fault = self.fault(chipfire.plain, CHIPS_FILE, CHIPS_FILE, limit=3, program=self.program(f"{taken} || {usage}"))
@@ -662,7 +662,7 @@ class Killed(WithFolder):
         except (FileNotFoundError, ProcessLookupError):
             return False
 
-    @unittest.skipUnless(sys.platform == "linux", "only Linux tells a process that its parent ended")
+    @unittest.skipUnless(sys.platform == "linux", "only Linux signals to a process that its parent ended")
     def test_the_program_ends_with_python_and_leaves_no_file(self):
         thread = "threading.Thread(target=play).start()"
         cases = [(signal.SIGTERM, "play()"), (signal.SIGINT, "play()"), (signal.SIGKILL, "play()"),
@@ -697,7 +697,7 @@ class Killed(WithFolder):
             self.assertEqual(self.processes(), [])
             os.remove(self.file("go"))
 
-    @unittest.skipUnless(sys.platform == "linux", "only Linux tells a process that its parent ended")
+    @unittest.skipUnless(sys.platform == "linux", "only Linux signals to a process that its parent ended")
     def test_a_python_that_is_killed_at_once(self):
         # (from before the program starts until after it has: whichever is first, nothing is left)
         for step in range(20):

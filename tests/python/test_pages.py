@@ -215,12 +215,12 @@ class Disagreements(unittest.TestCase):
         self.simulation = detector("deficit", books=True)
 
     def refused(self, what, **changed):
-        told = dataclasses.replace(self.simulation, **changed)
-        book = ledger.Ledger(told.setting)
+        changed_run = dataclasses.replace(self.simulation, **changed)
+        book = ledger.Ledger(changed_run.setting)
         with self.assertRaisesRegex(ledger.Disagreement, what):
-            for event, reply in chipfire.lab.pages.compared(told, book):
+            for event, reply in chipfire.lab.pages.compared(changed_run, book):
                 book.note(event, reply)
-            book.close(told.report)
+            book.close(changed_run.report)
 
     def with_board(self, index, **changed):
         boards = list(self.simulation.boards)
@@ -240,11 +240,11 @@ class Disagreements(unittest.TestCase):
             self.refused("the books", boards=self.with_board(3, engaged={0: books}))
 
     def test_replies_that_are_others(self):
-        for index, told, known in [(0, "got 0 3", "got 0 4"), (1, "done 3", "done 2"), (3, "sent 0 3", "sent 0 2"),
+        for index, shown, known in [(0, "got 0 3", "got 0 4"), (1, "done 3", "done 2"), (3, "sent 0 3", "sent 0 2"),
                                    (3, "sent 1 2", "sent 0 2"), (4, "done 1", "done 2")]:
-            kind, *numbers = told.split()
+            kind, *numbers = shown.split()
             replies = self.with_reply(index, kind, *map(int, numbers))
-            self.refused(f"the program says {told}, and the model {known}", replies=replies)
+            self.refused(f"the program says {shown}, and the model {known}", replies=replies)
 
     def test_a_page_shows_no_replies_but_the_programs(self):
         # What a hasty detector would reply is no reply of the program, whoever says so.
@@ -277,15 +277,15 @@ class Spelled(unittest.TestCase):
                 for rounds in (seed % 7, seed % 7 + 1, 300):
                     events = chipfire.lab.pages.spell_rounds(setting, begun, rounds)
                     self.assertEqual(list(events[: len(begun)]), begun)
-                    told, whole = asked(setting, events), asked(setting, begun, rounds=rounds)
-                    self.assertEqual((told.report, told.replies[: len(begun)]), (whole.report, whole.replies))
-                    answered = list(zip(events, told.replies))
-                    idle = [(event, reply) for event, reply in answered[len(begun):]
+                    run, whole = asked(setting, events), asked(setting, begun, rounds=rounds)
+                    self.assertEqual((run.report, run.replies[: len(begun)]), (whole.report, whole.replies))
+                    replied = list(zip(events, run.replies))
+                    idle = [(event, reply) for event, reply in replied[len(begun):]
                             if reply.kind in ("not-now", "empty", "full")
                             or event.kind == "settle" and str(reply) == "done 0"]
                     self.assertEqual(idle, [])
-                    halts |= {reply.numbers for event, reply in answered if event.kind == "halt" and reply.is_done}
-                    closed += told.root_closed
+                    halts |= {reply.numbers for event, reply in replied if event.kind == "halt" and reply.is_done}
+                    closed += run.root_closed
         self.assertEqual((halts, closed > 60), ({(0,), (1,)}, True))
 
     @drawn(lambda numbers: random_game(numbers, fed=False), 12)
@@ -294,9 +294,9 @@ class Spelled(unittest.TestCase):
         with tempfile.TemporaryDirectory(prefix="chipfire-python-") as folder:
             report = chipfire.run(setting.graph, setting.chips, trace=f"{folder}/trace.csv", **options)
             trace = chipfire.read_trace(f"{folder}/trace.csv")
-            told = chipfire.recorded(setting.graph, setting.chips, f"{folder}/trace.csv", limit=setting.limit)
-        self.assertEqual(told.report, report)
-        self.assertEqual(sorted(rows_of(told), key=lambda row: row.vertex), trace)
+            run = chipfire.recorded(setting.graph, setting.chips, f"{folder}/trace.csv", limit=setting.limit)
+        self.assertEqual(run.report, report)
+        self.assertEqual(sorted(rows_of(run), key=lambda row: row.vertex), trace)
 
     def test_the_ring_of_a_recorded_run(self):
         # Vertex 0 fires `count` times, 1 fires when it has all these messages, and 2 takes first what comes from 1.
@@ -317,9 +317,9 @@ class Spelled(unittest.TestCase):
         self.assertEqual((caught.exception.number, caught.exception.place), (70, (0, 1)))
 
     def test_a_trace_that_was_cut_leaves_the_root_open(self):
-        told = chipfire.recorded(TRIANGLE, {0: 4}, [(0, "take", 4, 4), (0, "fire", 0, 2), (1, "take", 0, 2)])
-        self.assertFalse(told.root_closed)
-        self.assertIn("that the root is open", chipfire.lab.pages.page_text(told))
+        run = chipfire.recorded(TRIANGLE, {0: 4}, [(0, "take", 4, 4), (0, "fire", 0, 2), (1, "take", 0, 2)])
+        self.assertFalse(run.root_closed)
+        self.assertIn("that the root is open", chipfire.lab.pages.page_text(run))
 
 
 def rows_of(simulation):
@@ -453,8 +453,8 @@ class Pages(unittest.TestCase):
 
     def test_a_root_edge_is_drawn_where_chips_were_fed(self):
         for fed, edges in [(False, [4]), (True, [4, 5])]:
-            told = chipfire.simulate(TRIANGLE, {0: 4}, chipfire.Schedule().feed(5, 1), fed=fed)
-            self.assertEqual(data_of(chipfire.lab.pages.page_text(told))["rootEdges"], edges)
+            run = chipfire.simulate(TRIANGLE, {0: 4}, chipfire.Schedule().feed(5, 1), fed=fed)
+            self.assertEqual(data_of(chipfire.lab.pages.page_text(run))["rootEdges"], edges)
 
     def test_a_page_without_books_asks_for_them(self):
         self.assertEqual(
@@ -551,9 +551,9 @@ class Pages(unittest.TestCase):
         forbidden = set()
         games = [(random_game(random.Random(seed), fed=False), random.Random(seed)) for seed in range(20)]
         runs = [asked(setting, random_events(numbers, setting.graph, 250)) for setting, numbers in games]
-        for told in [*runs, detector("engaging-message-last")]:
-            setting, data = told.setting, data_of(chipfire.lab.pages.page_text(told))
-            for event, reply, step in zip(told.schedule, told.replies, data["steps"]):
+        for run in [*runs, detector("engaging-message-last")]:
+            setting, data = run.setting, data_of(chipfire.lab.pages.page_text(run))
+            for event, reply, step in zip(run.schedule, run.replies, data["steps"]):
                 self.assertEqual(step["done"], reply.is_done)
                 if event.kind == "ack" and event.at < len(setting.graph.edges) + setting.graph.vertices:
                     self.assertEqual((step["yes"], "why" in step), (reply.is_done, not reply.is_done))
@@ -576,8 +576,8 @@ class Pages(unittest.TestCase):
         stopped = "A limit or a seal stopped a vertex."
         self.assertEqual(said["sealed-half-way"], f"The root is closed: all is over. {stopped}")
         self.assertEqual(said["left-open"], "The root is open: it waits for 1 acknowledgement.")
-        told = chipfire.simulate(TRIANGLE, {}, [], fed=True)
-        end = data_of(chipfire.lab.pages.page_text(told))["end"]
+        run = chipfire.simulate(TRIANGLE, {}, [], fed=True)
+        end = data_of(chipfire.lab.pages.page_text(run))["end"]
         self.assertEqual(end, {"text": "The root is open: it has not noted the end of feeding.", "isWrong": False})
 
 
@@ -593,9 +593,9 @@ class Notes(unittest.TestCase):
                                               'ack,4,0,"why ""not""?"\n')
             read = chipfire.read_schedule(f"{folder}/noted.csv")
             self.assertEqual((list(read), read.notes), (list(events), {0: "four, at once", 2: 'why "not"?'}))
-            told = chipfire.simulate(TRIANGLE, {0: 4}, f"{folder}/noted.csv")
-        self.assertEqual((told.notes, told.replies), (read.notes, chipfire.simulate(TRIANGLE, {0: 4}, events).replies))
-        steps = data_of(chipfire.lab.pages.page_text(told))["steps"]
+            run = chipfire.simulate(TRIANGLE, {0: 4}, f"{folder}/noted.csv")
+        self.assertEqual((run.notes, run.replies), (read.notes, chipfire.simulate(TRIANGLE, {0: 4}, events).replies))
+        steps = data_of(chipfire.lab.pages.page_text(run))["steps"]
         self.assertEqual([step.get("note") for step in steps], ["four, at once", None, 'why "not"?'])
 
     def test_what_is_no_schedule_is_the_programs_fault(self):
@@ -644,8 +644,8 @@ class WrongDetectors(unittest.TestCase):
         game, early = chipfire.Setting(TRIANGLE, (3, 0, 0)), "The root was closed too early, after event 3."
         for count, said in ((2, "The root is open."), (3, "The root is closed; vertex 0 can still fire."), (16, early),
                             (4, "The root is closed; edge 0 has 1 chip pending and edge 1 has 1 chip pending.")):
-            told = chipfire.play(game, events[:count], "at-once")
-            self.assertEqual(data_of(chipfire.lab.pages.page_text(told))["end"], {"text": said, "isWrong": count > 2})
+            run = chipfire.play(game, events[:count], "at-once")
+            self.assertEqual(data_of(chipfire.lab.pages.page_text(run))["end"], {"text": said, "isWrong": count > 2})
 
         class Forgets(chipfire.detectors.AtOnce):
             """Says that all is over before anything happens, and then that it is not."""
@@ -736,13 +736,13 @@ class CommandLine(unittest.TestCase):
     def test_the_limit_and_the_ring_of_a_game(self):
         files = [f"{EXAMPLES}/triangle/{name}" for name in ("graph.json", "chips.csv")]
         schedule, trace = f"{EXAMPLES}/detector/deficit.csv", f"{EXAMPLES}/triangle/trace.csv"
-        told = chipfire.simulate(*files, schedule, limit=1, ring=2, rounds=9)
-        self.assertEqual((told.report.over, told.setting.ring), ((0,), 2))
+        run = chipfire.simulate(*files, schedule, limit=1, ring=2, rounds=9)
+        self.assertEqual((run.report.over, run.setting.ring), ((0,), 2))
         ran = self.ask("page", *files, schedule, "--limit", "1", "--ring", "2", "--rounds", "9")
-        self.assertEqual(ran.stdout, chipfire.lab.pages.page_text(told))
+        self.assertEqual(ran.stdout, chipfire.lab.pages.page_text(run))
         ran = self.ask("page", *files, trace, "--limit", "7", "--ring", "4")
-        told = chipfire.recorded(*files, trace, limit=7, ring=4)
-        self.assertEqual((ran.stdout, told.setting.limit), (chipfire.lab.pages.page_text(told), 7))
+        run = chipfire.recorded(*files, trace, limit=7, ring=4)
+        self.assertEqual((ran.stdout, run.setting.limit), (chipfire.lab.pages.page_text(run), 7))
 
     def test_places_from_a_file(self):
         files = [f"{EXAMPLES}/triangle/{name}" for name in ("graph.json", "chips.csv", "trace.csv")]

@@ -59,9 +59,9 @@ def played(make, seed=1):
 
 class OwnEvents(unittest.TestCase):
     def test_who_tells_whom_is_said(self):
-        told, places = played(Safra)
+        run, places = played(Safra)
         with tempfile.NamedTemporaryFile("r", suffix=".html") as file:
-            chipfire.page(told, file.name)
+            chipfire.page(run, file.name)
             data = data_of(file.read())
         names = ["vertex 0", "vertex 1", "the sink 2", "the root"]
         passes = 0
@@ -77,9 +77,9 @@ class OwnEvents(unittest.TestCase):
         self.assertGreater(passes, 3)
 
     def test_an_event_that_does_not_say_it_is_named(self):
-        told, _ = played(Silent)
+        run, _ = played(Silent)
         with tempfile.NamedTemporaryFile("r", suffix=".html") as file:
-            chipfire.page(told, file.name)
+            chipfire.page(run, file.name)
             data = data_of(file.read())
         said = [data["words"][step["event"]] for step in data["steps"] if step["kind"] == "pass_on"]
         self.assertEqual(said[0], "The detector has an event of its own (pass_on 3).")
@@ -98,20 +98,20 @@ class Shown(unittest.TestCase):
         cls.browser.close()
         cls.folder.cleanup()
 
-    def open(self, told, size, is_phone=False):
+    def open(self, run, size, is_phone=False):
         """Writes a page, of a run or of a wrong detector, and opens it."""
         self.browser.resize(*size, is_phone=is_phone)
         file = f"{self.folder.name}/run.html"
-        if isinstance(told, str):
-            chipfire.wrong_page(told, file)
+        if isinstance(run, str):
+            chipfire.wrong_page(run, file)
         else:
-            chipfire.page(told, file)
+            chipfire.page(run, file)
         self.browser.go(f"file://{file}")
 
     def test_the_token_is_drawn_where_it_is(self):
-        told, places = played(Safra)
+        run, places = played(Safra)
         for size, is_phone in (((1280, 800), False), ((390, 844), True)):
-            self.open(told, size, is_phone)
+            self.open(run, size, is_phone)
             found = self.browser.value(f"[...Array(last + 1).keys()].map((step) => {{ goTo(step); return {TOKEN}; }})")
             for step, place in enumerate(places):
                 if len({*places[: step + 1]}) > 1:
@@ -121,9 +121,9 @@ class Shown(unittest.TestCase):
                     self.assertIsNone(found[step])
             self.assertEqual(self.browser.complaints(), [])
 
-    def test_what_one_part_tells_another_is_an_arrow_of_the_diagram(self):
-        told, places = played(Safra)
-        self.open(told, (1280, 800))
+    def test_what_one_part_says_to_another_is_an_arrow_of_the_diagram(self):
+        run, places = played(Safra)
+        self.open(run, (1280, 800))
         self.browser.press("d")
         columns = [*range(1, len(set(places))), 0]  # (the root's is the first)
         wanted = [(columns[it], columns[to]) for it, to in zip(places, places[1:]) if it != to]
@@ -135,8 +135,8 @@ class Shown(unittest.TestCase):
         self.assertEqual([tuple(it) for it in arrows], wanted)
 
     def test_predict_is_in_sight_on_a_phone(self):
-        for told in (detector("small-run"), detector("engaged-twice"), "without-deficit", "safra-colourless"):
-            self.open(told, (390, 844), True)
+        for run in (detector("small-run"), detector("engaged-twice"), "without-deficit", "safra-colourless"):
+            self.open(run, (390, 844), True)
             for step in (0, 3, 9, 12):
                 self.browser.value(f"goTo({step})")
                 top, bottom = self.browser.value(PREDICT)
@@ -146,9 +146,9 @@ class Shown(unittest.TestCase):
 
     def test_no_tag_lies_on_a_line(self):
         for name in ("small-run", "engaged-twice", "deficit"):
-            told = detector(name)
+            run = detector(name)
             for size, is_phone in (((1280, 800), False), ((390, 844), True)):
-                self.open(told, size, is_phone)
+                self.open(run, size, is_phone)
                 self.assertEqual(self.browser.value(ON_LINES), [], (name, size))
 
 

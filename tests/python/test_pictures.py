@@ -524,9 +524,9 @@ class InABrowser(Played):
 
     def test_it_loads_nothing_and_complains_of_nothing(self):
         self.browser.click("#on")
-        told = [event["params"] for event in self.browser.complaints()]
-        own = [it for it in told if it.get("request", {}).get("url", "").startswith("data:")]
-        self.assertEqual(told, own)
+        complaints = [event["params"] for event in self.browser.complaints()]
+        own = [it for it in complaints if it.get("request", {}).get("url", "").startswith("data:")]
+        self.assertEqual(complaints, own)
 
     def test_it_can_load_nothing(self):
         self.assertEqual(self.browser.value(REFUSED), "img-src")

@@ -100,10 +100,10 @@ class Tutte(unittest.TestCase):
     def test_progress_rises_to_its_end(self):
         # (of a tree one graph comes out, each time that a vertex is taken out)
         for word in (chipfire.tutte_polynomial, chipfire.level_polynomial):
-            told = []
+            reports = []
             tree = undirected(4, [(0, 1), (1, 2), (2, 3)])
-            word(tree, progress=lambda done, all_: told.append((done, all_)))
-            self.assertEqual((told[0], told[-1], told), ((1, 3), (3, 3), sorted(told)))
+            word(tree, progress=lambda done, all_: reports.append((done, all_)))
+            self.assertEqual((reports[0], reports[-1], reports), ((1, 3), (3, 3), sorted(reports)))
 
     @unittest.skipUnless(has("sympy"), "SymPy is not here")
     def test_sympy_takes_them(self):

@@ -41,7 +41,7 @@ class Published(unittest.TestCase):
         self.near(moments.means[0], 153.04, moments.errors[0])
 
     def test_the_directed_sandpile(self):
-        # (each chip comes to the sink by as many steps as there are rows, and a firing makes two steps)
+        # (each chip reaches the sink by as many steps as there are rows, and a firing makes two steps)
         height, width = 256, 64
         graph = directed(height, width)
         chips = stable_rows(8, graph.vertices, 1)

@@ -77,7 +77,7 @@ class EndsEach(unittest.TestCase):
         pass
 """
 #: What comes of each test of the sample.
-TOLD = {
+WORDS = {
     "Single::test_right": "passed",
     "Single::test_wrong": "failed",
     "Single::test_ends_by_an_error": "failed",
@@ -104,7 +104,7 @@ TELL = "\nwith open('outcomes', 'w') as file: json.dump(outcomes, file)\n"
 
 
 class Readers(unittest.TestCase):
-    def tells(self, reading):
+    def reads(self, reading):
         """Has the sample read in a Python of its own, and compares the outcomes."""
         with tempfile.TemporaryDirectory() as folder:
             with open(f"{folder}/sample.py", "w", encoding="ascii") as file:
@@ -115,16 +115,16 @@ class Readers(unittest.TestCase):
             self.assertTrue(os.path.exists(f"{folder}/outcomes"), ran)
             with open(f"{folder}/outcomes", encoding="ascii") as file:
                 outcomes = json.load(file)
-        told = {name.partition("::")[2]: word for name, (word, _) in outcomes.items()}
+        words = {name.partition("::")[2]: word for name, (word, _) in outcomes.items()}
         reasons = {text for word, text in outcomes.values() if word == job.SKIPPED}
-        self.assertEqual((told, reasons), (TOLD, {"the reason"}))
+        self.assertEqual((words, reasons), (WORDS, {"the reason"}))
 
     def test_unittest(self):
-        self.tells(BY_UNITTEST)
+        self.reads(BY_UNITTEST)
 
     @unittest.skipUnless(importlib.util.find_spec("pytest"), "pytest is not here")
     def test_pytest(self):
-        self.tells(BY_PYTEST)
+        self.reads(BY_PYTEST)
 
 
 class Names(unittest.TestCase):

@@ -409,8 +409,8 @@ class Explorer(unittest.TestCase):
                 self.assertEqual(found and len(found) - longer, early)
             found = chipfire.explore(fed, IgnoresTheEnd, feeds=feeds)
             self.assertEqual((found.schedule, found.left), ([], ("the end of feeding is not noted",)))
-        told = chipfire.explore(fed, "at-once", feeds=((4, 2),)).schedule
-        replies = chipfire.simulate(TRIANGLE, (0, 0, 0), told, fed=True).replies
+        found = chipfire.explore(fed, "at-once", feeds=((4, 2),)).schedule
+        replies = chipfire.simulate(TRIANGLE, (0, 0, 0), found, fed=True).replies
         self.assertTrue(all(reply.is_done or reply.name in ("Engaged", "NothingOwed") for reply in replies))
 
     def test_seals(self):
@@ -497,10 +497,10 @@ class RandomSchedules(unittest.TestCase):
         events = chipfire.random_schedule(setting, seed)
         core = schedules.opened(setting)
         replies = [core.step(*event) for event in events]
-        told = chipfire.simulate(setting.graph, setting.chips, events, limit=setting.limit, ring=setting.ring)
-        self.assertEqual([str(reply) for reply in told.replies], replies)
-        self.assertTrue(told.root_closed and core.is_closed())
-        self.assertEqual(told.report.text().strip(), core.report())
+        run = chipfire.simulate(setting.graph, setting.chips, events, limit=setting.limit, ring=setting.ring)
+        self.assertEqual([str(reply) for reply in run.replies], replies)
+        self.assertTrue(run.root_closed and core.is_closed())
+        self.assertEqual(run.report.text().strip(), core.report())
 
     def test_the_same_seed_draws_the_same(self):
         self.assertEqual(chipfire.random_schedule(FOUR, 5), chipfire.random_schedule(FOUR, 5))
@@ -763,22 +763,22 @@ class AtTheShell(unittest.TestCase):
             for rule, status in (("True", 2), ("False", 3), ("super().may_let_go(e)", 0)):
                 with open(f"{folder}/mine.py", "w", encoding="utf-8") as file:
                     file.write(self.OWN.format(rule))
-                told, said = self.asked("explore", f"{folder}/mine.py:Mine", graph, chips)
-                self.assertEqual(told, status, said)
+                ended, said = self.asked("explore", f"{folder}/mine.py:Mine", graph, chips)
+                self.assertEqual(ended, status, said)
             self.assertIn("the root can always be closed", said)
             self.assertEqual(self.asked("explore", "right", graph, chips, "--most", "5")[0], 4)
-            told, said = self.asked("explore", f"{folder}/mine.py:Yours")
-            self.assertEqual((told, "has no class Yours" in said), (1, True))
-        told, said = self.asked("explore", "at-once")
-        self.assertEqual((told, said.splitlines()[1:]), (2, ["event,at,count", "take,4,0", "ack,4,0", "settle,4,0"]))
+            ended, said = self.asked("explore", f"{folder}/mine.py:Yours")
+            self.assertEqual((ended, "has no class Yours" in said), (1, True))
+        ended, said = self.asked("explore", "at-once")
+        self.assertEqual((ended, said.splitlines()[1:]), (2, ["event,at,count", "take,4,0", "ack,4,0", "settle,4,0"]))
 
     def test_a_file_imports_what_stands_beside_it(self):
         with tempfile.TemporaryDirectory(prefix="chipfire-python-") as folder:
             for name, text in (("given", self.OWN.format("True")), ("own", "from given import Mine\n")):
                 with open(f"{folder}/{name}.py", "w", encoding="utf-8") as file:
                     file.write(text)
-            told, said = self.asked("explore", f"{folder}/own.py:Mine")
-        self.assertEqual(told, 2, said)
+            ended, said = self.asked("explore", f"{folder}/own.py:Mine")
+        self.assertEqual(ended, 2, said)
 
     def test_an_error_is_no_verdict(self):
         for words, said in ((["explore"], "the following arguments are required: DETECTOR"),
@@ -786,16 +786,16 @@ class AtTheShell(unittest.TestCase):
                             (["judge", "graph.json", "log.csv"], "a game is GRAPH and CHIPS, two files"),
                             (["judge", "a", "b", "c", "--what"], "unrecognized arguments: --what"),
                             (["explode"], "invalid choice: 'explode'")):
-            told, reason = self.asked(*words)
-            self.assertEqual((told, said in reason), (1, True), reason)
+            ended, reason = self.asked(*words)
+            self.assertEqual((ended, said in reason), (1, True), reason)
         with tempfile.TemporaryDirectory(prefix="chipfire-python-") as folder:
             for text, said in ((self.OWN.format("exit(0)"), "the detector ended the command with exit(0)"),
                                (self.OWN.format("True") + "exit(0)\n", "mine.py: SystemExit: 0"),
                                (self.OWN.format("1 / 0"), "ZeroDivisionError")):
                 with open(f"{folder}/mine.py", "w", encoding="utf-8") as file:
                     file.write(text)
-                told, reason = self.asked("explore", f"{folder}/mine.py:Mine")
-                self.assertEqual((told, said in reason), (1, True), reason)
+                ended, reason = self.asked("explore", f"{folder}/mine.py:Mine")
+                self.assertEqual((ended, said in reason), (1, True), reason)
 
     def test_the_status_of_judge(self):
         with tempfile.TemporaryDirectory(prefix="chipfire-python-") as folder:
@@ -807,16 +807,16 @@ class AtTheShell(unittest.TestCase):
                                  ([*over, ("root", 0, 0, "open")], 3), ([("fire", 0, 1, "done 1")], 1)):
                 with open(f"{folder}/log.csv", "w", encoding="utf-8") as file:
                     file.write("event,at,count,reply\n" + "".join(",".join(map(str, row)) + "\n" for row in rows))
-                told, said = self.asked("judge", graph, chips, f"{folder}/log.csv")
-                self.assertEqual(told, status, said)
+                ended, said = self.asked("judge", graph, chips, f"{folder}/log.csv")
+                self.assertEqual(ended, status, said)
             # (of any program: process 0 claims before it is passive, after that, and never)
-            for rows, answer in (("0,over,0\n0,passive,0\n", (2, "over 0 1 early: process 0 is active\nend missed\n")),
+            for rows, wanted in (("0,over,0\n0,passive,0\n", (2, "over 0 1 early: process 0 is active\nend missed\n")),
                                  ("0,passive,0\n0,over,0\n", (0, "over 0 2 right\nend claimed\n")),
                                  ("0,passive,0\n", (3, "end missed\n")), ("0,stop,0\n", (1, "fault 28 Kind 1"))):
                 with open(f"{folder}/log.csv", "w", encoding="utf-8") as file:
                     file.write(f"process,kind,channel\n0,active,0\n{rows}")
-                told, said = self.asked("judge", f"{folder}/log.csv")
-                self.assertEqual((told, said.partition("chipfire: ")[2].strip() or said), answer)
+                ended, said = self.asked("judge", f"{folder}/log.csv")
+                self.assertEqual((ended, said.partition("chipfire: ")[2].strip() or said), wanted)
 
 
 class ShiViz(unittest.TestCase):

@@ -257,8 +257,8 @@ class Long(unittest.TestCase):
     def test_a_signal_stops_a_long_call_and_keeps_what_was_made(self):
         script = [
             "import chipfire, signal", "signal.signal(signal.SIGINT, signal.default_int_handler)  # (or it may be ignored)",
-            "def told(done, total):", "    done and print('begun', flush=True)", "g = chipfire.grid(40, 40)",
-            "found = chipfire.chains(g, 2, 10**7, 1, progress=told, partial=True)",
+            "def report(done, total):", "    done and print('begun', flush=True)", "g = chipfire.grid(40, 40)",
+            "found = chipfire.chains(g, 2, 10**7, 1, progress=report, partial=True)",
             "made = [int(it) for it in found.made]", "short = chipfire.chains(g, 2, min(made), 1)",
             "print(0 < min(made), max(made) < 10**7, [a[:min(made)].tolist() == b.tolist() for a, b in zip(found.size, short.size)])",
         ]
@@ -269,13 +269,13 @@ class Long(unittest.TestCase):
         self.assertEqual((said[-1], ran.returncode), ("True True [True, True]", 0))
 
     def test_progress_ends_at_all_that_is_made(self):
-        told = []
-        found = plays(progress=lambda done, total: told.append((done, total)))
-        self.assertEqual((told[-1], sorted(told)), ((280, 280), told))
+        reports = []
+        found = plays(progress=lambda done, total: reports.append((done, total)))
+        self.assertEqual((reports[-1], sorted(reports)), ((280, 280), reports))
         with concurrent.futures.ThreadPoolExecutor(1) as executor:
-            told.clear()
-            plays(executor=executor, progress=lambda done, total: told.append((done, total)))
-            self.assertEqual((told[-1], sorted(told)), ((280, 280), told))
+            reports.clear()
+            plays(executor=executor, progress=lambda done, total: reports.append((done, total)))
+            self.assertEqual((reports[-1], sorted(reports)), ((280, 280), reports))
         self.assertEqual(sum(found.made), 280)
 
     def test_lines_where_there_is_no_tqdm(self):

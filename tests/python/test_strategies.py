@@ -33,13 +33,13 @@ class Drawn(unittest.TestCase):
 
     def test_numbered_generators_draw_the_same_each_time(self):
         for soak, count in (("", 5), ("3", 5), ("7", 7)):
-            told = []
+            drawn_values = []
             with mock.patch.object(strategies, "hypothesis", None), mock.patch.dict(
                 "os.environ", CHIPFIRE_SOAK=soak
             ):
-                test = drawn(random.Random.random, 5)(lambda self, value: told.append(value))
+                test = drawn(random.Random.random, 5)(lambda self, value: drawn_values.append(value))
             self.assertEqual(failures_of(test), [])
-            self.assertEqual(told, [random.Random(number).random() for number in range(count)])
+            self.assertEqual(drawn_values, [random.Random(number).random() for number in range(count)])
 
     def test_what_fails_for_some_number_fails(self):
         some = [random.Random(number).randrange(4) for number in range(40)]

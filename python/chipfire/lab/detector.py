@@ -33,7 +33,7 @@ from chipfire.utils import FileName
 #: The name of the process that every detector has for itself. No edge leads to it, and it alone begins active.
 ROOT = "root"
 
-#: What comes to an inbox when all is over.
+#: What an inbox gets when all is over.
 _OVER = None
 
 
@@ -382,7 +382,7 @@ class Detector:
         return is_over
 
     def _hear(self, item: Item) -> None:
-        """Notes what comes to the root: an acknowledgement, or a refusal, with which nothing can be known any more."""
+        """Notes what the root gets: an acknowledgement, or a refusal, with which nothing can be known any more."""
         if isinstance(item, Fault):
             self._tell_all()
             raise item

@@ -332,7 +332,7 @@ def shiviz(setting: Game, events: Iterable[Sequence[Any]], detector: Detector = 
     messages: dict[int, deque[Counter[str]]] = {
         e.number: deque([Counter()] * e.put) for e in core.edges
     }
-    answers: dict[int, Counter[str]] = defaultdict(Counter)
+    acks: dict[int, Counter[str]] = defaultdict(Counter)
     for event in events:
         if event[0] not in (*EVENTS, WORK):
             raise ValueError(
@@ -351,12 +351,12 @@ def shiviz(setting: Game, events: Iterable[Sequence[Any]], detector: Detector = 
             host = str(core.edges[at].tail)
         clock = clocks[host]
         if kind in ("take", "settle"):
-            clock |= messages[at].popleft() if kind == "take" else answers[at]
+            clock |= messages[at].popleft() if kind == "take" else acks[at]
         clock[host] += 1
         if kind == "put":
             messages[at].append(clock.copy())
         elif kind == "ack":
-            answers[at] = clock.copy()
+            acks[at] = clock.copy()
         counts = ", ".join(f'"{name}":{count}' for name, count in sorted(clock.items()))
         lines += [f"{host} {{{counts}}}", f"{kind} {at}: {reply}"]
     return "".join(f"{line}\n" for line in lines)

@@ -212,7 +212,7 @@ function wayRound(edge, bend) {
     return ways.reduce((best, way) => (crossed(way).length < crossed(best).length ? way : best));
 }
 
-// The way of what one part tells another, bent so that it lies on as little as can be of what is drawn.
+// The way of what one part says to another, bent so that it lies on as little as can be of what is drawn.
 function wayOfTold(tail, head, drawn) {
     const found = [0, 1, -1, 2, -2, 3, -3, 4, -4, 5, -5].map((bend) => {
         const way = wayBetween(tail, head, bend);
@@ -701,37 +701,37 @@ let story = tellStory();
 
 // Which messages and acknowledgements went from which event to which, and from when to when each vertex was engaged.
 function tellStory() {
-    const told = { messages: [], answers: [], bands: [], own: [] };
+    const found = { messages: [], answers: [], bands: [], own: [] };
     const messages = run.edges.map((_, edge) =>
         run.start.edges[edge].cells.map(([, chips]) => ({ edge, from: 0, chips })));
-    const answers = run.edges.map(() => []);
+    const acks = run.edges.map(() => []);
     const engaged = new Map();
-    for (const found of messages) told.messages.push(...found);
+    for (const sent of messages) found.messages.push(...sent);
     run.steps.forEach(({ kind, at: edge, done, changes, tells = [] }, index) => {
         const step = index + 1;
         if (!done) return;
-        told.own.push(...tells.map(([tail, head]) => ({ tail, head, from: step, to: step })));
+        found.own.push(...tells.map(([tail, head]) => ({ tail, head, from: step, to: step })));
         if (kind === "put") {
             const chips = changes.find(([, , name]) => name === "cells")[3].at(-1)[1];
             messages[edge].push({ edge, from: step, chips });
-            told.messages.push(messages[edge].at(-1));
+            found.messages.push(messages[edge].at(-1));
         } else if (kind === "take" && changes.length) {
             messages[edge].shift().to = step;
         } else if (kind === "ack") {
-            answers[edge].push({ edge, from: step });
-            told.answers.push(answers[edge].at(-1));
+            acks[edge].push({ edge, from: step });
+            found.answers.push(acks[edge].at(-1));
         } else if (kind === "settle" || kind === "end") {
             const seen = kind === "end" ? run.graphEdges : edge;
-            for (const answer of answers[seen].splice(0)) answer.to = step;
+            for (const ack of acks[seen].splice(0)) ack.to = step;
         }
         for (const [part, vertex, name, value] of changes) {
             if (part !== "vertices" || name !== "parent") continue;
             if (value === null) engaged.get(vertex).to = step;
             else engaged.set(vertex, { vertex, from: step });
-            if (value !== null) told.bands.push(engaged.get(vertex));
+            if (value !== null) found.bands.push(engaged.get(vertex));
         }
     });
-    return told;
+    return found;
 }
 
 // What the diagram shows: the events round the present one, from first to end, and the parts that have a column. Among
@@ -813,7 +813,7 @@ function arrowOf({ from, to, chips }, kind, tail, head, { x, row, columns, end, 
     return other === null ? made : [...made, word(said, cut.x + 6, cut.y, SPACE.words, "said")];
 }
 
-// What a detector's own event tells, from one part to another.
+// What a detector's own event says, from one part to another.
 function toldOf({ tail, head, from }, { x, row }) {
     const [start, end] = [{ x: x(tail), y: row(from) }, { x: x(head), y: row(from) + 0.7 * SPACE.row }];
     const line = shape("line", { x1: start.x, y1: start.y, x2: end.x, y2: end.y, class: "line" });

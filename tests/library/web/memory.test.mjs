@@ -53,12 +53,12 @@ test("blocks that are freed side by side are one, in whichever order", async () 
   const { chipfire_room: room, chipfire_free: free } = instance.exports;
   for (const order of [[0, 1, 2], [0, 2, 1], [1, 0, 2], [1, 2, 0], [2, 0, 1], [2, 1, 0]]) {
     const blocks = [1, 2, 3].map(() => room(1000n));
-    const behind = room(1000n);
+    const last = room(1000n);
     for (const at of order) free(blocks[at]);
     const whole = room(3000n);
     assert.equal(whole, blocks[0], String(order));
     free(whole);
-    free(behind);
+    free(last);
   }
 });
 

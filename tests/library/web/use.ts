@@ -23,8 +23,8 @@ async function play(): Promise<void> {
   if (areAll) configurations.pop();
   const books: Books = chipfire.books([1], new Set<Whole>([2, 3n]));
   books.sent(2);
-  const told: bigint = books.acknowledge(true).reduce((sum, [edge, count]) => sum + edge * count, books.deficit);
-  const isOver: boolean = books.isOver(true) && books.parent === null && told > size;
+  const total: bigint = books.acknowledge(true).reduce((sum, [edge, count]) => sum + edge * count, books.deficit);
+  const isOver: boolean = books.isOver(true) && books.parent === null && total > size;
   // @ts-expect-error  (a text is no number)
   pile.drop("24");
   if (isOver) throw new Error(`${chipfire.version}: ${books.settled(2, 1)}`);

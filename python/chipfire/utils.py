@@ -14,10 +14,7 @@ import random
 import sys
 from array import array
 from collections.abc import Callable, ItemsView, Iterable, Iterator, Mapping, Sequence
-from concurrent.futures import ThreadPoolExecutor
-from typing import Any, TypeVar, Union
-
-T = TypeVar("T")
+from typing import Any, Union
 
 #: The most of a graph, and of a large one.
 MAX_VERTICES = 4096
@@ -280,17 +277,6 @@ def require_memory(count: int, what: str) -> None:
         ]
     if count > min(limits):
         raise MemoryError(f"{what} take {count:,} bytes, and there are {min(limits):,}")
-
-
-def run_in_threads(work: Callable[[int], T], count: int, workers: int) -> list[T]:
-    """What work is for each number below `count`, on `workers` threads. After an error or interrupt none is begun."""
-    if workers == 1:
-        return [work(it) for it in range(count)]
-    pool = ThreadPoolExecutor(workers)
-    try:
-        return list(pool.map(work, range(count)))
-    finally:
-        pool.shutdown(cancel_futures=True)
 
 
 def with_unit(count: int, word: str) -> str:

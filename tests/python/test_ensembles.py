@@ -18,6 +18,7 @@ from unittest import mock
 
 import chipfire
 from chipfire import utils as values
+from chipfire.backend.portions import Portions
 from chipfire.ensembles import wilson
 from test_counts import slow_report
 from test_drops import rows_of, slow_rows
@@ -66,9 +67,9 @@ class Recurrent(unittest.TestCase):
     def test_progress_and_parts(self):
         grid, told = chipfire.grid(5, 4), []
         whole = chipfire.random_recurrent(grid, 9, 10)
-        with mock.patch("chipfire.ensembles.wilson._PART", 3 * grid.vertices):
+        with mock.patch.object(Portions, "_note"):  # (so each draws one)
             parts = chipfire.random_recurrent(grid, 9, 10, progress=lambda done, all_: told.append((done, all_)))
-        self.assertEqual((parts, told[0], told[-1], told), (whole, (3, 10), (10, 10), sorted(told)))
+        self.assertEqual((parts, told[0], told[-1], told), (whole, (1, 10), (10, 10), sorted(told)))
 
     def test_a_configuration_of_a_number_is_the_same_beside_others(self):
         grid = chipfire.grid(5, 4)

@@ -29,8 +29,8 @@ from chipfire.ensembles.drops import (
     Drops,
     measured_drops,
     parts_of,
-    played_drops,
     ROWS_HEADER,
+    without_library,
 )
 from chipfire.graphs.graph import Graph
 from chipfire.lab.logs import judge_log
@@ -44,7 +44,17 @@ from chipfire.lab.machine import (
     Simulation,
     trace_text,
 )
-from chipfire.utils import as_int, FILE, FileName, MAX_LIMIT, no_graph, rows_text, write_text
+from chipfire.utils import (
+    as_int,
+    FILE,
+    FileName,
+    in_column,
+    MAX_CHIPS,
+    MAX_LIMIT,
+    no_graph,
+    rows_text,
+    write_text,
+)
 
 if TYPE_CHECKING:
     from typing_extensions import Concatenate, ParamSpec
@@ -66,6 +76,9 @@ _RANGES = {
     "trace_rows": (0, 2**20),
     "rounds": (0, 2**40),
 }
+
+#: How often a vertex fired at most in the stages of a play before the last one.
+MAX_PRIOR = 2**60
 
 #: The options that are there or not.
 _FLAGS = {"progress", "dealt", "books", "fed"}
@@ -281,14 +294,8 @@ def plain(
         counts = question.numbers(guess.total if isinstance(guess, Report) else guess, "firings")
     is_in_memory = not isinstance(start, FILE) and not isinstance(counts, FILE)
     if question.own and not progress and is_in_memory:
-        if found := play(question.own, start, program, _limit(limit), counts):
-            left, fired, stopped = found
-            return Report(
-                tuple(left),
-                tuple(fired),
-                _legal(question.own, left) if stopped else (),
-                graph=question.own,
-            )
+        if found := _played(question.own, start, program, _limit(limit), counts):
+            return found
     files = [
         question.chips(start),
         *([] if guess is None else [question.chips(counts, "--guess", GUESS_HEADER)]),
@@ -296,6 +303,22 @@ def plain(
     return Report.parse(
         question.ask("plain", files, limit=limit, progress=progress), question.graph
     )
+
+
+def _played(
+    graph: Graph,
+    chips: array[int],
+    program: AnyProgram,
+    limit: int,
+    guess: array[int],
+) -> Report | None:
+    """The report of a play in this process; None if the program plays."""
+    found = play(graph, chips, program, limit, guess)
+    if not found:
+        return None
+    left, fired, stopped = found
+    over = _legal(graph, left) if stopped else ()
+    return Report(tuple(left), tuple(fired), over, graph=graph)
 
 
 def _limit(limit: int | None) -> int:
@@ -376,7 +399,7 @@ def verify(
         return False
     start = question.numbers(chips)
     own = question.own
-    if told and own and not own.loops and not progress and not isinstance(start, FILE):
+    if told and own and not own.loops and not isinstance(start, FILE):
         ends = in_words(told.chips)
         is_end = library.is_end(own, start, in_words(counts), ends, program, _limit(limit))
         if is_end is not None:
@@ -417,7 +440,8 @@ def drops(
         Whether to return which vertices each drop fires, and how often. This takes the library and NumPy.
     durations : bool, optional
         Whether to return for how many rounds each drop lasts, in each of which each legal vertex fires once. This takes
-        the library. A vertex with many chips fires one time after another then.
+        the library. A vertex with many chips fires one time after another then, and an interrupt waits for the end of
+        a drop.
     progress : bool, optional
         Whether `sys.stderr` gets a line about once a second that says how far the play is.
     program : path, optional
@@ -470,8 +494,9 @@ def drops(
     start: Any = question.numbers(chips)
     if not isinstance(vertices, FILE):
         at, many = dropped_on(question.graph, vertices, amounts)
-        if question.own and not progress and not isinstance(start, FILE):
-            if found := played_drops(question.own, start, at, many, program):
+        is_asked = program is not None or progress
+        if question.own and not is_asked and not isinstance(start, FILE):
+            if found := measured_drops(question.own, start, at, many):
                 return found
         rows = Kept(parts_of(at, many))
     elif amounts is not None:
@@ -502,8 +527,11 @@ def _measured(
     at, many = dropped_on(known, vertices, amounts)
     if isinstance(chips, FILE):
         chips = read_chips(chips, known)
-    numbers = known.column(chips, 0)
-    return measured_drops(known, in_words(numbers), at, many, bool(fired), bool(durations))
+    begun = in_words(known.column(chips, 0))
+    found = measured_drops(known, begun, at, many, bool(fired), bool(durations))
+    if found is None:
+        raise without_library()
+    return found
 
 
 def run(
@@ -793,13 +821,35 @@ def resume(
         )
     question = _Question(graph, program)
     own = None if isinstance(report, FILE) else report
+    if own and question.own and not progress:
+        if found := _resumed(question.own, own, program, limit):
+            return found
     text = question.ask(
         "resume", [_input("report", report, Report.text)], limit=limit, progress=progress
     )
     found = Report.parse(text, question.graph)
-    if own and not (own.graph.is_like(question.graph) if own.graph else own.fits(question.graph)):
-        raise ValueError("the report is one of another graph")
+    if own:
+        _refuse_other(question.graph, own)
     return found
+
+
+def _resumed(graph: Graph, report: Report, program: AnyProgram, limit: int | None) -> Report | None:
+    """The report of a play in this process that goes on; None if the program plays, or says what is wrong."""
+    chips = in_column(report.chips)
+    if program is not None or chips is None or len(chips) != graph.vertices:
+        return None
+    is_known = sum(chips) <= MAX_CHIPS and max(report.total) <= MAX_PRIOR
+    if not is_known or graph.loops or graph.wrong:
+        return None
+    _refuse_other(graph, report)
+    found = _played(graph, chips, program, _limit(limit), array("Q"))
+    return found and replace(found, prior=report.total)
+
+
+def _refuse_other(graph: Graph, report: Report) -> None:
+    """Refuses a report of another graph."""
+    if not (report.graph.is_like(graph) if report.graph else report.fits(graph)):
+        raise ValueError("the report is one of another graph")
 
 
 def explain(number: int | None = None, *, program: AnyProgram = None) -> str:
@@ -867,9 +917,9 @@ def identity(graph: AnyGraph, *, program: AnyProgram = None) -> Configuration:
 
     Notes
     -----
-    Proved: the identity, if the library finds it in one call. If a play may be too long for that, or without the
-    library, the program plays: then the stabilizations are proved. Not proved: that the identity is passed on, or
-    else the difference between the stabilizations.
+    Proved: the identity, if the library finds it in one call. If that is no short play, or without the library, the
+    stabilizations are proved. Not proved: that the identity is passed on, or else the difference between the
+    stabilizations.
 
     Examples
     --------

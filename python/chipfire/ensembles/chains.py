@@ -12,13 +12,13 @@ from typing import Any, Literal, overload
 from chipfire.backend import library
 from chipfire.backend.commands import AnyGraph, known_graph, read_chips
 from chipfire.backend.finding import ProgramNotFound
-from chipfire.configurations.configuration import Chips
+from chipfire.configurations.configuration import Chips, stabilized_rows
 from chipfire.ensembles import archive
 from chipfire.ensembles.checkpoint import opened
 from chipfire.ensembles.drops import COLUMNS
 from chipfire.ensembles.firings import Firings, firings, firings_of, stored
 from chipfire.ensembles.histograms import following, Histograms, joined, sums_by_name
-from chipfire.ensembles.player import places_of, Plan, spanning, stabilize, table_of
+from chipfire.ensembles.player import places_of, Plan, spanning, table_of
 from chipfire.ensembles.power_law import sizes_figure
 from chipfire.ensembles.spread import Spread
 from chipfire.graphs.graph import Graph
@@ -434,10 +434,7 @@ def _starts(graph: Graph, chips: Any, n: int) -> array[int]:
     if len(rows) != n:
         raise ValueError(f"there are chips for {len(rows)} chains, and {n} chains")
     begun = array("Q", graph.without_loops([*itertools.chain.from_iterable(rows)]))
-    fired = array("Q", bytes(8 * len(begun)))
-    stopped = array("Q", bytes(8 * n))
-    stabilize(graph.loop_free, begun, fired, stopped)
-    return begun
+    return stabilized_rows(graph.loop_free, begun, None)[0]
 
 
 def _result(plan: Plan, table: Any) -> Chains | Histograms:

@@ -5,10 +5,12 @@ the tests of arrays are skipped.
 """
 import contextlib
 import dataclasses
+import io
 import itertools
 import os
 import pickle
 import random
+import re
 import shutil
 import signal
 import subprocess
@@ -194,7 +196,6 @@ class Ways(WithFolder):
         first = chipfire.plain(grid, {5: 9}, limit=1)
         for call in (
             lambda: chipfire.plain(grid, {5: 9}, program=chipfire.find_program()), lambda: chipfire.plain(grid, file),
-            lambda: chipfire.plain(grid, {5: 9}, progress=True), lambda: chipfire.drops(grid, 0, [1], progress=True),
             lambda: chipfire.plain(TRIANGLE_FILE, {0: 9}), lambda: chipfire.Program().plain(grid, {5: 9}),
             lambda: chipfire.resume(grid, first, program=chipfire.find_program()), lambda: chipfire.run(grid, {5: 9}),
             lambda: chipfire.drops(grid, 0, [1], program=chipfire.find_program()),
@@ -203,17 +204,17 @@ class Ways(WithFolder):
                 call()
             self.assertGreater(started.call_count, 0)
 
-    def test_guesses_and_stages_start_no_program(self):
+    def test_progress_guesses_and_stages_start_no_program(self):
         grid = chipfire.grid(4, 4)
         first = chipfire.plain(grid, {5: 99}, limit=4)
-        with self.counted() as started:
-            whole = chipfire.plain(grid, {5: 99})
-            self.assertEqual(chipfire.plain(grid, {5: 99}, guess=whole), whole)
-            self.assertTrue(chipfire.verify(grid, {5: 99}, whole))
-            self.assertTrue(chipfire.verify(grid, {5: 99}, whole.fired))
-            last = chipfire.resume(grid, first)
+        with self.counted() as started, contextlib.redirect_stderr(io.StringIO()):
+            whole = chipfire.plain(grid, {5: 99}, progress=True)
+            self.assertEqual(chipfire.plain(grid, {5: 99}, guess=whole, progress=True), whole)
+            self.assertTrue(chipfire.verify(grid, {5: 99}, whole, progress=True))
+            self.assertTrue(chipfire.verify(grid, {5: 99}, whole.fired, progress=True))
+            last = chipfire.resume(grid, first, progress=True)
             self.assertEqual((last.chips, last.total, last.prior), (whole.chips, whole.fired, first.fired))
-            chipfire.drops(grid, 3, [1, 2], amounts=[1, 2**20])
+            chipfire.drops(grid, 3, [1, 2], amounts=[1, 2**20], progress=True)
         self.assertEqual(started.call_count > 0, not IS_HERE)
 
     @contextlib.contextmanager
@@ -224,6 +225,23 @@ class Ways(WithFolder):
             stack.enter_context(mock.patch.multiple(kept, **of_piles))
             stack.enter_context(mock.patch.object(library, "_VISITS", visits))
             yield stack.enter_context(self.counted())
+
+    @unittest.skipUnless(IS_HERE, "the library is not called")
+    def test_what_progress_shows_only_rises(self):
+        grid, shown = chipfire.grid(6, 6), []
+        for call, said, least in [
+            (lambda: chipfire.plain(grid, {14: 300}, progress=True), r"chipfire: ([0-9,]+) firings", 5),
+            (lambda: chipfire.drops(grid, 3, range(30), progress=True), "chipfire: ([0-9]+) of 30 drops", 2),
+            (lambda: chipfire.drops(grid, 3, range(30), durations=True, progress=True), "chipfire: ([0-9]+) of 30 drops", 2),
+        ]:
+            lines = mock.patch.multiple("chipfire.progress", _LINES=0, import_optional=lambda *_: None)
+            with self.in_portions(), lines, contextlib.redirect_stderr(io.StringIO()) as told:
+                found = call()
+            counts = [int(re.fullmatch(said, line)[1].replace(",", "")) for line in told.getvalue().splitlines()]
+            self.assertEqual(counts, sorted(counts))
+            self.assertGreaterEqual(len(counts), least)
+            shown.append((counts[-1], sum(found.fired) if isinstance(found, chipfire.Report) else len(found)))
+        self.assertEqual([last for last, _ in shown], [whole for _, whole in shown])
 
     def test_plays_in_portions_are_the_same(self):
         chain = chipfire.Graph(3, 2, [(0, 1, 10), (1, 0), (0, 2)])

@@ -12,6 +12,7 @@ from typing import Any, cast, NamedTuple, TYPE_CHECKING, TypeVar, Union
 
 from chipfire.backend import library
 from chipfire.backend.finding import find_program
+from chipfire.backend.kept import KeptPile
 from chipfire.backend.plays import play
 from chipfire.backend.process import ask, Fault, Input, Kept
 from chipfire.backend.report import Report
@@ -44,6 +45,7 @@ from chipfire.lab.machine import (
     Simulation,
     trace_text,
 )
+from chipfire.progress import Progress
 from chipfire.utils import (
     as_int,
     FILE,
@@ -249,7 +251,8 @@ def plain(
         How often each vertex may have fired in the end. It changes no result. One that is nearly right saves most of
         the play.
     progress : bool, optional
-        Whether `sys.stderr` gets a line about once a second that says how far the play is.
+        Whether progress is shown, by tqdm or in lines on `sys.stderr`: how often vertices have fired so far. With a
+        guess that is shown at the end.
     program : path, optional
         The program to ask. By default the one that is found.
 
@@ -293,8 +296,8 @@ def plain(
     if guess is not None:
         counts = question.numbers(guess.total if isinstance(guess, Report) else guess, "firings")
     is_in_memory = not isinstance(start, FILE) and not isinstance(counts, FILE)
-    if question.own and not progress and is_in_memory:
-        if found := _played(question.own, start, program, _limit(limit), counts):
+    if question.own and is_in_memory:
+        if found := _played(question.own, start, program, _limit(limit), counts, progress):
             return found
     files = [
         question.chips(start),
@@ -311,12 +314,23 @@ def _played(
     program: AnyProgram,
     limit: int,
     guess: array[int],
+    progress: bool,
 ) -> Report | None:
     """The report of a play in this process; None if the program plays."""
-    found = play(graph, chips, program, limit, guess)
-    if not found:
+    if program is not None or library.loaded() is None:
         return None
-    left, fired, stopped = found
+
+    def between(pile: KeptPile) -> None:
+        if shown.is_due:
+            shown.show(sum(pile.fired()))
+
+    with Progress(progress, None, "firings") as shown:
+        found = play(graph, chips, program, limit, guess, between)
+        if not found:
+            return None
+        left, fired, stopped = found
+        if progress:
+            shown.show(sum(fired), is_last=True)
     over = _legal(graph, left) if stopped else ()
     return Report(tuple(left), tuple(fired), over, graph=graph)
 
@@ -353,7 +367,7 @@ def verify(
     limit : int, optional
         How often each vertex may fire, from 0 to 2^40, which is the default.
     progress : bool, optional
-        Whether `sys.stderr` gets a line about once a second that says how far the play is.
+        Whether progress is shown, as by `plain`, if something is played.
     program : path, optional
         The program to ask. By default the one that is found.
 
@@ -443,7 +457,7 @@ def drops(
         the library. A vertex with many chips fires one time after another then, and an interrupt waits for the end of
         a drop.
     progress : bool, optional
-        Whether `sys.stderr` gets a line about once a second that says how far the play is.
+        Whether progress is shown, by tqdm or in lines on `sys.stderr`: how many of the drops are made.
     program : path, optional
         The program to ask. By default the one that is found.
 
@@ -488,15 +502,14 @@ def drops(
         left = tuple(graph.with_loops(free.report.chips))
         return replace(free, report=replace(free.report, chips=left, graph=graph))
     if fired or durations:
-        return _measured(graph, chips, vertices, amounts, fired, durations, program)
+        return _measured(graph, chips, vertices, amounts, fired, durations, progress, program)
     question = _Question(graph, program)
     rows = cast(Any, vertices)
     start: Any = question.numbers(chips)
     if not isinstance(vertices, FILE):
         at, many = dropped_on(question.graph, vertices, amounts)
-        is_asked = program is not None or progress
-        if question.own and not is_asked and not isinstance(start, FILE):
-            if found := measured_drops(question.own, start, at, many):
+        if question.own and program is None and not isinstance(start, FILE):
+            if found := measured_drops(question.own, start, at, many, progress=progress):
                 return found
         rows = Kept(parts_of(at, many))
     elif amounts is not None:
@@ -516,6 +529,7 @@ def _measured(
     amounts: Iterable[int] | None,
     fired: bool,
     durations: bool,
+    progress: bool,
     program: AnyProgram,
 ) -> Drops:
     """Drops by the library, with what is asked of them."""
@@ -528,7 +542,7 @@ def _measured(
     if isinstance(chips, FILE):
         chips = read_chips(chips, known)
     begun = in_words(known.column(chips, 0))
-    found = measured_drops(known, begun, at, many, bool(fired), bool(durations))
+    found = measured_drops(known, begun, at, many, bool(fired), bool(durations), progress)
     if found is None:
         raise without_library()
     return found
@@ -782,7 +796,7 @@ def resume(
     limit : int, optional
         How often each vertex may fire in this stage, from 0 to 2^40, which is the default.
     progress : bool, optional
-        Whether `sys.stderr` gets a line about once a second that says how far the play is.
+        Whether progress is shown, as by `plain`.
     program : path, optional
         The program to ask. By default the one that is found.
 
@@ -821,9 +835,8 @@ def resume(
         )
     question = _Question(graph, program)
     own = None if isinstance(report, FILE) else report
-    if own and question.own and not progress:
-        if found := _resumed(question.own, own, program, limit):
-            return found
+    if own and question.own and (found := _resumed(question.own, own, program, limit, progress)):
+        return found
     text = question.ask(
         "resume", [_input("report", report, Report.text)], limit=limit, progress=progress
     )
@@ -833,7 +846,9 @@ def resume(
     return found
 
 
-def _resumed(graph: Graph, report: Report, program: AnyProgram, limit: int | None) -> Report | None:
+def _resumed(
+    graph: Graph, report: Report, program: AnyProgram, limit: int | None, progress: bool
+) -> Report | None:
     """The report of a play in this process that goes on; None if the program plays, or says what is wrong."""
     chips = in_column(report.chips)
     if program is not None or chips is None or len(chips) != graph.vertices:
@@ -842,7 +857,7 @@ def _resumed(graph: Graph, report: Report, program: AnyProgram, limit: int | Non
     if not is_known or graph.loops or graph.wrong:
         return None
     _refuse_other(graph, report)
-    found = _played(graph, chips, program, _limit(limit), array("Q"))
+    found = _played(graph, chips, program, _limit(limit), array("Q"), progress)
     return found and replace(found, prior=report.total)
 
 

@@ -18,6 +18,7 @@ from chipfire.ensembles import archive
 from chipfire.ensembles.firings import fall, Firings, firings, firings_of, numbers_of, Room, stored
 from chipfire.ensembles.power_law import sizes_figure
 from chipfire.graphs.graph import Graph
+from chipfire.progress import Progress
 from chipfire.utils import (
     as_ints,
     FileName,
@@ -228,8 +229,16 @@ def _numbers_of(graph: Graph, vertices: Any) -> array[int]:
 class Measured:
     """Drops on a pile that the library keeps, with what is asked of them beside their columns."""
 
-    def __init__(self, graph: Graph, count: int, fired: bool, durations: bool) -> None:
+    def __init__(
+        self,
+        graph: Graph,
+        count: int,
+        fired: bool,
+        durations: bool,
+        progress: Progress | None = None,
+    ) -> None:
         self._graph = graph
+        self._progress = progress
         self._columns = [array("Q", bytes(8 * count)) for _ in range(3 + durations)]
         self._room = Room(graph.vertices) if fired else None
         #: How many drops were made, and the number of a fault that came of the last one, or 0.
@@ -244,6 +253,8 @@ class Measured:
             if self.number not in (0, kept.STOPPED):
                 raise refused(self.number, self.made + place, self._graph)
             self.made += place if self.number else len(where)
+            if self._progress:
+                self._progress.show(self.made, self.made == len(at))
             return self.number == 0
 
         in_calls(call, at, amounts, self._columns)
@@ -273,19 +284,21 @@ def measured_drops(
     amounts: array[int],
     fired: bool = False,
     durations: bool = False,
+    progress: bool = False,
 ) -> Drops | None:
     """Drops by the library, with what is asked of them, on the pile that the graph keeps; None without the library."""
     pile = kept.take(graph, chips, MAX_LIMIT)
     if pile is None:
         return None
     try:
-        measured = Measured(graph, len(at), fired, durations)
-        number = pile.play()
-        if number not in (0, kept.STOPPED):
-            raise refused(number, 0, graph)
-        if not number:
-            measured.play(pile, at, amounts)
-        left, counts = pile.chips(), pile.fired()
+        with Progress(progress, len(at), "drops") as shown:
+            measured = Measured(graph, len(at), fired, durations, shown)
+            number = pile.play()
+            if number not in (0, kept.STOPPED):
+                raise refused(number, 0, graph)
+            if not number:
+                measured.play(pile, at, amounts)
+            left, counts = pile.chips(), pile.fired()
     finally:
         kept.give_back(graph, pile)
     return Drops.with_report_later(measured.told(), lambda: _report(graph, left, counts))

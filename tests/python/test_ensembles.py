@@ -405,8 +405,6 @@ class Measured(unittest.TestCase):
             chipfire.drops(TRIANGLE, 0, [0], durations=True, program="another")
         with self.assertRaisesRegex(ValueError, "no 'duration'"):
             chipfire.drops(TRIANGLE, 0, [0]).histogram("duration")
-        with self.assertRaisesRegex(ValueError, "without durations"):
-            chipfire.chains(TRIANGLE, 1, 1, 1, durations=True, checkpoint="never made")
 
 
 class WithoutTheLibrary(unittest.TestCase):

@@ -296,8 +296,7 @@ def chains(
         True shows progress by tqdm or in lines. A function is called with the number of drops made and of all.
     checkpoint : path, optional
         A file to which parts are written as they are done. Another call with the same arguments, or with more chains,
-        goes on from it. Its numbers are believed, so nobody else should be able to write to it. It goes without
-        `durations`.
+        goes on from it. Its numbers are believed, so nobody else should be able to write to it.
     partial : bool, optional
         Whether an interrupt returns what was made until then, in place of KeyboardInterrupt.
 
@@ -340,8 +339,6 @@ def chains(
     _refuse_options(until, fired, workers, executor)
     if checkpoint is not None and (seed is None or hasattr(seed, "bit_generator")):
         raise ValueError("a checkpoint takes a seed that is the same in the next call")
-    if checkpoint is not None and durations:
-        raise ValueError("a checkpoint goes without durations")
     known.require()
     if known.vertices < 2 and drops:
         raise ValueError("the graph has only its sink, and so no vertex to drop on")

@@ -40,6 +40,12 @@ HERE = os.path.dirname(os.path.realpath(__file__))
 PAGE_POLICY = "default-src 'none'; style-src 'unsafe-inline'; script-src 'unsafe-inline'"
 
 
+class VertexNumber(int):
+    """The number of a vertex, in a result. A call that takes names refuses it, if the name of that vertex is another."""
+
+    __slots__ = ()
+
+
 def as_int(value: Any, what: str, least: int | None = 0, most: int | None = None) -> int:
     """A whole number of a range: an int, what stands for one, as the numbers of NumPy and Sage do, or a float like 4.0.
     `least` and `most` are the ends of the range; None sets no end."""

@@ -55,6 +55,7 @@ from chipfire.utils import (
     MAX_LIMIT,
     no_graph,
     rows_text,
+    VertexNumber,
     write_text,
 )
 
@@ -750,7 +751,7 @@ def replay(
     Returns
     -------
     list of Firing
-        The firings, each of a vertex and a count.
+        The firings, each of a vertex, by its number, and a count.
 
     Raises
     ------
@@ -774,7 +775,7 @@ def replay(
     question = _Question(graph, program)
     files = [question.chips(chips), _input("trace", trace, trace_text)]
     lines = question.ask("replay", files, "", limit=limit).splitlines()
-    return [Firing(int(vertex), int(count)) for _, vertex, count in map(str.split, lines)]
+    return [Firing(VertexNumber(vertex), int(count)) for _, vertex, count in map(str.split, lines)]
 
 
 def resume(

@@ -63,7 +63,7 @@ class Chains(WithArea):
     made : array of shape (n,)
         How many drops each chain made.
     chips : array of shape (n, vertices)
-        The chips after the last drop, by numbers. The sink has what it got in all.
+        The chips after the last drop, with a column for each vertex by its number. The sink has what it got in all.
     fired : Firings or None
         Which vertices each drop fired, if that was asked for.
     seed : int, float, str, bytes or None

@@ -332,8 +332,8 @@ def inverse(graph: AnyGraph, chips: Chips, *, program: AnyProgram = None) -> Con
     Notes
     -----
     Proved: the inverse, if no chips are below 0 and the library finds it in one call. If that is no short play, or
-    without the library, it is the representative of 0 less the chips, and the stabilizations are proved. Not proved:
-    that chips below 0 are lifted right, and that the inverse is passed on.
+    without the library, it is the representative of 0 less the chips, and the stabilizations are proved.
+    Not proved: that chips below 0 are lifted right, and that the inverse is passed on.
 
     Examples
     --------

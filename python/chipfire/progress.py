@@ -19,9 +19,10 @@ _LINES = 1.0
 
 class Progress:
     """Shows how much of some work is done: by a bar of tqdm if it is installed, else by lines on standard error, or by a
-    function, which gets how much is done and how much there is. `with` ends it."""
+    function, which gets how much is done and how much there is. The total may be unknown. `with` ends it.
+    """
 
-    def __init__(self, asked: AnyProgress, total: int, what: str) -> None:
+    def __init__(self, asked: AnyProgress, total: int | None, what: str) -> None:
         self.total = total
         self.what = what
         self.function = asked if callable(asked) else None
@@ -40,16 +41,24 @@ class Progress:
         if self.bar is not None:
             self.bar.close()
 
+    @property
+    def is_due(self) -> bool:
+        """Whether it is shown, and nothing has just been said."""
+        return self.is_shown and time.monotonic() >= self.next_time
+
     def show(self, done: int, is_last: bool = False) -> None:
         """Says how much is done, unless it has just been said."""
+        if not self.is_shown:
+            return
         now = time.monotonic()
-        if not self.is_shown or done == self.shown or not is_last and now < self.next_time:
+        if done == self.shown or not is_last and now < self.next_time:
             return
         if self.function is not None:
-            self.function(done, self.total)
+            self.function(done, self.total or 0)
         elif self.bar is not None:
             self.bar.update(done - max(self.shown, 0))
         else:
-            print(f"chipfire: {done:,} of {self.total:,} {self.what}", file=sys.stderr, flush=True)
+            of_all = "" if self.total is None else f" of {self.total:,}"
+            print(f"chipfire: {done:,}{of_all} {self.what}", file=sys.stderr, flush=True)
         self.shown = done
         self.next_time = now + (_LINES if self.function is None and self.bar is None else _CALLS)

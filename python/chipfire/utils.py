@@ -14,10 +14,7 @@ import random
 import sys
 from array import array
 from collections.abc import Callable, ItemsView, Iterable, Iterator, Mapping, Sequence
-from concurrent.futures import ThreadPoolExecutor
-from typing import Any, TypeVar, Union
-
-T = TypeVar("T")
+from typing import Any, Union
 
 #: The most of a graph, and of a large one.
 MAX_VERTICES = 4096
@@ -41,6 +38,12 @@ HERE = os.path.dirname(os.path.realpath(__file__))
 
 #: What a page may load and start, as browsers take it: the style and the script that stand in it.
 PAGE_POLICY = "default-src 'none'; style-src 'unsafe-inline'; script-src 'unsafe-inline'"
+
+
+class VertexNumber(int):
+    """The number of a vertex, in a result. A call that takes names refuses it, if the name of that vertex is another."""
+
+    __slots__ = ()
 
 
 def as_int(value: Any, what: str, least: int | None = 0, most: int | None = None) -> int:
@@ -280,17 +283,6 @@ def require_memory(count: int, what: str) -> None:
         ]
     if count > min(limits):
         raise MemoryError(f"{what} take {count:,} bytes, and there are {min(limits):,}")
-
-
-def run_in_threads(work: Callable[[int], T], count: int, workers: int) -> list[T]:
-    """What work is for each number below `count`, on `workers` threads. After an error or interrupt none is begun."""
-    if workers == 1:
-        return [work(it) for it in range(count)]
-    pool = ThreadPoolExecutor(workers)
-    try:
-        return list(pool.map(work, range(count)))
-    finally:
-        pool.shutdown(cancel_futures=True)
 
 
 def with_unit(count: int, word: str) -> str:

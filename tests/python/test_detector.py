@@ -152,6 +152,92 @@ class Rules(unittest.TestCase):
         asyncio.run(play())
 
 
+#: Runs with logs, each of which ends in another way; and a process of the system.
+LOGGED = """
+import asyncio, chipfire, gc, multiprocessing, sys, threading
+
+def work(me, count=0):
+    for number in me:
+        if number:
+            me.send("ab"[number % 2], number - 1)
+
+async def work_async(me):
+    async for number in me:
+        if number:
+            me.send("ab"[number % 2], number - 1)
+
+async def play(log):
+    detector = chipfire.Detector("ab", "asyncio", log=log)
+    detector.begin("a", 9)
+    await asyncio.gather(detector._wait_async(), *(work_async(detector[it]) for it in "ab"))
+    return detector
+
+def played(make, detector):
+    loops = [make(target=work, args=(detector[it],)) for it in "ab"]
+    for loop in loops:
+        loop.start()
+    detector.begin("a", 9)
+    detector.wait(600)
+    for loop in loops:
+        loop.join()
+    return detector
+
+def abandoned(log):
+    with chipfire.Detector("ab", log=log) as detector:
+        detector.begin("a", 9)
+        detector["a"].receive()
+        detector["a"].send("b", 1)
+    detector["a"].done()
+    return detector
+
+def refused(log):
+    detector = chipfire.Detector("ab", log=log)
+    detector.begin("a")
+    for call in (lambda: detector["b"].send("a"), lambda: detector.wait(600)):
+        try:
+            call()
+        except chipfire.Fault as fault:
+            print(fault.number, end=" ")
+    return detector
+
+if __name__ == "__main__":
+    folder = sys.argv[1]
+    context = multiprocessing.get_context("spawn")
+    for detector in (
+        played(threading.Thread, chipfire.Detector("ab", log=folder + "/threads")),
+        played(context.Process, chipfire.Detector("ab", context, log=folder + "/processes")),
+        asyncio.run(play(folder + "/coroutines")), abandoned(folder + "/abandoned"), refused(folder + "/refused"),
+    ):
+        print(str(detector.check()).splitlines()[-1])
+        del detector
+        gc.collect()
+"""
+
+
+class Logs(unittest.TestCase):
+    def test_no_file_is_left_open(self):
+        with tempfile.TemporaryDirectory(prefix="chipfire-detector-") as folder:
+            with open(f"{folder}/logged.py", "w", encoding="utf-8") as file:
+                file.write(LOGGED)
+            environment = {**os.environ, "PYTHONWARNINGS": "always::ResourceWarning"}
+            words = [sys.executable, f"{folder}/logged.py", folder]
+            ran = subprocess.run(words, env=environment, capture_output=True, encoding="utf-8", timeout=PATIENCE)
+        self.assertEqual(ran.stderr, "")
+        on_its_way = [f"end open: message 0 of channel {edge} is on its way" for edge in (1, 0)]
+        self.assertEqual(ran.stdout.splitlines(), ["32 32 end claimed", *["end claimed"] * 2, *on_its_way])
+
+    def test_what_is_noted_later_has_its_row(self):
+        with tempfile.TemporaryDirectory(prefix="chipfire-detector-") as folder:
+            detector = chipfire.Detector(["a"], log=folder)
+            detector.close()
+            detector.begin("a")
+            detector.close()
+            list(zip(range(1), detector["a"]))
+            with open(f"{folder}/0.rows", encoding="ascii") as file:
+                self.assertEqual(file.read(), "0,active,0\n0,send,0\n")
+            self.assertIsNone(detector["a"].books._file)
+
+
 class Examples(unittest.TestCase):
     def test_programs_that_know_when_they_are_over(self):
         primes = [it for it in range(2, 300) if all(it % other for other in range(2, it))]

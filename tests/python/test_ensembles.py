@@ -18,6 +18,7 @@ from unittest import mock
 
 import chipfire
 from chipfire import utils as values
+from chipfire.backend.portions import Portions
 from chipfire.ensembles import wilson
 from test_counts import slow_report
 from test_drops import rows_of, slow_rows
@@ -66,9 +67,9 @@ class Recurrent(unittest.TestCase):
     def test_progress_and_parts(self):
         grid, reports = chipfire.grid(5, 4), []
         whole = chipfire.random_recurrent(grid, 9, 10)
-        with mock.patch("chipfire.ensembles.wilson._PART", 3 * grid.vertices):
+        with mock.patch.object(Portions, "_note"):  # (so each draws one)
             parts = chipfire.random_recurrent(grid, 9, 10, progress=lambda done, all_: reports.append((done, all_)))
-        self.assertEqual((parts, reports[0], reports[-1], reports), (whole, (3, 10), (10, 10), sorted(reports)))
+        self.assertEqual((parts, reports[0], reports[-1], reports), (whole, (1, 10), (10, 10), sorted(reports)))
 
     def test_a_configuration_of_a_number_is_the_same_beside_others(self):
         grid = chipfire.grid(5, 4)
@@ -404,8 +405,6 @@ class Measured(unittest.TestCase):
             chipfire.drops(TRIANGLE, 0, [0], durations=True, program="another")
         with self.assertRaisesRegex(ValueError, "no 'duration'"):
             chipfire.drops(TRIANGLE, 0, [0]).histogram("duration")
-        with self.assertRaisesRegex(ValueError, "without durations"):
-            chipfire.chains(TRIANGLE, 1, 1, 1, durations=True, checkpoint="never made")
 
 
 class WithoutTheLibrary(unittest.TestCase):

@@ -126,16 +126,48 @@ class Rows(unittest.TestCase):
                 self.assertEqual(other.drop(2, 5), (0, 0, 0))
                 self.assertEqual((pile.report, other.chips[2]), (before, before.chips[2] + 5))
 
-    def test_what_is_too_long_for_this_process_the_program_plays(self):
-        drops = [(0, 1), (1, 30), (0, 2), (2, 5), (1, 1)]
-        rows, report = stepped(TRIANGLE, [9, 9, 0], drops)
-        for work in (0, 7 * 20, 7 * 40, 7 * 70, 7 * 200):
-            with mock.patch.object(library, "MOST_WORK", work):
-                pile = chipfire.Pile(TRIANGLE, [9, 9, 0])
-                self.assertEqual((dropped(pile, drops), pile.report), (rows, report))
-                pile.put([9, 9, 0])
-                found = pile.drops([0, 1, 0, 2, 1], amounts=[1, 30, 2, 5, 1])
-                self.assertEqual((rows_of(found), found.report), (rows, report))
+    @drawn(game_with_drops, 12)
+    def test_drops_of_many_chips_are_played_in_portions(self, game):
+        """Also if a limit stops one: then counts from before do not go on in the library."""
+        graph, chips, drops = game
+        heavy = [(vertex, amount * (1 + 4 * (at % 3))) for at, (vertex, amount) in enumerate(drops)]
+        ways = itertools.product((2**40, 0, 2, 12, 40), (0, 2 * graph.vertices, 5 * graph.vertices))
+        for limit, light in ways if IS_HERE else [(2**40, 0)]:
+            rows, report = stepped(graph, chips, heavy, limit)
+            at, amounts = zip(*heavy)
+            with mock.patch.multiple(kept, _LIGHT=light, _FEW_CHIPS=1, _FIRST_VISITS=1, _MOST_VISITS=1):
+                pile = chipfire.Pile(graph, chips, limit)
+                self.assertEqual(dropped(pile, heavy[: len(rows)]), rows)
+                for vertex, amount in heavy[len(rows) : len(rows) + 2]:
+                    with self.assertRaisesRegex(chipfire.Fault, "fault 13 "):
+                        pile.drop(vertex, amount)
+                self.assertEqual((pile.report, pile.is_stopped), (report, not report.closed))
+                pile.put(chips)
+                if not pile.is_stopped:
+                    found = pile.drops(at, amounts=amounts)
+                    self.assertEqual((rows_of(found), found.report), (rows, report))
+                if limit == 2**40:
+                    found = chipfire.drops(graph, chips, at, amounts=amounts)
+                    self.assertEqual((rows_of(found), found.report), (rows, report))
+
+    @unittest.skipUnless(IS_HERE, "the library is not called")
+    def test_a_drop_that_is_interrupted_was_not_made(self):
+        def interrupted(pile):
+            raise KeyboardInterrupt
+
+        for drop in (lambda pile: pile.drop(12, 900), lambda pile: pile.drops([3, 12], amounts=[1, 900])):
+            grid = chipfire.grid(5, 5)
+            with mock.patch.multiple(kept, _LIGHT=0, _FEW_CHIPS=1, _FIRST_VISITS=1, _MOST_VISITS=1):
+                pile, other = chipfire.Pile(grid, 3), chipfire.Pile(grid, 3)
+                pile.drop(7, 9), other.drop(7, 9)
+                pile._kept.between = interrupted
+                with self.assertRaises(KeyboardInterrupt):
+                    drop(pile)
+                pile._kept.between = kept.nothing
+                self.assertEqual(pile.report, other.report)
+                drop(pile), drop(other)
+                self.assertEqual(pile.report, other.report)
+                self.assertEqual(copy.copy(pile).report, other.report)
 
 
 class Threads(unittest.TestCase):
@@ -230,13 +262,13 @@ class Kept(unittest.TestCase):
             self.assertEqual(pickle.loads(pickle.dumps(found)).report, found.report)
         self.assertIs(found.report, found.report)
 
-    def test_many_calls_begin_the_counts_anew(self):
+    def test_many_calls_on_what_fired_before(self):
         draw, graph = random.Random(5), chipfire.grid(4, 4)
         drops = [(draw.randrange(16), draw.randint(0, 3)) for _ in range(300)]
         rows, report = stepped(graph, [3] * 16 + [0], drops)
         at, amounts = zip(*drops)
-        for work in (80 * 60, 80 * 150, 2**28):
-            with mock.patch.object(library, "MOST_WORK", work):
+        for light in (0, 2 * 17, 2**20):
+            with mock.patch.multiple(kept, _LIGHT=light, _FEW_CHIPS=1):
                 found = chipfire.drops(graph, 3, at, amounts=amounts)
             self.assertEqual((rows_of(found), found.report), (rows, report))
 

@@ -3,10 +3,14 @@
 All small cases are compared with the slow player of examples/play.py. With CHIPFIRE each call starts the program, and
 the tests of arrays are skipped.
 """
+import contextlib
 import dataclasses
+import io
 import itertools
 import os
+import pickle
 import random
+import re
 import shutil
 import signal
 import subprocess
@@ -189,36 +193,68 @@ class Ways(WithFolder):
 
     def test_what_is_the_program_s_starts_it(self):
         grid, file = chipfire.grid(4, 4), self.file("chips.csv", "vertex,chips\n5,9\n")
+        first = chipfire.plain(grid, {5: 9}, limit=1)
         for call in (
             lambda: chipfire.plain(grid, {5: 9}, program=chipfire.find_program()), lambda: chipfire.plain(grid, file),
-            lambda: chipfire.plain(grid, {5: 9}, progress=True), lambda: chipfire.plain(TRIANGLE_FILE, {0: 9}),
-            lambda: chipfire.Program().plain(grid, {5: 9}), lambda: chipfire.drops(grid, 0, [1], progress=True),
+            lambda: chipfire.plain(TRIANGLE_FILE, {0: 9}), lambda: chipfire.Program().plain(grid, {5: 9}),
+            lambda: chipfire.resume(grid, first, program=chipfire.find_program()), lambda: chipfire.run(grid, {5: 9}),
+            lambda: chipfire.drops(grid, 0, [1], program=chipfire.find_program()),
         ):
             with self.counted() as started:
                 call()
             self.assertGreater(started.call_count, 0)
-        for owner, name, result, call in [
-            (library, "most", 0, lambda: chipfire.plain(grid, {5: 9}, guess={5: 1})),
-            (kept.KeptPile, "drops", (kept.STOPPED, 0), lambda: chipfire.drops(grid, 0, [5] * 9)),
-        ]:
-            with mock.patch.object(owner, name, return_value=result):
-                with self.counted() as started:
-                    call()
-            self.assertGreater(started.call_count, 0)
 
-    def test_a_play_that_is_longer_than_was_thought_is_played_in_portions(self):
-        chain = chipfire.Graph(3, 2, [(0, 1, 10), (1, 0), (0, 2)])
-        short, long = (slow_report(chain, [chips, 0, 0]) for chips in (30, 300))
-        for call, wanted, starts in [
-            (lambda: chipfire.plain(chain, [30, 0]), short, False),
-            (lambda: chipfire.plain(chain, [300, 0]), long, False),
-            (lambda: chipfire.verify(chain, [30, 0], short), True, False),
-            (lambda: chipfire.verify(chain, [300, 0], long), True, False),
-            (lambda: chipfire.verify(chain, [300, 0], short), False, False),
+    def test_progress_guesses_and_stages_start_no_program(self):
+        grid = chipfire.grid(4, 4)
+        first = chipfire.plain(grid, {5: 99}, limit=4)
+        with self.counted() as started, contextlib.redirect_stderr(io.StringIO()):
+            whole = chipfire.plain(grid, {5: 99}, progress=True)
+            self.assertEqual(chipfire.plain(grid, {5: 99}, guess=whole, progress=True), whole)
+            self.assertTrue(chipfire.verify(grid, {5: 99}, whole, progress=True))
+            self.assertTrue(chipfire.verify(grid, {5: 99}, whole.fired, progress=True))
+            last = chipfire.resume(grid, first, progress=True)
+            self.assertEqual((last.chips, last.total, last.prior), (whole.chips, whole.fired, first.fired))
+            chipfire.drops(grid, 3, [1, 2], amounts=[1, 2**20], progress=True)
+        self.assertEqual(started.call_count > 0, not IS_HERE)
+
+    @contextlib.contextmanager
+    def in_portions(self, visits=1, spread=0):
+        """Plays in portions of so many visits, calls on many games with as many in all, and drops of two chips in portions."""
+        with contextlib.ExitStack() as stack:
+            of_piles = {"_FIRST_VISITS": 1, "_MOST_VISITS": 1, "_LIGHT": spread, "_FEW_CHIPS": 1}
+            stack.enter_context(mock.patch.multiple(kept, **of_piles))
+            stack.enter_context(mock.patch.object(library, "_VISITS", visits))
+            yield stack.enter_context(self.counted())
+
+    @unittest.skipUnless(IS_HERE, "the library is not called")
+    def test_what_progress_shows_only_rises(self):
+        grid, shown = chipfire.grid(6, 6), []
+        for call, said, least in [
+            (lambda: chipfire.plain(grid, {14: 300}, progress=True), r"chipfire: ([0-9,]+) firings", 5),
+            (lambda: chipfire.drops(grid, 3, range(30), progress=True), "chipfire: ([0-9]+) of 30 drops", 2),
+            (lambda: chipfire.drops(grid, 3, range(30), durations=True, progress=True), "chipfire: ([0-9]+) of 30 drops", 2),
         ]:
-            with mock.patch.object(library, "MOST_WORK", 6 * 320), self.counted() as started:
+            lines = mock.patch.multiple("chipfire.progress", _LINES=0, import_optional=lambda *_: None)
+            with self.in_portions(), lines, contextlib.redirect_stderr(io.StringIO()) as told:
+                found = call()
+            counts = [int(re.fullmatch(said, line)[1].replace(",", "")) for line in told.getvalue().splitlines()]
+            self.assertEqual(counts, sorted(counts))
+            self.assertGreaterEqual(len(counts), least)
+            shown.append((counts[-1], sum(found.fired) if isinstance(found, chipfire.Report) else len(found)))
+        self.assertEqual([last for last, _ in shown], [whole for _, whole in shown])
+
+    def test_plays_in_portions_are_the_same(self):
+        chain = chipfire.Graph(3, 2, [(0, 1, 10), (1, 0), (0, 2)])
+        long = slow_report(chain, [300, 0, 0])
+        for call, wanted in [
+            (lambda: chipfire.plain(chain, [300, 0]), long),
+            (lambda: chipfire.plain(chain, [300, 0], limit=7), slow_report(chain, [300, 0, 0], 7)),
+            (lambda: chipfire.verify(chain, [300, 0], long), True),
+            (lambda: chipfire.verify(chain, [300, 0], slow_report(chain, [30, 0, 0])), False),
+        ]:
+            with self.in_portions() as started:
                 self.assertEqual(call(), wanted)
-            self.assertEqual(started.call_count > 0, starts or not IS_HERE)
+            self.assertEqual(started.call_count > 0, not IS_HERE)
 
     @unittest.skipUnless(IS_HERE, "the library is not called")
     def test_long_plays_are_made_in_portions_and_interrupted_between_two(self):
@@ -226,47 +262,55 @@ class Ways(WithFolder):
 
         def clock():
             readings.append(1)
-            if len(readings) > 4:
+            if len(readings) > 7:
                 raise KeyboardInterrupt
             return 0.0
 
-        start = {(30, 30): 10**6}
-        with mock.patch.object(kept, "_FIRST_VISITS", 1), mock.patch.object(kept, "_MOST_VISITS", 1):
-            with mock.patch.object(library, "most", return_value=0):
-                with mock.patch.object(kept.time, "monotonic", clock), self.assertRaises(KeyboardInterrupt):
-                    chipfire.plain(grid, start)
-                with self.counted() as started:
-                    found = chipfire.plain(grid, {(3, 3): 50})
+        with self.in_portions() as started:
+            with mock.patch.object(kept.time, "monotonic", clock), self.assertRaises(KeyboardInterrupt):
+                chipfire.plain(grid, {(30, 30): 10**6})
+            found = chipfire.plain(grid, {(3, 3): 50})
         self.assertEqual(started.call_count, 0)
         self.assertEqual(found, chipfire.plain(grid, {(3, 3): 50}))
 
-    def test_one_of_many_plays_that_is_longer_than_was_thought(self):
-        # (each game is a call of its own with the first work, and both are one call with the second)
+    def test_many_games_of_which_some_are_long(self):
+        # (a call makes no more visits than this, and what it does not end is played in portions)
         chain = chipfire.Graph(3, 2, [(0, 1, 10), (1, 0), (0, 2)])
-        games = [300, 0, 0], [30, 0, 0]
+        games = [[300, 0, 0], [30, 0, 0], [1, 0, 5], [0, 90, 0]] * 9
         wanted = [slow_report(chain, chips).chips for chips in games]
-        for most, order in itertools.product((320, 700), (1, -1)):
-            with mock.patch.object(library, "MOST_WORK", 6 * most), self.counted() as started:
-                found = chipfire.stabilize_many(chain, games[::order])
-            self.assertEqual([*map(tuple, found)], wanted[::order], (most, order))
+        for visits, workers in itertools.product((0, 50, 5000, 2**26), (1, 3)):
+            with self.in_portions(visits) as started:
+                found = chipfire.stabilize_many(chain, games, workers=workers)
+            self.assertEqual([*map(tuple, found)], wanted, (visits, workers))
             self.assertEqual(started.call_count > 0, not IS_HERE)
+
+    def test_what_may_be_long_is_found_by_plays_in_portions(self):
+        """Where a trial comes to no end, the stabilizations are played here, and no call finds the whole."""
+        for graph in SMALL[:-1]:
+            rows = [chips for chips in configurations(graph, 1)][:: 1 + graph.vertices]
+            calls = [chipfire.burning_script, chipfire.identity, lambda it: chipfire.are_recurrent(it, rows)]
+            for name in ("recurrent_representative", "superstable_representative", "inverse"):
+                calls += [lambda it, name=name, row=row: getattr(chipfire, name)(it, row) for row in rows[:4]]
+            for call in calls:
+                other = pickle.loads(pickle.dumps(graph))
+                with mock.patch.object(kept.KeptPile, "ends_soon", return_value=False), self.in_portions() as started:
+                    found = call(other)
+                self.assertEqual(found, call(graph))
+                # (a play that has nothing to do starts no program either)
+                self.assertFalse(started.call_count and IS_HERE)
 
     def test_reports_are_verified_whatever_is_short(self):
         for graph in (SMALL[0], TRIANGLE, SMALL[-1]):
-            chips = [9] * graph.vertices
-            most, limits = max(slow_report(graph, chips).fired), [0, 1, 2, 5, 2**40]
+            chips, limits = [9] * graph.vertices, [0, 1, 2, 5, 2**40]
             reports = [slow_report(graph, chips, limit) for limit in limits]
             less = dataclasses.replace(reports[-1], chips=(reports[-1].chips[0] - 2**41, *reports[-1].chips[1:]))
-            size = graph.vertices + len(graph.edges)
-            works = [0, *(max(short, sum(chips) + 1) * size for short in (most, most + 1, 2**28))]
-            for work, (limit, right) in itertools.product(works, zip(limits, reports)):
-                with self.subTest(graph=graph, work=work, limit=limit), mock.patch.object(library, "MOST_WORK", work):
-                    with self.counted() as started:
-                        found = [chipfire.verify(graph, chips, report, limit=limit) for report in [*reports, less]]
-                    self.assertEqual(found, [report == right for report in [*reports, less]])
-                    self.assertEqual(started.call_count > 0, not IS_HERE)
+            for visits, (limit, right) in itertools.product((0, 50, 2**26), zip(limits, reports)):
+                with self.subTest(graph=graph, visits=visits, limit=limit), self.in_portions(visits) as started:
+                    found = [chipfire.verify(graph, chips, report, limit=limit) for report in [*reports, less]]
+                self.assertEqual(found, [report == right for report in [*reports, less]])
+                self.assertEqual(started.call_count > 0, not IS_HERE)
 
-    def test_a_long_claim_that_fires_more_is_not_verified(self):
+    def test_a_claim_that_fires_more_is_not_verified(self):
         """The chips that it leaves are its own, and stable ones: only the counts are too high."""
         refused = 0
         for graph in (TRIANGLE, chipfire.path(3), chipfire.cycle(4)):
@@ -278,10 +322,20 @@ class Ways(WithFolder):
                 if min(ends) < 0 or not chipfire.is_stable(graph, ends):
                     continue
                 claim = dataclasses.replace(right, fired=tuple(counts), chips=tuple(ends))
-                with mock.patch.object(library, "MOST_WORK", 0):
-                    self.assertEqual(chipfire.verify(graph, chips, claim), claim == right, claim)
+                for visits in (0, 2**26):
+                    with mock.patch.object(library, "_VISITS", visits):
+                        self.assertEqual(chipfire.verify(graph, chips, claim), claim == right, claim)
                 refused += claim != right
         self.assertGreater(refused, 0)
+
+    def test_a_guess_of_a_play_that_is_not_short(self):
+        for graph in (SMALL[0], TRIANGLE, chipfire.path(3)):
+            right = slow_report(graph, [90] * graph.vertices)
+            for visits, limit in itertools.product((0, 50, 2**26), (3, 2**40)):
+                with mock.patch.object(library, "_VISITS", visits):
+                    for guess in (right, 1, 10**6, [count // 2 for count in right.fired]):
+                        found = chipfire.plain(graph, [90] * graph.vertices, limit=limit, guess=guess)
+                        self.assertEqual(found, slow_report(graph, [90] * graph.vertices, limit))
 
     @unittest.skipUnless(IS_HERE, "the library is not called")
     def test_a_library_of_another_version_is_not_called(self):
@@ -335,22 +389,32 @@ class Ways(WithFolder):
                 library.stabilize_all(TRIANGLE, zeros(3), zeros(3), zeros(1))
 
     def test_an_interrupt_ends_what_is_long(self):
-        begins = ("import chipfire, signal\nsignal.signal(signal.SIGINT, signal.default_int_handler)\n"
-                  "grid = chipfire.grid(60, 60)\nprint('begun', flush=True)\n")
+        begins = ("import chipfire, signal, time\nsignal.signal(signal.SIGINT, signal.default_int_handler)\n"
+                  "grid = chipfire.grid(60, 60)\nlarge = chipfire.grid(511, 511)\nprint('begun', flush=True)\n")
+        catches = "\nexcept KeyboardInterrupt:\n    print(time.monotonic())\n    raise"
         for call in (
-            "chipfire.stabilize_many(grid, (9 for _ in range(10**5)))", "chipfire.plain(chipfire.grid(511, 511), 4)",
-            "chipfire.drops(grid, grid.max_stable(), [1800] * 10**7)",
+            "chipfire.stabilize_many(grid, (9 for _ in range(10**5)))", "chipfire.plain(large, 4)",
+            "chipfire.drops(grid, grid.max_stable(), [1800] * 10**7)", "chipfire.plain(large, 4, guess=10**9)",
             "chipfire.stabilize_many(chipfire.grid(20, 20), [{190: 100_000}] * 8000, workers=2)",
+            "chipfire.drops(large, 0, [130_000], amounts=[10**9])", "chipfire.Pile(large).drop(130_000, 10**9)",
+            "chipfire.identity(large)", "chipfire.inverse(large, large.max_stable())",
+            "chipfire.verify(large, 4, [0] * 511**2)", "chipfire.are_recurrent(grid, [{7: 3}] * 10**6)",
+            "chipfire.chains(large, 2, 3, 1, chips=0, amounts=10**9, workers=2)",
         ):
+            if not IS_HERE and "chains" in call:
+                continue
             with self.subTest(call):
-                words = [sys.executable, "-c", begins + call]
+                words = [sys.executable, "-c", f"{begins}try:\n    {call}{catches}"]
                 pipes = {"stdout": subprocess.PIPE, "stderr": subprocess.PIPE, "encoding": "utf-8"}
                 with subprocess.Popen(words, **pipes) as python:
                     python.stdout.readline()
                     time.sleep(1)
+                    sent = time.monotonic()
                     python.send_signal(signal.SIGINT)
-                    _, errors = python.communicate(timeout=30)
+                    seen, errors = python.communicate(timeout=30)
                 self.assertRegex(errors, "KeyboardInterrupt")
+                # (half a second on a machine that has nothing else to do)
+                self.assertLess(float(seen) - sent, 5)
 
     def test_threads_play_side_by_side(self):
         from concurrent.futures import ThreadPoolExecutor

@@ -182,6 +182,51 @@ class Plain(WithFolder):
         self.assertEqual(chipfire.plain("--graph.json", "-c", limit=1).fired, (1, 0, 0))
 
 
+class NumbersOfVertices(unittest.TestCase):
+    """Results that name vertices by numbers: each call that takes names refuses them where names are others."""
+
+    OTHERS = chipfire.Graph(3, 2, TRIANGLE.edges, [1, 0, "out"])
+
+    def results(self, graph):
+        """Numbers of vertices that results have: here that of the first one."""
+        report = chipfire.plain(graph, [5, 0, 0], limit=1)
+        books = chipfire.simulate(graph, [4, 0, 0], [("take", 4)], books=True).boards[-1].engaged
+        fired = chipfire.replay(graph, [4, 0, 0], [(0, "take", 4, 4), (0, "fire", 0, 2)])
+        return [report.over[0], chipfire.Report((3, 1, 1), (1, 0, 0), (0,)).over[0], fired[0].vertex, *books]
+
+    def calls(self, graph, vertex):
+        """What calls make of a vertex."""
+        pile = chipfire.Pile(graph, 1)
+        yield lambda: tuple(pile.drop(vertex))
+        yield lambda: list(pile.drops([vertex]).size)
+        yield lambda: list(chipfire.drops(graph, 0, [vertex]).size)
+        yield lambda: chipfire.avalanche(graph, 1, vertex).fired
+        yield lambda: chipfire.plain(graph, {vertex: 4}).fired
+        yield lambda: chipfire.Configuration(graph, 1)[vertex]
+        yield lambda: graph.number(vertex)
+
+    def test_they_are_no_names_where_names_are_others(self):
+        for vertex in self.results(self.OTHERS):
+            self.assertEqual((vertex, repr(vertex), f"{vertex}", vertex + 1), (0, "0", "0", 1))
+            for call in self.calls(self.OTHERS, vertex):
+                self.assertRaisesRegex(TypeError, "vertex 0 of a result is a number, and its name is 1", call)
+        for call in self.calls(self.OTHERS, 0):
+            call()
+
+    def test_they_are_names_where_there_are_no_others(self):
+        same = chipfire.Graph(3, 2, TRIANGLE.edges, [0, "b", "out"])
+        for graph in (TRIANGLE, same):
+            for vertex in self.results(graph):
+                wanted = [call() for call in self.calls(graph, 0)]
+                self.assertEqual([call() for call in self.calls(graph, vertex)], wanted)
+
+    def test_a_report_keeps_them_as_they_are_written(self):
+        report = chipfire.plain(self.OTHERS, [5, 0, 0], limit=1)
+        for again in (chipfire.Report.parse(report.text(), self.OTHERS), pickle.loads(pickle.dumps(report))):
+            self.assertEqual((again, again.text(), again.over), (report, report.text(), (0,)))
+            self.assertRaises(TypeError, self.OTHERS.number, again.over[0])
+
+
 class Stages(WithFolder):
     def test_three_stages_are_those_of_the_examples(self):
         first = chipfire.plain(TRIANGLE, [5, 0, 0], limit=1)

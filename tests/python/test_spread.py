@@ -37,6 +37,7 @@ def numbers(found):
     """All that chains have, as lists."""
     rows = {name: [it.tolist() for it in getattr(found, name)] for name in COLUMNS}
     fired = found.fired and [it.tolist() for it in found.fired]
+    rows["duration"] = None if found.duration is None else [it.tolist() for it in found.duration]
     return {**rows, "made": list(found.made), "seeds": found.seeds, "seed": found.seed, "first": found.first, "fired": fired}
 
 
@@ -46,9 +47,9 @@ def plays(**options):
 
 
 #: The ways in which chains are asked for.
-ASKED = [{}, {"chips": 2}, {"amounts": 3, "on": [0, 7]}]
+ASKED = [{}, {"chips": 2}, {"amounts": 3, "on": [0, 7]}, {"durations": True}]
 if has("numpy"):
-    ASKED += [{"fired": True}, {"until": "loss", "chips": 0}, {"until": "spans", "fired": True, "chips": 1}]
+    ASKED += [{"fired": True}, {"fired": True, "durations": True}, {"until": "loss", "chips": 0}, {"until": "spans", "fired": True, "chips": 1}]
 
 
 @unittest.skipUnless(IS_HERE, "chains take the library")
@@ -199,6 +200,19 @@ class Checkpoints(unittest.TestCase):
                 self.assertEqual(numbers(plays(checkpoint=file, **options)), whole)
                 self.assertEqual(numbers(chipfire.chains(GRID, 0 + 7, 40, 5, checkpoint=file, **options)), whole)
 
+    def test_a_run_that_is_killed_goes_on_with_the_same_bits(self):
+        options = {"durations": True, **({"fired": True} if has("numpy") else {})}
+        script = ["import chipfire, os, signal, sys", "from chipfire.ensembles.checkpoint import Checkpoint",
+                  "put, before = Checkpoint.put, [1, 2]", "def put_or_end(*part):",
+                  "    put(*part) if before and before.pop() else os.kill(os.getpid(), signal.SIGKILL)",
+                  "Checkpoint.put = put_or_end",
+                  f"chipfire.chains(chipfire.grid(5, 4), 7, 40, 5, checkpoint=sys.argv[1], workers=1, **{options})"]
+        ran = subprocess.run([sys.executable, "-c", "\n".join(script), self.file], timeout=100)
+        self.assertEqual(ran.returncode, -signal.SIGKILL)
+        with contextlib.closing(sqlite3.connect(self.file)) as rows:
+            self.assertEqual(rows.execute("SELECT count(*) FROM parts").fetchone()[0], 2)
+        self.assertEqual(numbers(plays(checkpoint=self.file, **options)), numbers(plays(**options)))
+
     def test_more_chains_go_on_from_fewer(self):
         chipfire.chains(GRID, 3, 40, 5, checkpoint=self.file)
         chipfire.chains(GRID, 2, 40, 5, first=5, checkpoint=self.file)
@@ -210,6 +224,7 @@ class Checkpoints(unittest.TestCase):
             ("other graph", (chipfire.grid(4, 5), 7, 40, 5), {}), ("other drops", (GRID, 7, 41, 5), {}),
             ("other seed", (GRID, 7, 40, "5"), {}), ("other chips", (GRID, 7, 40, 5), {"chips": 1}),
             ("other on, amounts", (GRID, 7, 40, 5), {"on": [1], "amounts": 4}),
+            ("other durations", (GRID, 7, 40, 5), {"durations": True}),
         ]:
             file = {"checkpoint": self.file}
             self.assertRaisesRegex(ValueError, words, chipfire.chains, *arguments, **file, **options)
@@ -225,7 +240,7 @@ class Checkpoints(unittest.TestCase):
         os.unlink(self.file)
         plays(checkpoint=self.file)
         for words, change in [("none of these chains", "UPDATE parts SET made = x''"),
-                              ("version 2, and this chipfire reads", "PRAGMA user_version = 2")]:
+                              ("version 1, and this chipfire reads version 2", "PRAGMA user_version = 1")]:
             with contextlib.closing(sqlite3.connect(self.file)) as rows, rows:
                 rows.execute(change)
             self.assertRaisesRegex(ValueError, words, plays, checkpoint=self.file)

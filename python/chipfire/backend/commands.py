@@ -12,6 +12,7 @@ from typing import Any, cast, NamedTuple, TYPE_CHECKING, TypeVar, Union
 
 from chipfire.backend import library
 from chipfire.backend.finding import find_program
+from chipfire.backend.kept import KeptPile
 from chipfire.backend.plays import play
 from chipfire.backend.process import ask, Fault, Input, Kept
 from chipfire.backend.report import Report
@@ -29,8 +30,8 @@ from chipfire.ensembles.drops import (
     Drops,
     measured_drops,
     parts_of,
-    played_drops,
     ROWS_HEADER,
+    without_library,
 )
 from chipfire.graphs.graph import Graph
 from chipfire.lab.logs import judge_log
@@ -44,7 +45,19 @@ from chipfire.lab.machine import (
     Simulation,
     trace_text,
 )
-from chipfire.utils import as_int, FILE, FileName, MAX_LIMIT, no_graph, rows_text, write_text
+from chipfire.progress import Progress
+from chipfire.utils import (
+    as_int,
+    FILE,
+    FileName,
+    in_column,
+    MAX_CHIPS,
+    MAX_LIMIT,
+    no_graph,
+    rows_text,
+    VertexNumber,
+    write_text,
+)
 
 if TYPE_CHECKING:
     from typing_extensions import Concatenate, ParamSpec
@@ -66,6 +79,9 @@ _RANGES = {
     "trace_rows": (0, 2**20),
     "rounds": (0, 2**40),
 }
+
+#: How often a vertex fired at most in the stages of a play before the last one.
+MAX_PRIOR = 2**60
 
 #: The options that are there or not.
 _FLAGS = {"progress", "dealt", "books", "fed"}
@@ -236,7 +252,8 @@ def plain(
         How often each vertex may have fired in the end. It changes no result. One that is nearly right saves most of
         the play.
     progress : bool, optional
-        Whether `sys.stderr` gets a line about once a second that says how far the play is.
+        Whether progress is shown, by tqdm or in lines on `sys.stderr`: how often vertices have fired so far. With a
+        guess that is shown at the end.
     program : path, optional
         The program to ask. By default the one that is found.
 
@@ -280,15 +297,9 @@ def plain(
     if guess is not None:
         counts = question.numbers(guess.total if isinstance(guess, Report) else guess, "firings")
     is_in_memory = not isinstance(start, FILE) and not isinstance(counts, FILE)
-    if question.own and not progress and is_in_memory:
-        if found := play(question.own, start, program, _limit(limit), counts):
-            left, fired, stopped = found
-            return Report(
-                tuple(left),
-                tuple(fired),
-                _legal(question.own, left) if stopped else (),
-                graph=question.own,
-            )
+    if question.own and is_in_memory:
+        if found := _played(question.own, start, program, _limit(limit), counts, progress):
+            return found
     files = [
         question.chips(start),
         *([] if guess is None else [question.chips(counts, "--guess", GUESS_HEADER)]),
@@ -296,6 +307,33 @@ def plain(
     return Report.parse(
         question.ask("plain", files, limit=limit, progress=progress), question.graph
     )
+
+
+def _played(
+    graph: Graph,
+    chips: array[int],
+    program: AnyProgram,
+    limit: int,
+    guess: array[int],
+    progress: bool,
+) -> Report | None:
+    """The report of a play in this process; None if the program plays."""
+    if program is not None or library.loaded() is None:
+        return None
+
+    def between(pile: KeptPile) -> None:
+        if shown.is_due:
+            shown.show(sum(pile.fired()))
+
+    with Progress(progress, None, "firings") as shown:
+        found = play(graph, chips, program, limit, guess, between)
+        if not found:
+            return None
+        left, fired, stopped = found
+        if progress:
+            shown.show(sum(fired), is_last=True)
+    over = _legal(graph, left) if stopped else ()
+    return Report(tuple(left), tuple(fired), over, graph=graph)
 
 
 def _limit(limit: int | None) -> int:
@@ -330,7 +368,7 @@ def verify(
     limit : int, optional
         How often each vertex may fire, from 0 to 2^40, which is the default.
     progress : bool, optional
-        Whether `sys.stderr` gets a line about once a second that says how far the play is.
+        Whether progress is shown, as by `plain`, if something is played.
     program : path, optional
         The program to ask. By default the one that is found.
 
@@ -376,7 +414,7 @@ def verify(
         return False
     start = question.numbers(chips)
     own = question.own
-    if told and own and not own.loops and not progress and not isinstance(start, FILE):
+    if told and own and not own.loops and not isinstance(start, FILE):
         ends = in_words(told.chips)
         is_end = library.is_end(own, start, in_words(counts), ends, program, _limit(limit))
         if is_end is not None:
@@ -417,9 +455,10 @@ def drops(
         Whether to return which vertices each drop fires, and how often. This takes the library and NumPy.
     durations : bool, optional
         Whether to return for how many rounds each drop lasts, in each of which each legal vertex fires once. This takes
-        the library. A vertex with many chips fires one time after another then.
+        the library. A vertex with many chips fires one time after another then, and an interrupt waits for the end of
+        a drop.
     progress : bool, optional
-        Whether `sys.stderr` gets a line about once a second that says how far the play is.
+        Whether progress is shown, by tqdm or in lines on `sys.stderr`: how many of the drops are made.
     program : path, optional
         The program to ask. By default the one that is found.
 
@@ -464,14 +503,14 @@ def drops(
         left = tuple(graph.with_loops(free.report.chips))
         return replace(free, report=replace(free.report, chips=left, graph=graph))
     if fired or durations:
-        return _measured(graph, chips, vertices, amounts, fired, durations, program)
+        return _measured(graph, chips, vertices, amounts, fired, durations, progress, program)
     question = _Question(graph, program)
     rows = cast(Any, vertices)
     start: Any = question.numbers(chips)
     if not isinstance(vertices, FILE):
         at, many = dropped_on(question.graph, vertices, amounts)
-        if question.own and not progress and not isinstance(start, FILE):
-            if found := played_drops(question.own, start, at, many, program):
+        if question.own and program is None and not isinstance(start, FILE):
+            if found := measured_drops(question.own, start, at, many, progress=progress):
                 return found
         rows = Kept(parts_of(at, many))
     elif amounts is not None:
@@ -491,6 +530,7 @@ def _measured(
     amounts: Iterable[int] | None,
     fired: bool,
     durations: bool,
+    progress: bool,
     program: AnyProgram,
 ) -> Drops:
     """Drops by the library, with what is asked of them."""
@@ -502,8 +542,11 @@ def _measured(
     at, many = dropped_on(known, vertices, amounts)
     if isinstance(chips, FILE):
         chips = read_chips(chips, known)
-    numbers = known.column(chips, 0)
-    return measured_drops(known, in_words(numbers), at, many, bool(fired), bool(durations))
+    begun = in_words(known.column(chips, 0))
+    found = measured_drops(known, begun, at, many, bool(fired), bool(durations), progress)
+    if found is None:
+        raise without_library()
+    return found
 
 
 def run(
@@ -708,7 +751,7 @@ def replay(
     Returns
     -------
     list of Firing
-        The firings, each of a vertex and a count.
+        The firings, each of a vertex, by its number, and a count.
 
     Raises
     ------
@@ -732,7 +775,7 @@ def replay(
     question = _Question(graph, program)
     files = [question.chips(chips), _input("trace", trace, trace_text)]
     lines = question.ask("replay", files, "", limit=limit).splitlines()
-    return [Firing(int(vertex), int(count)) for _, vertex, count in map(str.split, lines)]
+    return [Firing(VertexNumber(vertex), int(count)) for _, vertex, count in map(str.split, lines)]
 
 
 def resume(
@@ -754,7 +797,7 @@ def resume(
     limit : int, optional
         How often each vertex may fire in this stage, from 0 to 2^40, which is the default.
     progress : bool, optional
-        Whether `sys.stderr` gets a line about once a second that says how far the play is.
+        Whether progress is shown, as by `plain`.
     program : path, optional
         The program to ask. By default the one that is found.
 
@@ -793,13 +836,36 @@ def resume(
         )
     question = _Question(graph, program)
     own = None if isinstance(report, FILE) else report
+    if own and question.own and (found := _resumed(question.own, own, program, limit, progress)):
+        return found
     text = question.ask(
         "resume", [_input("report", report, Report.text)], limit=limit, progress=progress
     )
     found = Report.parse(text, question.graph)
-    if own and not (own.graph.is_like(question.graph) if own.graph else own.fits(question.graph)):
-        raise ValueError("the report is one of another graph")
+    if own:
+        _refuse_other(question.graph, own)
     return found
+
+
+def _resumed(
+    graph: Graph, report: Report, program: AnyProgram, limit: int | None, progress: bool
+) -> Report | None:
+    """The report of a play in this process that goes on; None if the program plays, or says what is wrong."""
+    chips = in_column(report.chips)
+    if program is not None or chips is None or len(chips) != graph.vertices:
+        return None
+    is_known = sum(chips) <= MAX_CHIPS and max(report.total) <= MAX_PRIOR
+    if not is_known or graph.loops or graph.wrong:
+        return None
+    _refuse_other(graph, report)
+    found = _played(graph, chips, program, _limit(limit), array("Q"), progress)
+    return found and replace(found, prior=report.total)
+
+
+def _refuse_other(graph: Graph, report: Report) -> None:
+    """Refuses a report of another graph."""
+    if not (report.graph.is_like(graph) if report.graph else report.fits(graph)):
+        raise ValueError("the report is one of another graph")
 
 
 def explain(number: int | None = None, *, program: AnyProgram = None) -> str:
@@ -867,9 +933,9 @@ def identity(graph: AnyGraph, *, program: AnyProgram = None) -> Configuration:
 
     Notes
     -----
-    Proved: the identity, if the library finds it in one call. If a play may be too long for that, or without the
-    library, the program plays: then the stabilizations are proved. Not proved: that the identity is passed on, or
-    else the difference between the stabilizations.
+    Proved: the identity, if the library finds it in one call. If that is no short play, or without the library, the
+    stabilizations are proved. Not proved: that the identity is passed on, or else the difference between the
+    stabilizations.
 
     Examples
     --------

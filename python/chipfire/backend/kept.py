@@ -4,15 +4,18 @@ from __future__ import annotations
 
 import contextlib
 import ctypes
+import operator
 import os
 import time
 import weakref
 from array import array
-from collections.abc import Sequence
+from collections.abc import Callable, Sequence
 from typing import Any, TYPE_CHECKING
 
 from chipfire.backend import library
+from chipfire.backend.portions import PORTION
 from chipfire.backend.process import refused
+from chipfire.utils import numpy_in_use
 
 if TYPE_CHECKING:
     from chipfire.graphs.graph import Graph
@@ -26,8 +29,12 @@ _MOST_BYTES = 2**26
 _NO_NUMBERS = array("Q")
 _NO_ROOM = (_NO_NUMBERS, _NO_NUMBERS, _NO_NUMBERS)
 
-#: About how many seconds a portion of a play takes; how many visits the first one makes, and each at most.
-_PORTION, _FIRST_VISITS, _MOST_VISITS = 0.1, 2**22, 2**40
+#: How many visits the first portion of a play makes, and each at most.
+_FIRST_VISITS, _MOST_VISITS = 2**22, 2**40
+
+#: How many chips a drop has at most that is made in one call and not in portions, which costs passes over the graph; and
+#: how many on few vertices, times these. The first one on more vertices goes in portions, and one after a call that was long.
+_FEW_CHIPS, _LIGHT, _MANY_VERTICES = 2**8, 2**18, 2**10
 
 
 class _Struct(ctypes.Structure):
@@ -42,12 +49,20 @@ def _free(found: Any, struct: _Struct, process: int) -> None:
         found.chipfire_pile_free(ctypes.addressof(struct))
 
 
+def nothing(*_: object) -> None:
+    """What is done between two portions, if nobody says what."""
+
+
 class KeptPile:
     """A pile that the library keeps: a graph with chips, on which drops make no graph.
 
     Its memory belongs to the process that made it (`is_own`): a child has a copy, which it neither uses nor frees. It is
     freed when nothing refers to this object any more, by whatever thread finds that, or by `free`. One thread at a time
-    may call it; who shares it has a lock. A call returns the number of a fault, or 0."""
+    may call it; who shares it has a lock. A call returns the number of a fault, or 0.
+
+    Plays go in portions, between which an interrupt is seen, and `between` is called with the pile. A drop of many chips
+    does so too: these are put there with all others, and what had fired before is kept here. The library then stops too
+    early sometimes, so it is asked once more with all chips from the beginning on."""
 
     def __init__(self, found: Any, graph: Graph, chips: array[int], limit: int) -> None:
         self._found = found
@@ -57,7 +72,16 @@ class KeptPile:
         at = ctypes.addressof(self._told)
         self._words = [at + 8 * it for it in range(4)]
         self._process = os.getpid()
+        # (the graph may keep the pile)
+        self._graph = weakref.ref(graph)
         self.vertices = graph.vertices
+        self.between: Callable[[KeptPile], object] = nothing
+        #: How many chips a drop has at most that is made in one call.
+        self.light = 0
+        #: How often each vertex may fire in all, and how often it had before the library's pile got its chips.
+        self._limit = limit
+        self._before: array[int] | None = None
+        self._begin()
         edges = [
             word for column in graph.long_columns for word in library.slice_of("edges", column)
         ]
@@ -80,26 +104,114 @@ class KeptPile:
         """How many bytes it takes."""
         return int(self._found.chipfire_pile_size(self._at))
 
-    def put(self, chips: array[int], limit: int) -> int:
-        """Other chips in place of all that are there."""
-        return int(
-            self._found.chipfire_pile_put(self._at, limit, *library.slice_of("chips", chips))
-        )
+    def put(
+        self, chips: array[int], limit: int | None = None, fired: array[int] | None = None
+    ) -> int:
+        """Other chips in place of all that are there, of plays that have fired so much before; and another limit."""
+        limit = self._limit if limit is None else limit
+        within = limit if fired is None else limit - max(fired)
+        words = library.slice_of("chips", chips)
+        number = int(self._found.chipfire_pile_put(self._at, within, *words))
+        if not number:
+            self._limit, self._before = limit, fired
+            self._begin()
+        return number
+
+    def _begin(self) -> None:
+        """Nothing is known of the seconds that a drop takes."""
+        self.light = 0
+        if self.vertices <= _MANY_VERTICES:
+            self.note(1, 0)
+
+    def note(self, drops: int, seconds: float) -> None:
+        """Has the next drop made in portions, or not, if one took so many seconds."""
+        if drops == 1:
+            few = max(_LIGHT // max(self.vertices, 1), _FEW_CHIPS)
+            self.light = 0 if seconds > PORTION else few
 
     def play(self) -> int:
-        """Plays to the end, in portions: between two of them an interrupt is seen."""
+        """Plays to the end, in portions."""
         visits = _FIRST_VISITS
         while True:
             begun = time.monotonic()
-            number = int(self._found.chipfire_pile_play(self._at, visits, self._words[0]))
+            number = self._portion(visits)
             if number or not self._told[0]:
                 return number
-            is_short = time.monotonic() - begun < _PORTION
+            self.between(self)
+            is_short = time.monotonic() - begun < PORTION
             visits = min(2 * visits, _MOST_VISITS) if is_short else max(visits // 2, 1)
+
+    def ends_soon(self) -> bool:
+        """Plays for about the time of a portion; whether it comes to the end."""
+        end = time.monotonic() + PORTION
+        while time.monotonic() < end:
+            if self._portion(_FIRST_VISITS):
+                return False
+            if not self._told[0]:
+                return True
+        return False
+
+    def _portion(self, visits: int) -> int:
+        return int(self._found.chipfire_pile_play(self._at, visits, self._words[0]))
 
     def drop(self, vertex: int, amount: int) -> int:
         """A drop, whose numbers `told` has then."""
-        return int(self._found.chipfire_pile_drop(self._at, vertex, amount, *self._words[:3]))
+        if amount > self.light:
+            return self.pour(vertex, amount)[0]
+        number = self._dropped(vertex, amount)
+        is_again = number == STOPPED and self.is_before(vertex, amount)
+        return self._dropped(vertex, amount) if is_again else number
+
+    def _dropped(self, vertex: int, amount: int) -> int:
+        begun = time.monotonic()
+        number = int(self._found.chipfire_pile_drop(self._at, vertex, amount, *self._words[:3]))
+        self.note(1, time.monotonic() - begun)
+        return number
+
+    def pour(self, vertex: int, amount: int) -> tuple[int, Sequence[int]]:
+        """A drop of many chips on a pile that is at its end, in portions; and how often each vertex fires. An interrupt leaves
+        the pile as it was before."""
+        begun = time.monotonic()
+        left, fired = self.chips(), self.fired()
+        start = left[:]
+        start[vertex] += amount
+        try:
+            number = self.put(start, None, fired) or self.play()
+            if number == STOPPED:
+                number = self.put(self._start()) or self.play()
+        except BaseException:
+            self.put(left, None, fired)
+            raise
+        more = _differences(self.fired(), fired)
+        brought = self.chips()[self._sink] - start[self._sink]
+        self._told[:3] = [sum(more), len(more) - more.count(0), brought]
+        self.note(1, time.monotonic() - begun)
+        return number, more
+
+    def is_before(self, vertex: int, amount: int) -> bool:
+        """Whether the pile is now as it was before this drop, and may make it again: the library's limit has stopped that, but
+        did not know of what had fired before. After an interrupt the pile is no more."""
+        if self._before is None:
+            return False
+        start = self._start()
+        start[vertex] -= amount
+        try:
+            return (self.put(start) or self.play()) == 0
+        except BaseException:
+            self.free()
+            raise
+
+    def _start(self) -> array[int]:
+        """All chips that were ever put there or dropped, where they were then."""
+        graph = self._graph()
+        assert graph is not None
+        return array("Q", graph.position_after(self.chips(), [-it for it in self.fired()]))
+
+    @property
+    def _sink(self) -> int:
+        graph = self._graph()
+        assert graph is not None
+        return graph.sink
 
     @property
     def told(self) -> tuple[int, int, int]:
@@ -107,7 +219,8 @@ class KeptPile:
         return self._told[0], self._told[1], self._told[2]
 
     def drops(self, at: Any, amounts: Any, columns: list[Any]) -> tuple[int, int]:
-        """Many drops, whose numbers go into the columns; and how many were made, if the limit has stopped one."""
+        """Many drops, each in one call, whose numbers go into the columns; and how many were made, if the limit has stopped
+        one."""
         words = [word for it in (at, amounts, *columns) for word in library.slice_of("drops", it)]
         number = self._found.chipfire_pile_drops(self._at, *words, self._words[3])
         return int(number), self._told[3]
@@ -129,13 +242,36 @@ class KeptPile:
         return self._copied(self._found.chipfire_pile_chips)
 
     def fired(self) -> array[int]:
-        """How often each vertex has fired, since chips were put there."""
-        return self._copied(self._found.chipfire_pile_fired)
+        """How often each vertex has fired in all."""
+        found = self._copied(self._found.chipfire_pile_fired)
+        return found if self._before is None else _sums(found, self._before)
 
     def _copied(self, call: Any) -> array[int]:
         numbers = array("Q", bytes(8 * self.vertices))
         call(self._at, *library.slice_of("numbers", numbers))
         return numbers
+
+
+def _sums(counts: array[int], more: array[int]) -> array[int]:
+    """Counts with others."""
+    numpy = numpy_in_use()
+    if not numpy:
+        return array("Q", map(operator.add, counts, more))
+    found = counts[:]
+    together = numpy.frombuffer(found, "u8")
+    together += numpy.frombuffer(more, "u8")
+    return found
+
+
+def _differences(counts: array[int], less: array[int]) -> array[int]:
+    """Counts less others, which are not higher."""
+    numpy = numpy_in_use()
+    if not numpy:
+        return array("Q", map(operator.sub, counts, less))
+    found = counts[:]
+    apart = numpy.frombuffer(found, "u8")
+    apart -= numpy.frombuffer(less, "u8")
+    return found
 
 
 def take(graph: Graph, chips: array[int], limit: int) -> KeptPile | None:
@@ -163,5 +299,6 @@ def taken(found: Any, graph: Graph, chips: array[int], limit: int) -> KeptPile:
 def give_back(graph: Graph, pile: KeptPile) -> None:
     """Has the graph keep a pile until the next call, if it keeps none and this one is not large."""
     kept: list[KeptPile] = graph.answers.setdefault("piles", [])
+    pile.between = nothing
     if not kept and pile.is_own and pile.size <= _MOST_BYTES:
         kept.append(pile)

@@ -6,12 +6,12 @@
 An array is an `array.array("Q")`, or one of NumPy of `uint64` in C's order that can be written. No two arrays of a call
 overlap, and no other thread writes to one meanwhile. On a fault all stay as they were.
 
-`plain`, `verify` of a report, and what stands on them go this way if neither the call nor CHIPFIRE names a program, the
-library lies where the program does and has the package's version. A package for a C library that is too old for the
-program carries the library alone. Else the program answers, as a process. So it does in a forked child of a process that
-had more threads than one, of any language, since the library
-asks for memory: those of NumPy's linear algebra count, too (OPENBLAS_NUM_THREADS=1 starts none). To load a library runs
-code of it, so it is seen before whether somebody else can change it, and which version is stated of it.
+`plain`, `drops`, and what stands on them go this way, however long a play is, if neither the call nor CHIPFIRE names a
+program, no file has the game, the library lies where the program does and has the package's version. A package for a C
+library that is too old for the program carries the library alone. Else the program answers, as a process. So it does in
+a forked child of a process that had more threads than one, of any language, since the library asks for memory: those of
+NumPy's linear algebra count, too (OPENBLAS_NUM_THREADS=1 starts none). To load a library runs code of it, so it is seen
+before whether somebody else can change it, and which version is stated of it.
 """
 
 from __future__ import annotations
@@ -36,16 +36,16 @@ from chipfire.backend.finding import (
     version,
     version_of,
 )
+from chipfire.backend.portions import apart, Portions
 from chipfire.backend.process import refused
 from chipfire.backend.trust import doubt
-from chipfire.utils import as_int, FileName, MAX_CHIPS, MAX_LIMIT, numpy_in_use, package_text
+from chipfire.utils import as_int, FileName, MAX_LIMIT, numpy_in_use, package_text
 
 if TYPE_CHECKING:
     from chipfire.graphs.graph import Graph
 
-#: The most that a call may take which is not made in portions: vertices and edges, times chips, and times firings of each
-#: vertex.
-MOST_WORK = 2**28
+#: How many visits of vertices and edges a call makes at most, in about a tenth of a second, that plays many games.
+_VISITS = 2**26
 
 _NAME = "libchipfire.so"
 _NUMBER = ctypes.c_uint64
@@ -285,30 +285,6 @@ def books() -> ctypes.CDLL:
     return found
 
 
-def most(graph: Graph) -> int:
-    """How many chips a game in this process may have, and how often each vertex may fire in it."""
-    return MOST_WORK // (graph.vertices + len(graph.columns.tails) or 1)
-
-
-def at_once(graph: Graph, chips: array[int]) -> int:
-    """How many of these games, one after another, a call in this process may have; 0 if one is too long."""
-    return most(graph) // (1 + heaviest(graph, chips))
-
-
-def heaviest(graph: Graph, chips: array[int]) -> int:
-    """The most chips of a configuration, of some that lie one after another; or more than a game may have."""
-    width = graph.vertices or 1
-    if len(chips) <= width:
-        return sum(chips)
-    numpy = numpy_in_use()
-    if not numpy:
-        return max(sum(chips[at : at + width]) for at in range(0, len(chips), width))
-    rows = numpy.frombuffer(chips, "Q").reshape(-1, width)
-    greatest = int(rows.max())
-    # (sums of less have less than 64 bits)
-    return int(rows.sum(1).max()) if greatest <= MAX_CHIPS else greatest
-
-
 def slice_of(name: str, numbers: Any) -> tuple[int, int]:
     """Where an array begins, and how many numbers it has."""
     if isinstance(numbers, array) and numbers.typecode == "Q":
@@ -402,28 +378,45 @@ def avalanches(
     _call_on("chipfire_avalanches", graph, limit, at=at, amounts=amounts, chips=chips, **rows)
 
 
-def stabilize_short(
+def stabilize_some(
+    found: ctypes.CDLL, graph: Graph, chips: array[int], fired: array[int], games: slice, limit: int
+) -> list[int | None]:
+    """Plays some of the games that lie one after another, as `stabilize_all` does; how many vertices of each the limit
+    stopped, or None of one that is too long for this call, whose chips and counts are any then.
+
+    By a smaller limit of its own the call makes a known number of visits at most, whatever the games are.
+    """
+    width = graph.vertices
+    size = (games.stop - games.start) * (width + len(graph.columns.tails))
+    within = min(limit, _VISITS // max(size, 1))
+    numbers = slice(games.start * width, games.stop * width)
+    arrays = [memoryview(it)[numbers] for it in (chips, fired)]
+    stopped = _ZERO * (len(arrays[0]) // (width or 1))
+    _call(found.chipfire_stabilize_all, graph, [within], _NONE, *arrays, stopped)
+    return [None if over and within < limit else over for over in stopped]
+
+
+def stabilize_from(
     found: ctypes.CDLL,
     graph: Graph,
     chips: array[int],
-    fired: array[int],
     limit: int,
-    guess: array[int] = _NONE,
-) -> list[int | None]:
-    """Plays one game after another, as `stabilize_all` does; how many vertices of each the limit stopped, or None of one
-    that is too long for a call, whose chips and counts are any then."""
-    width, at_most, some = graph.vertices or 1, most(graph), at_once(graph, chips)
-    games = len(chips) // width
-    if not some:
-        return [None] * games
-    stopped = _ZERO * games
-    for first in range(0, games or 1, some):
-        numbers = slice(first * width, (first + some) * width)
-        here = [memoryview(it)[numbers] for it in (guess, chips, fired)]
-        over = memoryview(stopped)[first : first + some]
-        _call(found.chipfire_stabilize_all, graph, [min(limit, at_most)], *here, over)
-    # (a game that a smaller limit has stopped is played anew)
-    return [None if over and at_most < limit else over for over in stopped]
+    guess: array[int],
+) -> tuple[array[int], array[int], int]:
+    """Plays a game as `stabilize_all` does, from counts that are a guess: chips, counts, and how many vertices the limit
+    stopped. If it is no short play, a thread makes it."""
+
+    def work(within: int) -> tuple[array[int], array[int], int]:
+        left, fired, stopped = chips[:], _ZERO * len(chips), _ZERO[:]
+        _call(found.chipfire_stabilize_all, graph, [within], guess, left, fired, stopped)
+        return left, fired, stopped[0]
+
+    within = min(limit, _VISITS // max(graph.vertices + len(graph.columns.tails), 1))
+    if max(guess) <= within:
+        found_soon = work(within)
+        if not found_soon[2] or within == limit:
+            return found_soon
+    return apart(lambda: work(limit))
 
 
 def is_end(
@@ -438,19 +431,24 @@ def is_end(
 
     To verify what is right takes passes over the graph, and what is wrong is played. If that may be long, it is found here
     that it is wrong: the counts leave other chips, or a vertex may fire. Counts beyond these are too high, and the library
-    lowers them."""
+    lowers them, by a thread."""
     found = loaded() if program is None else None
     if not found:
         return None
-    at_most = most(graph)
-    is_long = sum(chips) >= at_most or max(fired) >= at_most < limit
-    may_be = not is_long or _may_end(graph, chips, fired, ends, limit)
+    call, arrays = found.chipfire_verify, (chips, fired, ends)
+
+    def is_end_within(most: int) -> bool:
+        return _call(call, graph, [most], *arrays, but=53) == 0
+
     # (a game that is stopped here and not by its limit has a vertex that fires more often)
-    within = limit if is_long else min(limit, at_most)
+    within = min(limit, max(fired, default=0) + 1)
+    if within * (graph.vertices + len(graph.columns.tails)) <= _VISITS:
+        return is_end_within(within)
+    if _may_end(graph, chips, fired, ends, limit):
+        return apart(lambda: is_end_within(limit))
     # (the library refuses what is no game, in any case)
-    arrays = (chips, fired, ends)
-    status = _call(found.chipfire_verify, graph, [within if may_be else 0], *arrays, but=53)
-    return may_be and status == 0
+    is_end_within(0)
+    return False
 
 
 def _may_end(
@@ -478,17 +476,15 @@ def _left(graph: Graph, chips: array[int], fired: array[int]) -> array[int]:
     return left
 
 
-def _row_call(name: str, graph: Graph, rows: array[int], program: FileName | None) -> Any:
-    """The call of this name, if there is a library and what it plays is short: rows, and each degree twice."""
+def _call_of(name: str, program: FileName | None) -> Any:
+    """The call of this name, if there is a library; it is made where a play is short, since it cannot be interrupted."""
     found = loaded() if program is None else None
-    if not found or heaviest(graph, rows) + 2 * sum(graph.degrees()) >= most(graph):
-        return None
-    return getattr(found, name)
+    return getattr(found, name) if found else None
 
 
 def burning(graph: Graph, program: FileName | None) -> tuple[array[int], array[int]] | None:
     """The least burning script and its chips; or None if that is Python's to find."""
-    call = _row_call("chipfire_burning", graph, _NONE, program)
+    call = _call_of("chipfire_burning", program)
     if not call:
         return None
     script, chips = _ZERO * graph.vertices, _ZERO * graph.vertices
@@ -497,12 +493,16 @@ def burning(graph: Graph, program: FileName | None) -> tuple[array[int], array[i
 
 
 def are_recurrent(graph: Graph, rows: array[int], program: FileName | None) -> array[int] | None:
-    """Of each configuration 1 if it is recurrent, else 0; or None if that is Python's to find."""
-    call = _row_call("chipfire_are_recurrent", graph, rows, program)
+    """Of each configuration 1 if it is recurrent, else 0; or None if that is Python's to find. Only stable ones are played,
+    so what a call takes is like what the one before it took."""
+    call = _call_of("chipfire_are_recurrent", program)
     if not call:
         return None
-    flags = _ZERO * (len(rows) // graph.vertices)
-    _call(call, graph, [], rows, flags)
+    width = graph.vertices
+    flags = _ZERO * (len(rows) // (width or 1))
+    for some in Portions(len(flags) or 1):
+        numbers = memoryview(rows)[some.start * width : some.stop * width]
+        _call(call, graph, [], numbers, memoryview(flags)[some])
     return flags
 
 
@@ -511,7 +511,7 @@ def representative(
 ) -> array[int] | None:
     """The `recurrent`, the `superstable` or the `inverse` configuration of a class, in place of the chips; or None if that
     is Python's to find, and then these stay."""
-    call = _row_call(f"chipfire_{form}", graph, chips, program)
+    call = _call_of(f"chipfire_{form}", program)
     if not call:
         return None
     _call(call, graph, [1], chips)
@@ -520,7 +520,7 @@ def representative(
 
 def identity(graph: Graph, program: FileName | None) -> array[int] | None:
     """The identity of the sandpile group; or None if that is Python's to find."""
-    call = _row_call("chipfire_identity", graph, _NONE, program)
+    call = _call_of("chipfire_identity", program)
     if not call:
         return None
     found = _ZERO * graph.vertices

@@ -10,7 +10,7 @@ from dataclasses import dataclass
 from chipfire.configurations.configuration import Configuration
 from chipfire.graphs.graph import Graph
 from chipfire.pictures.picture import Drawn
-from chipfire.utils import FileName, with_unit, write_text
+from chipfire.utils import FileName, VertexNumber, with_unit, write_text
 
 _KEY = operator.attrgetter("chips", "fired", "over", "sealed", "prior")
 
@@ -24,13 +24,14 @@ class Report(Drawn):
     chips : tuple of int
         The chips of each vertex, by numbers, also of the sink.
     fired : tuple of int
-        How often each vertex fired in this stage: the firing vector.
+        How often each vertex fired in this stage, by numbers: the firing vector.
     over : tuple of int
-        The vertices that can fire and fired as often as the limit allows.
+        The numbers of the vertices that can fire and fired as often as the limit allows. A call that takes names
+        refuses these numbers, if the graph has other names.
     sealed : tuple of int
-        The other vertices that stopped because an edge was sealed.
+        The numbers, likewise, of the other vertices that stopped because an edge was sealed.
     prior : tuple of int or None
-        How often each vertex fired in the stages before, or None in a report of the first one.
+        How often each vertex fired in the stages before, by numbers, or None in a report of the first one.
     graph : Graph or None
         The graph, if it is known. It is not part of the report's text.
 
@@ -71,6 +72,9 @@ class Report(Drawn):
             raise ValueError(f"the lists of the report do not fit a graph of {vertices} vertices")
         if self.graph is not None and self.total[self.graph.sink]:
             raise ValueError("the sink of the graph fired in the report")
+        for name in ("over", "sealed"):
+            numbers = [VertexNumber(it) if type(it) is int else it for it in getattr(self, name)]
+            object.__setattr__(self, name, tuple(numbers))
 
     def __eq__(self, other: object) -> bool:
         if not isinstance(other, Report) or _KEY(self) != _KEY(other):

@@ -11,7 +11,8 @@ from collections.abc import Callable, Hashable, Iterator, Mapping, Sequence
 from typing import Any, TYPE_CHECKING, TypeVar, Union
 
 from chipfire.backend import library
-from chipfire.backend.plays import play
+from chipfire.backend.kept import nothing
+from chipfire.backend.plays import Between, is_short, play, represents_soon
 from chipfire.backend.process import ask, Kept
 from chipfire.configurations import smith
 from chipfire.pictures.picture import Drawn
@@ -250,14 +251,14 @@ def refuse_below_none(chips: Configuration) -> None:
 
 
 def stabilized_rows(
-    graph: Graph, chips: array[int], program: FileName | None
+    graph: Graph, chips: array[int], program: FileName | None, between: Between = nothing
 ) -> tuple[array[int], array[int]]:
-    """The same of the chips of one game after another."""
+    """The same of the chips of one game after another; `between` is called between two portions of one, and may end it."""
     if graph.loops:
         start = in_words(graph.without_loops(chips))
-        left, fired = stabilized_rows(graph.loop_free, start, program)
+        left, fired = stabilized_rows(graph.loop_free, start, program, between)
         return graph.with_loops(left), fired
-    found = play(graph, chips, program)
+    found = play(graph, chips, program, between=between)
     left, fired, stopped = found or _by_program(graph, chips, program)
     if stopped:
         raise ValueError("a vertex fired 2^40 times, and the chips are not stable then")
@@ -288,7 +289,9 @@ def burning_test(graph: Graph, chips: Sequence[int], program: FileName | None) -
         return burning_test(graph.loop_free, less, program)
     width = graph.vertices or 1
     played, poor = _from_none_on(chips, graph.sink, width)
-    flags: Sequence[int] | None = library.are_recurrent(graph, played, program)
+    flags: Sequence[int] | None = None
+    if burns_soon(graph, program):
+        flags = library.are_recurrent(graph, played, program)
     if flags is None:
         flags = _come_back(graph, played, program)
     return [bool(flag) and at not in poor for flag, at in zip(flags, range(0, len(played), width))]
@@ -348,11 +351,9 @@ def burning(graph: Graph, program: FileName | None) -> tuple[Sequence[int], Sequ
     """The least burning script, and the chips that it takes away, by numbers; `chipfire.burning_script` says how."""
     none = [0] * graph.vertices
     graph = graph.loop_free
-    if found := library.burning(graph, program):
+    if burns_soon(graph, program) and (found := library.burning(graph, program)):
         return found
-    # (each vertex fires once from as many chips as that takes, so what lies there then came in)
-    entering = graph.position_after(graph.degrees(), [1] * graph.vertices)
-    start = Configuration(graph, [max(count - 1, 0) for count in entering])
+    start = _kindling(graph)
     fired = none if start.is_stable() else stabilized(start, program)[1]
     script = Configuration(graph, [count + 1 for count in fired]).numbers
     left = Configuration(graph, graph.position_after(none, script))
@@ -360,10 +361,24 @@ def burning(graph: Graph, program: FileName | None) -> tuple[Sequence[int], Sequ
 
 
 @cached_on_graph
+def burns_soon(graph: Graph, program: FileName | None) -> bool:
+    """Whether the library finds the least burning script soon, or refuses the graph. Stable chips then burn soon too."""
+    return bool(graph.wrong) or is_short(graph, program, _kindling(graph).numbers)
+
+
+def _kindling(graph: Graph) -> Configuration:
+    """The chips with which the play begins that finds the least burning script."""
+    # (each vertex fires once from as many chips as that takes, so what lies there then came in)
+    entering = graph.position_after(graph.degrees(), [1] * graph.vertices)
+    return Configuration(graph, [max(count - 1, 0) for count in entering])
+
+
+@cached_on_graph
 def identity(graph: Graph, program: FileName | None) -> Sequence[int]:
     """The recurrent identity, by numbers: with `m` the most stable chips, 2m less its stabilization, stabilized."""
-    if not graph.loops and (found := library.identity(graph, program)):
-        return found
+    if not graph.loops and represents_soon(graph, program, [0] * graph.vertices):
+        if found := library.identity(graph, program):
+            return found
     twice = 2 * graph.max_stable()
     return (twice - twice.stabilize(program=program)).stabilize(program=program).numbers
 
@@ -378,7 +393,7 @@ def representative(form: str, held: Configuration, program: FileName | None) -> 
         lift = full - full.stabilize(program=program)
         pairs = zip(held.numbers, lift.numbers)
         held += max(-(count // more) for count, more in pairs if more) * lift
-    if not graph.loops:
+    if not graph.loops and represents_soon(graph, program, held.numbers):
         chips = library.representative(graph, form, in_words(held.numbers), program)
         if chips is not None:
             return Configuration(graph, chips)

@@ -52,8 +52,8 @@ def burning_script(graph: AnyGraph, *, program: AnyProgram = None) -> Configurat
     The script is due to Speer [1]_. It is one more than the odometer of the play that begins with one chip less on
     each vertex than edges lead into it.
 
-    Proved: the script, if the library finds it in one call. If the play may be too long for that, or without the
-    library, the program plays: then its counts are proved. Not proved: that the script is passed on.
+    Proved: the script, if the library finds it in one call. If that is no short play, or without the library, the
+    counts of a play are proved. Not proved: that the script is passed on.
 
     References
     ----------
@@ -144,9 +144,9 @@ def is_recurrent(graph: AnyGraph, chips: Chips, *, program: AnyProgram = None) -
     This is the burning test of Dhar [1]_, also for directed multigraphs: a configuration is recurrent exactly if it
     comes back when `burning_configuration` is added to it and the sum is stabilized.
 
-    Proved: the result, if the library returns it in one call. If a play may be too long for that, or without the
-    library, the program plays: then the stabilizations are proved, and that the test is right. Not proved: that the
-    result is passed on, or else the comparison.
+    Proved: the result, if the library returns it in one call. If the graph has no short burning script, or without
+    the library, the stabilizations are proved, and that the test is right. Not proved: that the result is passed on,
+    or else the comparison.
 
     References
     ----------
@@ -193,8 +193,8 @@ def are_recurrent(
 
     Notes
     -----
-    Proved: each value, if the library returns it in one call. If a play may be too long for that, or without the
-    library, the program plays: then the stabilizations are proved. Not proved: that Python passes the values on.
+    Proved: each value, if the library returns it. If the graph has no short burning script, or without the library,
+    the stabilizations are proved. Not proved: that Python passes the values on.
 
     Examples
     --------
@@ -241,9 +241,9 @@ def recurrent_representative(
     -----
     To chips below 0 Python adds a configuration equivalent to zero until none is below 0.
 
-    Proved: the rest, if the library finds it in one call. If a play may be too long for that, or without the library,
-    the program plays: then the identity is added, the stable sum is tested, and the stabilizations are proved.
-    Not proved: that the chips are lifted right, and passed on.
+    Proved: the rest, if the library finds it in one call. If that is no short play, or without the library, the
+    identity is added, the stable sum is tested, and the stabilizations are proved. Not proved: that the chips are
+    lifted right, and passed on.
 
     Examples
     --------
@@ -288,7 +288,7 @@ def superstable_representative(
     With `m` the maximal stable configuration, it is `m` less the recurrent representative of `m` less this one.
 
     Proved: what is proved of `recurrent_representative`. Not proved: that the chips are lifted right, and passed on;
-    and where the program plays, the two differences.
+    and where the library does not find it in one call, the two differences.
 
     Examples
     --------
@@ -331,9 +331,9 @@ def inverse(graph: AnyGraph, chips: Chips, *, program: AnyProgram = None) -> Con
 
     Notes
     -----
-    Proved: the inverse, if no chips are below 0 and the library finds it in one call. If a play may be too long for
-    that, or without the library, the program plays: then it is the representative of 0 less the chips, and the
-    stabilizations are proved. Not proved: that chips below 0 are lifted right, and that the inverse is passed on.
+    Proved: the inverse, if no chips are below 0 and the library finds it in one call. If that is no short play, or
+    without the library, it is the representative of 0 less the chips, and the stabilizations are proved.
+    Not proved: that chips below 0 are lifted right, and that the inverse is passed on.
 
     Examples
     --------

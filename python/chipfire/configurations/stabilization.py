@@ -5,10 +5,11 @@ from __future__ import annotations
 import itertools
 from array import array
 from collections.abc import Iterable, Iterator, Sequence
+from concurrent.futures import ThreadPoolExecutor
 from typing import Any
 
-from chipfire.backend import library
 from chipfire.backend.commands import AnyGraph, AnyProgram, known_graph, read_chips
+from chipfire.backend.portions import Portions
 from chipfire.configurations.configuration import (
     Chips,
     Configuration,
@@ -23,7 +24,6 @@ from chipfire.utils import (
     in_column,
     in_order,
     numpy_of,
-    run_in_threads,
 )
 
 
@@ -246,25 +246,37 @@ def stabilize_many(
     known = known_graph(graph, program)
     width = known.vertices
     start = in_words(rows_of(known, configurations, 0, program))
-    count = len(start) // (width or 1)
     workers = as_int(workers, "workers", 1, 64)
-    left = array("Q")
-    if workers == 1:
+    if workers == 1 or len(start) <= width:
         left = stabilized_rows(known, start, program)[0]
     else:
-        # (an interrupt waits for the parts that have begun, so each is about one call)
-        of_a_call = library.at_once(known, start) or 1
-        many = max(workers, -(-count // of_a_call))
-        ends = [width * (count * it // many) for it in range(many + 1)]
-        parts = [start[begin:end] for begin, end in zip(ends, ends[1:])]
-        for part in run_in_threads(
-            lambda it: stabilized_rows(known, parts[it], program)[0], many, workers
-        ):
-            left.extend(part)
+        left = _on_threads(known, start, program, workers)
     numpy = import_optional("numpy")
     if numpy:
         return numpy.frombuffer(left, "q").reshape(-1, width)
     return [tuple(left[it : it + width]) for it in range(0, len(left), width or 1)]
+
+
+def _on_threads(graph: Graph, start: array[int], program: AnyProgram, workers: int) -> array[int]:
+    """What becomes of configurations, one after another, by threads that take some at a time. After an error or interrupt
+    all stop."""
+    width = graph.vertices
+    portions = Portions(len(start) // width)
+    left = array("Q", bytes(8 * len(start)))
+
+    def work() -> None:
+        for rows in portions:
+            some = slice(rows.start * width, rows.stop * width)
+            left[some] = stabilized_rows(graph, start[some], program, portions.go_on)[0]
+
+    with ThreadPoolExecutor(workers) as pool:
+        try:
+            for future in [pool.submit(work) for _ in range(workers)]:
+                future.result()
+        except BaseException:
+            portions.stop()
+            raise
+    return left
 
 
 def _as_rows(

@@ -12,13 +12,13 @@ from typing import Any, Literal, overload
 from chipfire.backend import library
 from chipfire.backend.commands import AnyGraph, known_graph, read_chips
 from chipfire.backend.finding import ProgramNotFound
-from chipfire.configurations.configuration import Chips
+from chipfire.configurations.configuration import Chips, stabilized_rows
 from chipfire.ensembles import archive
 from chipfire.ensembles.checkpoint import opened
 from chipfire.ensembles.drops import COLUMNS
 from chipfire.ensembles.firings import Firings, firings, firings_of, stored
 from chipfire.ensembles.histograms import following, Histograms, joined, sums_by_name
-from chipfire.ensembles.player import places_of, Plan, spanning, stabilize, table_of
+from chipfire.ensembles.player import places_of, Plan, spanning, table_of
 from chipfire.ensembles.power_law import sizes_figure
 from chipfire.ensembles.spread import Spread
 from chipfire.graphs.graph import Graph
@@ -63,7 +63,7 @@ class Chains(WithArea):
     made : array of shape (n,)
         How many drops each chain made.
     chips : array of shape (n, vertices)
-        The chips after the last drop, by numbers. The sink has what it got in all.
+        The chips after the last drop, with a column for each vertex by its number. The sink has what it got in all.
     fired : Firings or None
         Which vertices each drop fired, if that was asked for.
     seed : int, float, str, bytes or None
@@ -296,8 +296,7 @@ def chains(
         True shows progress by tqdm or in lines. A function is called with the number of drops made and of all.
     checkpoint : path, optional
         A file to which parts are written as they are done. Another call with the same arguments, or with more chains,
-        goes on from it. Its numbers are believed, so nobody else should be able to write to it. It goes without
-        `durations`.
+        goes on from it. Its numbers are believed, so nobody else should be able to write to it.
     partial : bool, optional
         Whether an interrupt returns what was made until then, in place of KeyboardInterrupt.
 
@@ -340,8 +339,6 @@ def chains(
     _refuse_options(until, fired, workers, executor)
     if checkpoint is not None and (seed is None or hasattr(seed, "bit_generator")):
         raise ValueError("a checkpoint takes a seed that is the same in the next call")
-    if checkpoint is not None and durations:
-        raise ValueError("a checkpoint goes without durations")
     known.require()
     if known.vertices < 2 and drops:
         raise ValueError("the graph has only its sink, and so no vertex to drop on")
@@ -434,10 +431,7 @@ def _starts(graph: Graph, chips: Any, n: int) -> array[int]:
     if len(rows) != n:
         raise ValueError(f"there are chips for {len(rows)} chains, and {n} chains")
     begun = array("Q", graph.without_loops([*itertools.chain.from_iterable(rows)]))
-    fired = array("Q", bytes(8 * len(begun)))
-    stopped = array("Q", bytes(8 * n))
-    stabilize(graph.loop_free, begun, fired, stopped)
-    return begun
+    return stabilized_rows(graph.loop_free, begun, None)[0]
 
 
 def _result(plan: Plan, table: Any) -> Chains | Histograms:

@@ -16,12 +16,12 @@ from chipfire.utils import FileName, import_optional
 
 #: How SQLite tells these files from those of other programs, and their version.
 _APPLICATION = 0x63686970
-_VERSION = 1
+_VERSION = 2
 
 _TABLES = """
     CREATE TABLE plan (name TEXT PRIMARY KEY, value TEXT);
-    CREATE TABLE parts (first INTEGER PRIMARY KEY, n INTEGER, size BLOB, extent BLOB, lost BLOB, made BLOB, chips BLOB,
-        drops BLOB, vertices BLOB, counts BLOB);
+    CREATE TABLE parts (first INTEGER PRIMARY KEY, n INTEGER, made BLOB, chips BLOB, drops BLOB, vertices BLOB,
+        counts BLOB, size BLOB, extent BLOB, lost BLOB, duration BLOB);
 """
 
 
@@ -50,6 +50,7 @@ def _said(plan: Plan) -> dict[str, str]:
         "chips": None if starts is None else _digest(starts),
         "until": plan.until,
         "fired": plan.fired,
+        "durations": plan.timed,
     }
     return {name: json.dumps(value) for name, value in values.items()}
 
@@ -116,19 +117,23 @@ class Checkpoint:
 
     def _part(self, n: int, columns: list[bytes], table: Table) -> Table:
         """The table of n chains that has these columns; one of another shape is refused."""
-        *rows, made, chips = (array("Q", it) for it in columns[:5])
-        shapes = [len(it) for it in (*rows, made, chips)]
-        wanted = [n * table.drops] * 3 + [n, n * table.width]
+        made, chips, *rows = (array("Q", it) for it in (*columns[:2], *columns[5:]))
+        if not self.plan.timed:
+            rows.pop()
+        shapes = [len(it) for it in (made, chips, *rows)]
+        wanted = [n, n * table.width] + [n * table.drops] * len(table.columns)
         if shapes != wanted or max(made) > table.drops:
             raise ValueError(f"{self.file} has a part that is none of these chains")
-        fired = [_piece(columns[5:])] if self.plan.fired else []
+        fired = [_piece(columns[2:5])] if self.plan.fired else []
         return Table(table.drops, table.width, rows, made, chips, fired)
 
     def put(self, start: int, stop: int, part: Table) -> None:
         """Writes the part in these places, which is done."""
         fired = _joined(part.fired) if self.plan.fired else [b""] * 3
-        numbers = [*part.columns, part.made, part.chips]
-        row = [self.plan.first + start, stop - start, *map(bytes, numbers), *map(bytes, fired)]
+        numbers = [part.made, part.chips, *fired, *part.columns]
+        if not self.plan.timed:
+            numbers.append(b"")
+        row = [self.plan.first + start, stop - start, *map(bytes, numbers)]
         with self._rows:
             marks = ", ".join("?" * len(row))
             self._rows.execute(f"INSERT OR REPLACE INTO parts VALUES ({marks})", row)

@@ -2,16 +2,15 @@
 
 from __future__ import annotations
 
-import operator
-import time
 from array import array
 from collections import Counter
 from collections.abc import Callable, Iterable, Iterator, Mapping, Sequence
 from dataclasses import dataclass
 from typing import Any
 
-from chipfire.backend import kept, library
+from chipfire.backend import kept
 from chipfire.backend.finding import ProgramNotFound
+from chipfire.backend.portions import Portions
 from chipfire.backend.process import refused
 from chipfire.backend.report import Report
 from chipfire.configurations.configuration import CHIPS_HEADER, Configuration, in_words
@@ -19,6 +18,7 @@ from chipfire.ensembles import archive
 from chipfire.ensembles.firings import fall, Firings, firings, firings_of, numbers_of, Room, stored
 from chipfire.ensembles.power_law import sizes_figure
 from chipfire.graphs.graph import Graph
+from chipfire.progress import Progress
 from chipfire.utils import (
     as_ints,
     FileName,
@@ -226,41 +226,19 @@ def _numbers_of(graph: Graph, vertices: Any) -> array[int]:
     return array("Q", map(graph.number, names_of(vertices, "drops")))
 
 
-def played_drops(
-    graph: Graph,
-    chips: array[int],
-    at: array[int],
-    amounts: array[int],
-    program: FileName | None,
-) -> Drops | None:
-    """The drops on the pile that the graph keeps; None if the program is to be asked, since a limit may stop a vertex."""
-    most = library.most(graph)
-    total = sum(chips)
-    if program is not None or max(total + 1, total + max(amounts, default=0)) > most:
-        return None
-    pile = kept.take(graph, chips, most)
-    if pile is None:
-        return None
-    try:
-        columns = [array("Q", [0]) * len(at) for _ in range(3)]
-        fired = _counts_of(pile, at, amounts, columns, most, graph)
-        left = pile.chips()
-    finally:
-        kept.give_back(graph, pile)
-    if fired is None:
-        return None
-    counts = fired
-    return Drops.with_report_later(
-        dict(zip(COLUMNS, shown(columns))),
-        lambda: Report(tuple(left), tuple(counts), (), graph=graph),
-    )
-
-
 class Measured:
     """Drops on a pile that the library keeps, with what is asked of them beside their columns."""
 
-    def __init__(self, graph: Graph, count: int, fired: bool, durations: bool) -> None:
+    def __init__(
+        self,
+        graph: Graph,
+        count: int,
+        fired: bool,
+        durations: bool,
+        progress: Progress | None = None,
+    ) -> None:
         self._graph = graph
+        self._progress = progress
         self._columns = [array("Q", bytes(8 * count)) for _ in range(3 + durations)]
         self._room = Room(graph.vertices) if fired else None
         #: How many drops were made, and the number of a fault that came of the last one, or 0.
@@ -275,6 +253,8 @@ class Measured:
             if self.number not in (0, kept.STOPPED):
                 raise refused(self.number, self.made + place, self._graph)
             self.made += place if self.number else len(where)
+            if self._progress:
+                self._progress.show(self.made, self.made == len(at))
             return self.number == 0
 
         in_calls(call, at, amounts, self._columns)
@@ -302,68 +282,32 @@ def measured_drops(
     chips: array[int],
     at: array[int],
     amounts: array[int],
-    fired: bool,
-    durations: bool,
-) -> Drops:
-    """Drops by the library, with what is asked of them."""
+    fired: bool = False,
+    durations: bool = False,
+    progress: bool = False,
+) -> Drops | None:
+    """Drops by the library, with what is asked of them, on the pile that the graph keeps; None without the library."""
     pile = kept.take(graph, chips, MAX_LIMIT)
     if pile is None:
-        raise without_library()
+        return None
     try:
-        measured = Measured(graph, len(at), fired, durations)
-        number = pile.play()
-        if not number:
-            measured.play(pile, at, amounts)
-        left, counts = pile.chips(), pile.fired()
+        with Progress(progress, len(at), "drops") as shown:
+            measured = Measured(graph, len(at), fired, durations, shown)
+            number = pile.play()
+            if number not in (0, kept.STOPPED):
+                raise refused(number, 0, graph)
+            if not number:
+                measured.play(pile, at, amounts)
+            left, counts = pile.chips(), pile.fired()
     finally:
         kept.give_back(graph, pile)
+    return Drops.with_report_later(measured.told(), lambda: _report(graph, left, counts))
+
+
+def _report(graph: Graph, left: Sequence[int], fired: Sequence[int]) -> Report:
+    """The report of a play that has left these chips."""
     over = [it for it, degree in enumerate(graph.degrees()) if 0 < degree <= left[it]]
-    report = Report(tuple(left), tuple(counts), tuple(over), graph=graph)
-    return Drops(report=report, **measured.told())
-
-
-def _counts_of(
-    pile: kept.KeptPile,
-    at: array[int],
-    amounts: array[int],
-    columns: Sequence[Any],
-    most: int,
-    graph: Graph,
-) -> array[int] | None:
-    """How often each vertex fires if a pile is played and then these drops are made; None if the limit stops a play, or if
-    they are more than 2^40 in all.
-
-    The limit is of each call. So the pile begins anew on what lies there, before a vertex can have fired half as often.
-    """
-    before: array[int] | None = None
-    firings: int | None = None
-    is_first = True
-
-    def call(where: Any, many: Any, rows: list[Any]) -> bool:
-        nonlocal before, firings, is_first
-        if firings is None and not is_first:
-            firings = sum(pile.fired())
-        is_first = False
-        if firings is not None and firings > most // 2:
-            before = _sums(pile.fired(), before)
-            firings = 0
-            if number := pile.put(pile.chips(), most):
-                raise refused(number, 0, graph)
-        number, drop = pile.drops(where, many, rows)
-        if number not in (0, kept.STOPPED):
-            raise refused(number, drop, graph)
-        if firings is not None:
-            firings += sum(rows[0])
-        return number == 0
-
-    is_over = in_calls(call, at, amounts, columns) if at else pile.play() == 0
-    fired = _sums(pile.fired(), before)
-    return fired if is_over and (before is None or sum(fired) <= MAX_LIMIT) else None
-
-
-def _sums(counts: array[int], more: array[int] | None) -> array[int]:
-    """Counts with others, if there are any."""
-    return counts if more is None else array("Q", map(operator.add, counts, more))
+    return Report(tuple(left), tuple(fired), tuple(over), graph=graph)
 
 
 def in_calls(
@@ -376,22 +320,12 @@ def in_calls(
     """Makes drops by calls, each of which says whether all its drops were made. One drop may be long, so the first call has
     one if no other number is said; later calls have more, or fewer if one takes a tenth of a second. How many the next
     one would have is returned, 1 at least; 0 if drops were not made."""
-    start = 0
-    while start < len(at):
-        begun = time.monotonic()
-        part = slice(start, start + some)
+    portions = Portions(len(at), some)
+    for part in portions:
         where, many, *rows = (memoryview(it)[part] for it in (at, amounts, *columns))
         if not call(where, many, rows):
             return 0
-        start = part.stop
-        took = time.monotonic() - begun
-        if took < 0.003:
-            some = 32 * some
-        elif took < 0.1:
-            some = 2 * some
-        else:
-            some = some // 2 or 1
-    return min(some, len(at) or 1)
+    return min(portions.size, len(at) or 1)
 
 
 def parts_of(at: array[int], amounts: array[int]) -> Iterator[bytes]:

@@ -2,13 +2,14 @@
 
 from __future__ import annotations
 
-from collections.abc import Sequence
+import time
+from collections.abc import Callable, Sequence
 from typing import Any, NamedTuple
 
 from chipfire.backend import kept
 from chipfire.ensembles import archive
 from chipfire.graphs.graph import Graph
-from chipfire.utils import import_optional
+from chipfire.utils import import_optional, numpy_in_use
 
 #: How many vertices that fire a call has room for at least.
 _ROOM = 2**17
@@ -128,8 +129,17 @@ class Room:
                 return number, made
 
     def _take(self, written: int) -> None:
-        vertices, times = self._vertices[:written], self._times[:written]
+        self._add(self._vertices[:written], self._times[:written])
+
+    def _add(self, vertices: Any, times: Any) -> None:
         self._pieces.append((vertices.astype("i4"), times.astype("i8")))
+
+    def add_counts(self, counts: Sequence[int]) -> None:
+        """Takes what one drop fires, as the count of each vertex."""
+        numpy = import_optional("numpy")
+        each = numpy.frombuffer(counts, "u8")
+        vertices = each.nonzero()[0]
+        self._add(vertices, each[vertices])
 
     def taken(self) -> tuple[Any, Any]:
         """What was written since it was taken the last time."""
@@ -144,13 +154,70 @@ def fall(
     pile: kept.KeptPile, room: Room | None, at: Any, amounts: Any, columns: Sequence[Any]
 ) -> tuple[int, int]:
     """Drops on a pile, whose numbers go into the columns, the durations too if there is a fourth, and what they fire into the
-    room, if there is one: the number of a fault, or 0, and how many were made, or the place of the fault.
+    room, if there is one: the number of a fault, or 0, and how many were made, or the place of the fault. Between two portions
+    of a drop of many chips an interrupt is seen, but not while durations are measured.
     """
+    if len(columns) > 3:
+        return _fall_at_once(pile, room, at, amounts, columns)
+    made = 0
+    while made < len(amounts):
+        falls, some = _next(amounts[made:], pile.light)
+        where, many, *rows = (it[made : made + some] for it in (at, amounts, *columns))
+        number, place = falls(pile, room, where, many, rows)
+        if number:
+            return number, made + place
+        made += some
+    return 0, made
+
+
+def _next(amounts: Any, light: int) -> tuple[Callable[..., tuple[int, int]], int]:
+    """What makes the next drops of these amounts, and how many: light ones up to one that is not, or this one alone."""
+    if amounts[0] > light:
+        return _pour, 1
+    numpy = numpy_in_use()
+    most = int(numpy.asarray(amounts).max()) if numpy else max(amounts)
+    if most <= light:
+        return _fall_at_once, len(amounts)
+    return _fall_at_once, next(drop for drop, amount in enumerate(amounts) if amount > light)
+
+
+def _fall_at_once(
+    pile: kept.KeptPile, room: Room | None, at: Any, amounts: Any, columns: Sequence[Any]
+) -> tuple[int, int]:
+    """Drops each of which is made in one call."""
+    begun = time.monotonic()
+    number, made = _measured(pile, room, at, amounts, columns)
+    pile.note(len(at), time.monotonic() - begun)
+    if number == kept.STOPPED and pile.is_before(at[made], amounts[made]):
+        where, many, *rows = (it[made:] for it in (at, amounts, *columns))
+        number, more = _measured(pile, room, where, many, rows)
+        made += more
+    return number, made
+
+
+def _measured(
+    pile: kept.KeptPile, room: Room | None, at: Any, amounts: Any, columns: Sequence[Any]
+) -> tuple[int, int]:
+    """Drops by the call that tells what is asked for."""
     if room:
         return room.drops(pile, at, amounts, columns)
     if len(columns) == 3:
         return pile.drops(at, amounts, [*columns])
     return pile.measure(at, amounts, columns)
+
+
+def _pour(
+    pile: kept.KeptPile, room: Room | None, at: Any, amounts: Any, columns: Sequence[Any]
+) -> tuple[int, int]:
+    """One drop of many chips."""
+    number, counts = pile.pour(at[0], amounts[0])
+    if number:
+        return number, 0
+    for column, told in zip(columns, pile.told):
+        column[0] = told
+    if room:
+        room.add_counts(counts)
+    return 0, 1
 
 
 def numbers_of(lengths: Any, first: int = 0) -> Any:

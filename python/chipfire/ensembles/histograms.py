@@ -33,7 +33,7 @@ class Histograms(WithArea):
     made : array of shape (n,)
         How many drops each chain made.
     chips : array of shape (n, vertices)
-        The chips after the last drop, by numbers. The sink has what it got in all.
+        The chips after the last drop, with a column for each vertex by its number. The sink has what it got in all.
     seed : int, float, str, bytes or None
         The seed from which `chains` plays the same again; None of chains of several seeds.
     first : int

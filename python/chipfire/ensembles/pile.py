@@ -20,10 +20,6 @@ from chipfire.graphs.graph import Graph
 from chipfire.utils import as_int, FILE, MAX_CHIPS, MAX_LIMIT
 
 
-#: How many chips a drop may have that is played in this process, however many lie there.
-_FEW_CHIPS = 64
-
-
 class Drop(NamedTuple):
     """What one drop on a pile caused: the number of firings, that of different vertices that fired, and that of chips
     which the firings brought to the sink."""
@@ -82,8 +78,8 @@ class Pile:
     Notes
     -----
     The library keeps the pile in this process, if it is there, and plays in portions, between which an interrupt is
-    seen. A drop of many chips, or each drop if there is no library, is played by the program, with the same results.
-    Threads may share a pile: one call waits for another. A forked child goes on with a pile of its own. A copy and a
+    seen; after one that ends a drop, or many of them, the pile is as it was before. Without the library the program plays,
+    with the same results. Threads may share a pile: one call waits for another. A forked child goes on with a pile of its own. A copy and a
     pickle have graph, chips, counts and limit.
 
     Proved: the chips, the counts and the numbers of each drop. Not proved: that Python passes them on, and adds.
@@ -172,7 +168,7 @@ class Pile:
         amount = as_int(amount, "the number of chips")
         with self._alone():
             pile = self._before([amount])
-            if pile and self._is_short([amount]):
+            if pile:
                 self._is_stopped = self._stops(pile.drop(at, amount))
                 self._add(at, amount)
                 if self._is_stopped:
@@ -198,7 +194,7 @@ class Pile:
         at, many = dropped_on(self.graph, vertices, amounts)
         with self._alone():
             pile = self._before(many)
-            if pile and (fired or durations or self._is_short(many)):
+            if pile:
                 return self._by_library(pile, at, many, fired, durations)
             if fired or durations:
                 raise without_library()
@@ -208,7 +204,9 @@ class Pile:
         """Gives the memory back. Nothing can be asked of the pile any more."""
         with self._alone(is_open=False):
             self._is_closed = True
-            self._let_go(is_whole=False)
+            pile, self._kept, self._end = self._kept, None, None
+            if pile is not None and pile.is_own:
+                self._end_of(pile)
 
     def __enter__(self) -> Pile:
         return self
@@ -252,6 +250,8 @@ class Pile:
 
     def _ready(self, old: kept.KeptPile | None = None) -> kept.KeptPile | None:
         """The library's pile, played to the end. None if the program plays; then chips and counts are known."""
+        if self._kept is not None and not self._kept.is_own:
+            self._kept = None
         if self._kept is None and self._end is None:
             start, limit = self._game
             self._kept = self._played(start, limit, old)
@@ -293,11 +293,6 @@ class Pile:
         if number not in (0, kept.STOPPED):
             raise refused(number, 0, self.graph)
         return number != 0
-
-    def _is_short(self, amounts: Sequence[int]) -> bool:
-        """Whether drops are played in this process, where a drop is played at once."""
-        is_light = self._total + sum(amounts) <= library.most(self.graph)
-        return is_light or max(amounts, default=0) <= _FEW_CHIPS
 
     def _before(self, amounts: Sequence[int]) -> kept.KeptPile | None:
         """The library's pile before drops of these amounts, which are refused if they are too many or the limit has
@@ -344,15 +339,6 @@ class Pile:
         chips = tuple(self.graph.with_loops(left))
         return Report(chips, tuple(fired), tuple(over), graph=self.graph)
 
-    def _let_go(self, is_whole: bool) -> None:
-        """Frees the library's pile. If it is whole, its chips and counts stay known, and else they are to be found."""
-        pile = self._kept
-        if pile is not None:
-            self._end = (pile.chips(), pile.fired()) if is_whole else None
-            self._kept = None
-            if pile.is_own:
-                self._end_of(pile)
-
     def _by_library(
         self,
         pile: kept.KeptPile,
@@ -363,7 +349,13 @@ class Pile:
     ) -> Drops:
         """Drops on the library's pile."""
         measured = Measured(self.graph, len(at), fired, durations)
-        measured.play(pile, at, amounts)
+        before = pile.chips(), None, pile.fired()
+        try:
+            measured.play(pile, at, amounts)
+        except BaseException:
+            if pile.is_own:
+                pile.put(*before)
+            raise
         self._is_stopped = self._stops(measured.number)
         fallen = measured.made + self._is_stopped
         self._add_all(at[:fallen], amounts[:fallen])
@@ -371,9 +363,6 @@ class Pile:
 
     def _by_program(self, at: array[int], amounts: array[int]) -> Drops:
         """Drops that the program plays."""
-        if self._kept is not None:
-            self._let_go(is_whole=True)
-        self._ready_by_program()
         assert self._end is not None
         (left, fired), (_, limit) = self._end, self._game
         names = [self._free.names[vertex] for vertex in at]
@@ -384,14 +373,6 @@ class Pile:
             self._end = found.report.chips, counts
             return Drops(found.size, found.extent, found.lost, self._report())
         return self._one_by_one(at, amounts)
-
-    def _ready_by_program(self) -> None:
-        """Has chips and counts known without the library's pile."""
-        if self._end is None:
-            start, limit = self._game
-            told = plain(self._free, list(start), limit=limit, program=self._program)
-            self._end = told.chips, told.fired
-            self._is_stopped = not told.closed
 
     def _one_by_one(self, at: array[int], amounts: array[int]) -> Drops:
         """Drops of which the limit may stop one: the play of all chips together tells of each what it adds."""

@@ -14,6 +14,7 @@ from dataclasses import dataclass, field, replace
 from typing import Any, Union
 
 from chipfire.backend import kept, library
+from chipfire.backend.portions import Stopped
 from chipfire.backend.process import refused
 from chipfire.ensembles.drops import COLUMNS, in_calls, names_of, PART
 from chipfire.ensembles.firings import fall, numbers_of, Room
@@ -300,6 +301,8 @@ class _Player:
         is_asked = plan.fired or plan.until == "spans"
         self.room = Room(self.graph.vertices) if is_asked else None
         self.ends = _ends(self.graph, plan.until)
+        #: Whether some drop has more than a chip, and may be long.
+        self.is_heavy = max(plan.amounts, default=0) > 1
         #: The number of the next drop among those of all chains, and whether the chain has ended.
         self.next = 0
         self.is_over = False
@@ -314,6 +317,7 @@ class _Player:
             if pile is None:
                 found = library.loaded()
                 pile = kept.KeptPile(found, self.graph, start, MAX_LIMIT)
+                pile.between = self._go_on
             else:
                 self._put(pile, start)
             self._play_on(pile, chain)
@@ -322,6 +326,11 @@ class _Player:
                 break
         if pile is not None:
             pile.free()
+
+    def _go_on(self, _: kept.KeptPile) -> None:
+        """Ends a long drop, if all is to stop."""
+        if self.watch.is_stopped:
+            raise Stopped
 
     def _put(self, pile: kept.KeptPile, chips: array[int]) -> None:
         if number := pile.put(chips, MAX_LIMIT):
@@ -368,7 +377,7 @@ class _Player:
             more = self._call(pile, where, many, columns)
             made += more
             self.watch.add(more)
-            return not self.is_over
+            return not self.is_over and not self.watch.is_stopped
 
         at = self._drawn(len(amounts))
         first = 1 if self.plan.until else self.watch.drops_of_call
@@ -377,22 +386,35 @@ class _Player:
         return made
 
     def _call(self, pile: kept.KeptPile, at: Any, amounts: Any, columns: list[Any]) -> int:
-        """Makes drops up to the one with which the chain ends; how many. If more were made, they are taken back."""
-        before = pile.chips() if self.plan.until else None
-        number, told = fall(pile, self.room, at, amounts, columns)
-        if number:
-            raise refused(number, told, self.graph)
-        fired = self.room.taken() if self.room else ()
-        last = self.ends(columns, fired)
-        made = len(at) if last is None else last + 1
-        self.is_over = last is not None
+        """Makes drops up to the one with which the chain ends; how many. If more were made, they are taken back: all, if a long
+        one is to stop."""
+        before = pile.chips() if self.plan.until or self.is_heavy else None
+        try:
+            number, told = fall(pile, self.room, at, amounts, columns)
+            if number:
+                raise refused(number, told, self.graph)
+            fired = self.room.taken() if self.room else ()
+            last = self.ends(columns, fired)
+            made = len(at) if last is None else last + 1
+            self.is_over = last is not None
+        except Stopped:
+            fired = self.room.taken() if self.room else ()
+            made = 0
         self._note(columns, fired, made)
         if before is not None and made < len(at):
-            self._put(pile, before)
-            pile.drops(at[:made], amounts[:made], [column[:made] for column in columns[:3]])
-            for column in columns:
-                _copy(column[made:], array("Q", bytes(8 * (len(at) - made))))
+            self._take_back(pile, before, at[:made], amounts[:made], columns)
         return made
+
+    def _take_back(
+        self, pile: kept.KeptPile, before: array[int], at: Any, amounts: Any, columns: list[Any]
+    ) -> None:
+        """Has only these drops made, which are the first ones of a call."""
+        self._put(pile, before)
+        made = len(at)
+        if made:
+            fall(pile, None, at, amounts, [column[:made] for column in columns[:3]])
+        for column in columns:
+            _copy(column[made:], array("Q", bytes(8 * (len(column) - made))))
 
     def _note(self, columns: list[Any], fired: Any, made: int) -> None:
         """Takes what the first drops fired, if that is asked for."""
@@ -406,13 +428,6 @@ def _numbers(column: Any) -> Any:
     """A column as NumPy has it."""
     numpy = import_optional("numpy")
     return numpy.frombuffer(column, "i8")
-
-
-def stabilize(graph: Graph, chips: Any, fired: Any, stopped: Any) -> None:
-    """Plays games to their ends, by the library."""
-    library.stabilize_all(graph, chips, fired, stopped)
-    if any(stopped):
-        raise ValueError("a vertex fired 2^40 times, and the chips are not stable then")
 
 
 def _ends(graph: Graph, until: str | None) -> Callable[[list[Any], Any], int | None]:

@@ -12,6 +12,7 @@ from typing import Any, overload
 
 from chipfire.backend import library
 from chipfire.backend.commands import AnyGraph, known_graph
+from chipfire.backend.portions import Portions
 from chipfire.configurations.configuration import Configuration
 from chipfire.graphs.graph import Graph
 from chipfire.progress import AnyProgress, Progress
@@ -19,9 +20,6 @@ from chipfire.utils import as_int, numpy_in_use, random_generator, require_memor
 
 #: Of each vertex the heads of its edges, and how many chips one firing sends on the edges up to each of them.
 Outs = list[tuple[list[int], list[int]]]
-
-#: How many numbers the library draws in a call, between which an interrupt ends the work.
-_PART = 2**19
 
 #: Numbers have 64 bits.
 _MASK = 2**64 - 1
@@ -113,13 +111,12 @@ def recurrent_rows(
     _require_undirected(plain)
     base = random_generator(seed).getrandbits(64)
     rows = array("Q")
-    some = max(1, _PART // graph.vertices)
-    for number in range(first, first + n, some):
-        count = min(some, first + n - number)
+    for some in Portions(n):
+        number, count = first + some.start, some.stop - some.start
         found = library.random_recurrents(plain, base, number, count)
         rows.extend(_drawn(plain, base, number, count) if found is None else found)
         if progress is not None:
-            progress.show(number - first + count, number - first + count == n)
+            progress.show(some.stop, some.stop == n)
     return rows
 
 

@@ -35,6 +35,7 @@ from chipfire.utils import (
     numpy_in_use,
     numpy_of,
     recoded,
+    VertexNumber,
     with_unit,
 )
 
@@ -132,7 +133,7 @@ class Graph:
     Attributes
     ----------
     edges : tuple of (int, int, int)
-        The edges with their multiplicities. An edge's number is its place.
+        The edges, by the numbers of their tails and heads, with their multiplicities. An edge's number is its place.
 
     Raises
     ------
@@ -295,9 +296,12 @@ class Graph:
         yield f'],"sink":{self.sink},"version":1,"vertices":{self.vertices}}}\n'.encode()
 
     def number(self, name: Hashable) -> int:
-        """The number of the vertex with this name or, without names, on this square (row, column); else a KeyError."""
+        """The number of the vertex with this name or, without names, on this square (row, column); else a KeyError. A number
+        that a result has is a TypeError, if the name of that vertex is another one."""
         if type(name) is int and isinstance(self.names, range) and 0 <= name < self.vertices:
             return name
+        if isinstance(name, VertexNumber) and not isinstance(self.names, range):
+            self._refuse_number(name)
         try:
             return self._numbers[name]
         except (KeyError, TypeError):
@@ -487,6 +491,12 @@ class Graph:
         number for each but the sink; or from a report. Configurations and reports of another graph are refused.
         """
         return self.numbers(chips, least=0)
+
+    def _refuse_number(self, number: VertexNumber) -> None:
+        """Refuses the number of a vertex in place of its name, if that is another one."""
+        name = self.names[number] if number < self.vertices else None
+        if name != number:
+            raise TypeError(f"vertex {number} of a result is a number, and its name is {name!r}")
 
     def numbers(
         self, values: Any, least: int | None = None, of: str = "chips", *, with_sink: bool = False

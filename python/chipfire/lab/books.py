@@ -79,7 +79,8 @@ class Books:
     process : int, optional
         The number of the process in the log.
     log : file or list, optional
-        What gets a row (process, kind, channel) for `judge_log` at each call. Rows in files have no header.
+        What gets a row (process, kind, channel) for `judge_log` at each call. Rows in files have no header. A file
+        stays open until `close`.
 
     Raises
     ------
@@ -138,6 +139,7 @@ class Books:
         self._has_claimed = False
         self._log = log
         self._file: TextIO | None = None
+        self._keeps_file = True
         if root:
             self._note("active")
 
@@ -233,6 +235,13 @@ class Books:
             self._note("over")
         return bool(over.value)
 
+    def close(self) -> None:
+        """Closes the file of the log, if it is open. Each row that comes later opens it for itself."""
+        self._keeps_file = False
+        if self._file is not None:
+            self._file.close()
+            self._file = None
+
     def _last(self, edge: int) -> tuple[bool, int]:
         """Sorts the parent after the others, since its last message waits for all of theirs."""
         return edge == self._books.parent, edge
@@ -279,9 +288,14 @@ class Books:
         if not isinstance(self._log, FILE):
             self._log += [row] * times
             return
+        rows = f"{self.process},{kind},{channel}\n" * times
+        if not self._keeps_file:
+            with open(self._log, "a", encoding="ascii") as file:
+                file.write(rows)
+            return
         if self._file is None:
             self._file = open(self._log, "a", buffering=1, encoding="ascii")
-        self._file.write(f"{self.process},{kind},{channel}\n" * times)
+        self._file.write(rows)
 
 
 def read_books_log(file: FileName) -> list[Row]:

@@ -199,7 +199,13 @@ class Process:
         else:
             # (so that the next of several loops ends too)
             self._inboxes[self.name].put_nowait(_OVER)
+            self.close_log()
         return True
+
+    def close_log(self) -> None:
+        """Closes the file of its rows."""
+        with self._lock:
+            self.books.close()
 
     def _get(self, message: Message) -> None:
         """Notes a message. Its edge may be new here."""
@@ -239,6 +245,9 @@ class Detector:
     process loops over its messages, and sends others. `begin` sends the first messages, by a root of the detector's
     own. `wait`, or ``await`` in asyncio, returns when all is over. A refusal is raised in the process, and by `wait`
     too, if that has not returned yet. In asyncio the detector is made inside the running loop.
+
+    Files of a log are closed when all is over, those of a process of the system when its loop ends. A detector is a
+    context manager: its end, or `close`, closes them before.
 
     Parameters
     ----------
@@ -334,6 +343,19 @@ class Detector:
                 raise TimeoutError(f"it is not over after {timeout} seconds") from None
             self._hear(item)
 
+    def close(self) -> None:
+        """Closes the files of the log that are open here. What is still noted opens them for each row."""
+        with self._lock:
+            processes = [*self._processes.values()]
+        for process in processes:
+            process.close_log()
+
+    def __enter__(self) -> Detector:
+        return self
+
+    def __exit__(self, *_: object) -> None:
+        self.close()
+
     def __await__(self) -> Generator[Any, None, None]:
         return self._wait_async().__await__()
 
@@ -396,6 +418,7 @@ class Detector:
             for name, inbox in self._inboxes.items():
                 if name != ROOT:
                     inbox.put_nowait(_OVER)
+        self.close()
 
 
 def _backend(backend: Any) -> _Backend:

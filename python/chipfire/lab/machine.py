@@ -25,6 +25,7 @@ from chipfire.utils import (
     package_text,
     read_rows,
     rows_text,
+    VertexNumber,
     write_text,
 )
 
@@ -118,7 +119,7 @@ class Schedule(list[Event]):
 
 
 class TraceRow(NamedTuple):
-    """A row of a trace file: what one vertex took ("take") or fired ("fire"); docs/TRACES.md."""
+    """A row of a trace file: what one vertex took ("take") or fired ("fire"), by its number; docs/TRACES.md."""
 
     vertex: int
     kind: str
@@ -127,7 +128,7 @@ class TraceRow(NamedTuple):
 
 
 class Firing(NamedTuple):
-    """`count` firings of a vertex in a row."""
+    """`count` firings in a row of the vertex that has this number."""
 
     vertex: int
     count: int  # type: ignore[assignment]
@@ -179,7 +180,8 @@ def read_trace(file: FileName) -> list[TraceRow]:
     """The rows of a trace file."""
     rows = read_rows(file, TRACE_HEADER)
     return [
-        TraceRow(int(vertex), kind, int(edge), int(count)) for vertex, kind, edge, count in rows
+        TraceRow(VertexNumber(vertex), kind, int(edge), int(count))
+        for vertex, kind, edge, count in rows
     ]
 
 
@@ -225,7 +227,7 @@ class Books:
 
 @dataclass(frozen=True)
 class Board:
-    """What stands in all books after an event: the root's deficit, and the books of each engaged vertex."""
+    """What stands in all books after an event: the root's deficit, and the books of each engaged vertex, by its number."""
 
     root_deficit: int
     engaged: dict[int, Books]
@@ -241,7 +243,9 @@ def _engaged(line: str) -> tuple[int, Books]:
     """A vertex and its books, of their line. Most lines of a board are those of the board before it."""
     _, vertex, _, parent, _, deficit, _, *owed = line.split()
     counts = (map(int, word.split(":")) for word in owed)
-    return int(vertex), Books(int(parent), int(deficit), {edge: count for edge, count in counts})
+    return VertexNumber(vertex), Books(
+        int(parent), int(deficit), {edge: count for edge, count in counts}
+    )
 
 
 @dataclass(frozen=True)

@@ -89,8 +89,8 @@ class Messages:
     """A game of another computation. A state is a tuple of seven: what each vertex knows, its parent, and of each edge,
     those of the root last, all that was to be sent, and how many are put, taken, acknowledged and settled.
 
-    `react(known, load, outs)` returns what a vertex knows after a message and what it is to send; `work(known, outs)`
-    the same for each way in which it may go on of itself, which it does once all is put. The root has sent `starts`.
+    `react(known, load, outs)` returns what a vertex knows after a message and what it has to send. `work(known, outs)`
+    returns the same for each way in which a vertex may go on of itself once all is put. The root has sent `starts`.
     """
 
     def __init__(self, edges, begins, starts, react, work):
@@ -202,8 +202,8 @@ def moved(game, state, rule, only_once=False, feeds=()):
 def searched(game, rule, only_once=False, feeds=None):
     """How many states all schedules reach, and the least steps to one where the root is closed too early, or None.
 
-    After a state in which the root is closed too early it goes on as after any other. With feeds, in their order, the
-    root is closed only once the end is noted, at any time.
+    The search goes on after a state in which the root is closed too early. With feeds, in their order, the root is closed
+    only after the end is noted, at any time.
     """
     start = (game.start, feeds is None, 0)
     least, waiting, early = {start: 0}, [start], []

@@ -124,7 +124,7 @@ class Ranks(unittest.TestCase):
             divisor.rank(most=50)
 
     def test_the_most_divisors_are_those_of_all_degrees(self):
-        # (of each degree, what is left is as many divisors, up to equivalence, as those that are taken away)
+        # (of each degree, up to equivalence, as many divisors are left as are taken away)
         for classes in all_classes():
             for chips in (chipfire.canonical_divisor(classes.graph), {0: genus(classes.graph) - 1}):
                 divisor = chipfire.Divisor(classes.graph, chips)

@@ -86,7 +86,7 @@ def form_of_game(core):
 
 
 class Searched:
-    """All states of a game by single events: how many there are, and how many events the shortest ways have.
+    """All states of a game by single events: their number, and the numbers of events of the shortest ways.
 
     early  to a state in which the root is closed and something is left
     lost   to one from which the root is never closed any more

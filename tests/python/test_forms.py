@@ -257,7 +257,7 @@ def no_graphs():
 
 
 def triangle_edges():
-    """Forms of the edges a - b, b - c of weight 2, c - s, and what is none; each with the weight of b - c, or words."""
+    """Forms of the edges a - b, b - c of weight 2, c - s, each with the weight of b - c; wrong forms, each with words."""
     rows = [("a", "b"), ("b", "c", 2), ("c", "s")]
     yield from [
         (rows, 2), (tuple(rows), 2), (iter(rows), 2), (dict.fromkeys(rows).keys(), 2), (map(list, rows), 2),

@@ -105,8 +105,8 @@ class Waits(WithFolder):
         self.assertEqual((raised.exception.place, raised.exception.words), ((0, 0), ""))
 
     def test_random_logs(self):
-        """The process at the end of the words waits for a stream whose sender, by all cuts, has no row left; or all of the
-        circle wait."""
+        """The last process of the words waits for a stream whose sender, by all cuts, has no row left; or all of a circle
+        wait."""
         draw, found = random.Random(1), Counter()
         for _ in range(4000):
             rows = logs.random_log(draw, slips=0.2)

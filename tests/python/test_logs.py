@@ -55,8 +55,8 @@ def expected(rows, with_past=False):
 
 
 def with_own_channels(draw, rows):
-    """The rows of a run with a channel for each basic message, and how many of these overtake another one, drawn at
-    random; none if in this order one is got that was not sent."""
+    """The rows of a run with a channel for each basic message, and the number of messages that overtake another one, drawn
+    at random; none if a message is got here before it is sent."""
     sent, overtaken, apart = defaultdict(list), 0, []
     for at, (process, kind, channel) in enumerate(rows):
         if kind == "send":
@@ -317,7 +317,7 @@ class Random(unittest.TestCase):
         self.assertEqual(lines_of([rows[0], *rows[2:]]), ["over a 1 right", "end claimed"])
 
     def test_messages_that_overtake_one_another(self):
-        """Basic messages of a channel may come in any order: a claim has the verdict by all cuts where each message has a
+        """Basic messages of a channel may come in any order: the verdicts on claims are those where each message has a
         channel of its own."""
         count = 0
         for draw, rows in self.drawn(8, 10_000, most=14, slips=0):

@@ -28,7 +28,7 @@ def loop_free():
 
 
 def looped():
-    """The same with one loop or two, up to which vertex is 0 and which 2: their rows, and the graph of the package."""
+    """The same with one loop or two, up to exchanging vertices 0 and 2: their rows, and the graph of the package."""
     for graph in loop_free():
         for loops in itertools.product(range(3), repeat=graph.vertices):
             edges = [*graph.edges, *((at, at, count) for at, count in enumerate(loops) if count)]
@@ -53,8 +53,8 @@ def around(plain, below, above):
 
 
 def twice(plain):
-    """All chips of a sum up to that with which each vertex fires twice: for each its loops, and twice what it sends.
-    None lies on the sink."""
+    """All chips up to the sum with which each vertex can fire twice: its loops, and twice what it sends. None lies on the
+    sink."""
     rows = model.laplacian(plain)
     most = sum(2 * rows[at][at] + count for at, count in enumerate(plain.loops) if at != plain.sink)
     places = [(0,) if at == plain.sink else range(most + 1) for at in range(plain.vertices)]

@@ -28,13 +28,13 @@ TOOLS = sorted(
     for form in ("package.py", "bench/*.py", "packing/*.py", "python/*.py", "tools/*.py")
     for it in glob.glob(f"{glob.escape(ROOT)}/{form}")
 )
-#: The modules that stand beside the rooms under the names that pages of before have.
+#: The modules beside the rooms whose names are those of former pages.
 NAMES_OF_BEFORE = {"computations", "detectors", "library", "machine", "model"}
 COMMANDS = (
     "check", "plain", "run", "simulate", "replay", "resume", "explain", "identity", "verify", "drops", "judge_log",
 )
 
-#: What somebody writes who has his own code checked.
+#: What users write who have their own code checked.
 USE = """
 from typing import Optional
 

@@ -247,7 +247,7 @@ class Disagreements(unittest.TestCase):
             self.refused(f"the program says {shown}, and the model {known}", replies=replies)
 
     def test_a_page_shows_no_replies_but_the_programs(self):
-        # What a hasty detector would reply is no reply of the program, whoever says so.
+        # What a hasty detector would reply is no reply of the program.
         early = chipfire.Simulation.parse("got 0 4\ndone 1\ndone 1\nroot open\n")
         game = chipfire.Setting(TRIANGLE, (4, 0, 0))
         events = tuple(chipfire.Event(kind, 4) for kind in ("take", "ack", "settle"))

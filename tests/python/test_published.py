@@ -6,8 +6,8 @@ from test_sandpiles import has
 
 
 def directed(height, width):
-    """The directed sandpile of Dhar and Ramaswamy (1989): a vertex sends a chip to the one below it, and one to that beside
-    this one. The columns are joined, and the last row sends both to the sink."""
+    """The directed sandpile of Dhar and Ramaswamy (1989): a vertex sends a chip to the vertex below it, and one to the
+    vertex beside that. The columns are joined, and the last row sends both chips to the sink."""
     import numpy
 
     vertex = numpy.arange(height * width)
@@ -41,7 +41,7 @@ class Published(unittest.TestCase):
         self.near(moments.means[0], 153.04, moments.errors[0])
 
     def test_the_directed_sandpile(self):
-        # (each chip reaches the sink by as many steps as there are rows, and a firing makes two steps)
+        # (each chip makes a step for each row, and a firing makes two steps)
         height, width = 256, 64
         graph = directed(height, width)
         chips = stable_rows(8, graph.vertices, 1)

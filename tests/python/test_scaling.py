@@ -22,8 +22,8 @@ def made_chains(rows, made=None):
 
 
 def made_sizes(exponent, dimension, length):
-    """A histogram of the law with an exponential cutoff at the length to the power of the dimension: sizes that grow by a
-    fiftieth stand for all between them, and counts are so large that they are exact to twelve digits."""
+    """A histogram of the law with an exponential cutoff at the length to the power of the dimension. Sizes that grow by a
+    fiftieth stand for all between them, and counts are exact to twelve digits."""
     cutoff = length**dimension
     counts = {size: size**-exponent * math.exp(-size / cutoff) for size in range(1, 400)}
     size = 400

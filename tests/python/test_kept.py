@@ -155,8 +155,8 @@ class Rows(unittest.TestCase):
         def interrupted(pile):
             raise KeyboardInterrupt
 
-        for drop in (lambda pile: pile.drop(12, 900), lambda pile: pile.drops([3, 12], amounts=[1, 900])):
-            grid = chipfire.grid(5, 5)
+        for drop in (lambda pile: pile.drop(66, 5000), lambda pile: pile.drops([3, 66], amounts=[1, 5000])):
+            grid = chipfire.grid(12, 12)
             with mock.patch.multiple(kept, _LIGHT=0, _FEW_CHIPS=1, _FIRST_VISITS=1, _MOST_VISITS=1):
                 pile, other = chipfire.Pile(grid, 3), chipfire.Pile(grid, 3)
                 pile.drop(7, 9), other.drop(7, 9)

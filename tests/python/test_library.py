@@ -230,7 +230,7 @@ class Ways(WithFolder):
     def test_what_progress_shows_only_rises(self):
         grid, shown = chipfire.grid(6, 6), []
         for call, said, least in [
-            (lambda: chipfire.plain(grid, {14: 300}, progress=True), r"chipfire: ([0-9,]+) firings", 5),
+            (lambda: chipfire.plain(chipfire.grid(20, 20), {210: 5000}, progress=True), r"chipfire: ([0-9,]+) firings", 5),
             (lambda: chipfire.drops(grid, 3, range(30), progress=True), "chipfire: ([0-9]+) of 30 drops", 2),
             (lambda: chipfire.drops(grid, 3, range(30), durations=True, progress=True), "chipfire: ([0-9]+) of 30 drops", 2),
         ]:

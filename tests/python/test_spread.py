@@ -269,6 +269,16 @@ class Long(unittest.TestCase):
             with self.assertRaises(KeyboardInterrupt):
                 plays(progress=stop, **options)
 
+    def test_an_interrupt_while_parts_are_handed_out_stops_those_that_have_begun(self):
+        parts = spread._parts
+
+        def interrupted(start, stop, count):
+            yield next(parts(start, stop, count))
+            raise KeyboardInterrupt
+
+        with mock.patch.object(spread, "_parts", interrupted), self.assertRaises(KeyboardInterrupt):
+            chipfire.chains(chipfire.grid(60, 60), 2, 10**7, 1)
+
     def test_a_signal_stops_a_long_call_and_keeps_what_was_made(self):
         script = [
             "import chipfire, signal", "signal.signal(signal.SIGINT, signal.default_int_handler)  # (or it may be ignored)",

@@ -66,12 +66,17 @@ class Spread:
     def _by_threads(self, gaps: Sequence[Place], progress: Progress) -> None:
         futures: Futures = {}
         with ThreadPoolExecutor(self.workers) as pool:
-            for start, stop in gaps:
-                plan = self.plan.part(start, stop).begun()
-                for place in _parts(start, stop, _OF_THREAD * self.workers):
-                    part = plan.part(place[0] - start, place[1] - start)
-                    rows = self.table.part(*place)
-                    futures[pool.submit(play, part, rows, self.watch)] = place
+            try:
+                for start, stop in gaps:
+                    plan = self.plan.part(start, stop).begun()
+                    for place in _parts(start, stop, _OF_THREAD * self.workers):
+                        part = plan.part(place[0] - start, place[1] - start)
+                        rows = self.table.part(*place)
+                        futures[pool.submit(play, part, rows, self.watch)] = place
+            except BaseException:
+                # (or the pool waits for the ends of all that have begun)
+                self._stop(futures)
+                raise
             self._take_all(futures, progress)
 
     def _by_executor(self, executor: Executor, gaps: Sequence[Place], progress: Progress) -> None:

@@ -318,8 +318,12 @@ uint64_t chipfire_pile_drops(struct chipfire_pile *pile,
                              uint64_t *losts, size_t losts_len,
                              uint64_t *place);
 
-/* chipfire_pile_drops, which tells more of each drop in four slices. Of what is not asked for they have length 0.
+/* chipfire_pile_drops, which tells more of each drop in four slices, and may stop after one of them. What is not asked for
+ * has length 0.
  *
+ * loses      not 0: it stops after the first drop that loses a chip
+ * marks      one number for each vertex, or none: it stops after the first drop that fires a vertex in whose mark bit 1 is
+ *            set; or one with bit 2 and one with bit 4; or one with bit 8 and one with bit 16. Other bits mean nothing
  * durations  one number for each drop, or none: gets for how many rounds it lasts, in each of which each legal vertex
  *            fires once; 0 if nothing fires
  * ends       one number for each drop, or none: gets where the vertices that it fires end in the next slice. Those of the
@@ -330,14 +334,17 @@ uint64_t chipfire_pile_drops(struct chipfire_pile *pile,
  * With ends it stops before a drop where vertices has fewer numbers left than the graph has vertices. So a call makes a
  * drop at least, if there were as many at first.
  *
- * On success *place is how many drops were made: all, or those before the one without room, which is still to be made. The
- * pile is as they have left it. Faults are those of chipfire_pile_drops. What is of no drop that was made stays as it was.
+ * On success *place is how many drops were made: all, or those before the one without room, which is still to be made, or
+ * those up to the one after which it stops. The pile is as they have left it. Faults are those of chipfire_pile_drops. What is
+ * of no drop that was made stays as it was.
  *
  * Durations make a play in rounds, which fires a vertex with many chips one time after another. They change nothing else
  * but the order of vertices. */
 uint64_t chipfire_pile_measure(struct chipfire_pile *pile,
                                const uint64_t *at, size_t at_len,
                                const uint64_t *amounts, size_t amounts_len,
+                               uint64_t loses,
+                               const uint64_t *marks, size_t marks_len,
                                uint64_t *sizes, size_t sizes_len,
                                uint64_t *extents, size_t extents_len,
                                uint64_t *losts, size_t losts_len,

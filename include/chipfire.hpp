@@ -365,8 +365,9 @@ public:
         return set_off;
     }
 
-    /// Drops that are measured: what they fire, and if it is asked for, for how many rounds (chipfire_pile_measure).
-    Measures measure(Numbers at, Numbers amounts, bool timed = false)
+    /// Drops that are measured: what they fire, and if it is asked for, for how many rounds. It stops after the first that
+    /// loses a chip, if that is asked for, or that fires vertices with such marks as chipfire_pile_measure says.
+    Measures measure(Numbers at, Numbers amounts, bool timed = false, bool loses = false, Numbers marks = {})
     {
         Measures found(at.size());
         found.durations.resize(timed ? at.size() : 0);
@@ -374,8 +375,10 @@ public:
         if (amounts.size() != at.size()) throw Error(CHIPFIRE_FAULT_LENGTHS, 0);
         std::size_t made = 0;
         do {
-            made = measure_more(at, amounts, made, found);
-        } while (made < at.size());
+            made = measure_more(at, amounts, loses, marks, made, found);
+        } while (made < at.size() && !ends_run(found, made - 1, loses, marks));
+        for (auto rows : {&found.sizes, &found.extents, &found.losts, &found.ends}) rows->resize(made);
+        found.durations.resize(timed ? made : 0);
         return found;
     }
 
@@ -399,8 +402,20 @@ public:
     std::uint64_t size() { return chipfire_pile_size(its()); }
 
 private:
-    /// Makes the drops from number `made` on that there is room for: how many are made then.
-    std::size_t measure_more(Numbers at, Numbers amounts, std::size_t made, Measures &found)
+    /// Whether a drop that was made is one after which chipfire_pile_measure stops.
+    static bool ends_run(const Measures &found, std::size_t drop, bool loses, Numbers marks)
+    {
+        if (loses && found.losts[drop] > 0) return true;
+        if (marks.size() == 0) return false;
+        std::uint64_t bits = 0;
+        for (std::uint64_t it = drop == 0 ? 0 : found.ends[drop - 1]; it < found.ends[drop]; it++) {
+            bits |= marks.data()[found.vertices[static_cast<std::size_t>(it)]];
+        }
+        return (bits & 1) == 1 || (bits & 6) == 6 || (bits & 24) == 24;
+    }
+
+    /// Makes the drops from number `made` on that there is room for, up to one that ends the run: how many are made then.
+    std::size_t measure_more(Numbers at, Numbers amounts, bool loses, Numbers marks, std::size_t made, Measures &found)
     {
         const std::size_t before = found.vertices.size(), room = before + std::max(vertices_, before);
         const std::size_t left = at.size() - made, timed = found.durations.empty() ? 0 : left;
@@ -408,8 +423,8 @@ private:
         found.times.resize(room);
         std::uint64_t place = 0;
         const std::uint64_t fault = chipfire_pile_measure(
-            its(), at.data() + made, left, amounts.data() + made, left, found.sizes.data() + made, left,
-            found.extents.data() + made, left, found.losts.data() + made, left,
+            its(), at.data() + made, left, amounts.data() + made, left, loses, marks.data(), marks.size(),
+            found.sizes.data() + made, left, found.extents.data() + made, left, found.losts.data() + made, left,
             found.durations.data() + (timed == 0 ? 0 : made), timed, found.ends.data() + made, left,
             found.vertices.data() + before, room - before, found.times.data() + before, room - before, &place);
         if (fault != CHIPFIRE_FAULT_STOPPED) detail::must(fault, place);

@@ -239,26 +239,43 @@ class Chains(unittest.TestCase):
 
     @unittest.skipUnless(has("numpy"), "NumPy is not here")
     def test_a_chain_stops_after_the_first_drop_that_dissipates_a_chip_or_spans(self):
-        def spans(fired):
-            places = [divmod(vertex, 4) for vertex, count in enumerate(fired[:12]) if count]
+        def spans(width, height, fired):
+            places = [divmod(vertex, width) for vertex, count in enumerate(fired[:-1]) if count]
             rows, columns = ({*it} for it in zip(*places)) if places else ({}, {})
-            return {0, 2} <= {*rows} or {0, 3} <= {*columns}
+            return {0, height - 1} <= {*rows} or {0, width - 1} <= {*columns}
 
+        for width, height in [(4, 3), (1, 4), (5, 2), (3, 3)]:
+            grid, sink = chipfire.grid(width, height), width * height
+            for until in ("loss", "spans"):
+                found = chipfire.chains(grid, 6, 60, 4, chips=0, until=until, fired=until == "spans", workers=2)
+                for chain, seed in enumerate(found.seeds):
+                    left, made = [0] * (sink + 1), 0
+                    for vertex in chipfire.random_drops(grid, 60, seed):
+                        left[vertex] += 1
+                        report, made = slow_report(grid, left), made + 1
+                        lost, left = report.chips[sink] - left[sink], list(report.chips)
+                        if lost if until == "loss" else spans(width, height, report.fired):
+                            break
+                    self.assertEqual((found.made[chain], found.chips[chain].tolist()), (made, left))
+                    self.assertEqual(found.size[chain, made:].sum(), 0)
+                    self.assertEqual((found.size[chain, made - 1], found.lost[chain, made - 1]), (sum(report.fired), lost))
+                self.assertTrue(1 < min(found.made) and max(found.made) < 60)
+
+    @unittest.skipUnless(has("numpy"), "NumPy is not here")
+    def test_a_chain_stops_where_it_does_however_many_calls_play_it(self):
+        """With little room for what fires, calls stop before the chain does."""
         grid = chipfire.grid(4, 3)
-        for until, is_last in [("loss", lambda lost, fired: lost > 0), ("spans", lambda lost, fired: spans(fired))]:
-            found = chipfire.chains(grid, 6, 60, 4, chips=0, until=until, fired=until == "spans", workers=2)
-            for chain, seed in enumerate(found.seeds):
-                left, made = [0] * 13, 0
-                for vertex in chipfire.random_drops(grid, 60, seed):
-                    left[vertex] += 1
-                    report, made = slow_report(grid, left), made + 1
-                    lost, left = report.chips[12] - left[12], list(report.chips)
-                    if is_last(lost, report.fired):
-                        break
-                self.assertEqual((found.made[chain], found.chips[chain].tolist()), (made, left))
-                self.assertEqual(found.size[chain, made:].sum(), 0)
-                self.assertEqual((found.size[chain, made - 1], found.lost[chain, made - 1]), (sum(report.fired), lost))
-            self.assertTrue(1 < min(found.made) and max(found.made) < 60)
+        for until in ("loss", "spans", None):
+            more = {"chips": 1, "until": until}
+            one = chipfire.chains(grid, 5, 80, 2, fired=True, **more)
+            with mock.patch("chipfire.ensembles.firings._ROOM", 1):
+                others = [chipfire.chains(grid, 5, 80, 2, **more, **some)
+                          for some in ({"fired": True}, {"durations": True}, {"fired": True, "durations": True}, {})]
+            for other in others:
+                for name in ("size", "extent", "lost", "made", "chips"):
+                    self.assertEqual(getattr(one, name).tolist(), getattr(other, name).tolist())
+                if other.fired:
+                    self.assertEqual(*([it.tolist() for it in found.fired] for found in (one, other)))
 
     @unittest.skipUnless(has("numpy"), "NumPy is not here")
     def test_the_mean_size_from_a_recurrent_start_is_that_of_dhar(self):

@@ -9,7 +9,7 @@ import time
 import weakref
 from array import array
 from collections.abc import Sequence
-from typing import Any, TYPE_CHECKING
+from typing import Any, NamedTuple, TYPE_CHECKING
 
 from chipfire.backend import library
 from chipfire.backend.process import refused
@@ -25,6 +25,19 @@ _MOST_BYTES = 2**26
 
 _NO_NUMBERS = array("Q")
 _NO_ROOM = (_NO_NUMBERS, _NO_NUMBERS, _NO_NUMBERS)
+
+
+class Until(NamedTuple):
+    """With which drop a run ends: the first that loses a chip, if `loses` is true; that fires a vertex with bit 1 in its mark;
+    or that fires one with bit 2 and one with bit 4, or one with bit 8 and one with bit 16. There is a mark for each vertex,
+    or there are none."""
+
+    loses: bool = False
+    marks: Any = _NO_NUMBERS
+
+
+#: No drop ends the run.
+NEVER = Until()
 
 #: About how many seconds a portion of a play takes; how many visits the first one makes, and each at most.
 _PORTION, _FIRST_VISITS, _MOST_VISITS = 0.1, 2**22, 2**40
@@ -113,16 +126,24 @@ class KeptPile:
         return int(number), self._told[3]
 
     def measure(
-        self, at: Any, amounts: Any, columns: Sequence[Any], room: Sequence[Any] = _NO_ROOM
+        self,
+        at: Any,
+        amounts: Any,
+        columns: Sequence[Any],
+        room: Sequence[Any] = _NO_ROOM,
+        until: Until = NEVER,
     ) -> tuple[int, int]:
         """Many drops, whose numbers go into the columns: size, extent and loss, and a duration if there is a fourth. What
         they fire goes into the room, if there is some: the ends of each drop, and vertices and counts. How many were made
-        is fewer where the limit has stopped one, or there is no more room for all vertices."""
+        is fewer where the limit has stopped one, there is no more room for all vertices, or a drop ends the run.
+        """
         *three, duration = columns if len(columns) > 3 else (*columns, _NO_NUMBERS)
-        slices = (at, amounts, *three, duration, *room)
-        words = [word for it in slices for word in library.slice_of("drops", it)]
-        number = self._found.chipfire_pile_measure(self._at, *words, self._words[3])
-        return int(number), self._told[3]
+        drops, written = (
+            [word for it in slices for word in library.slice_of("drops", it)]
+            for slices in ((at, amounts), (until.marks, *three, duration, *room))
+        )
+        words = (*drops, until.loses, *written, self._words[3])
+        return int(self._found.chipfire_pile_measure(self._at, *words)), self._told[3]
 
     def chips(self) -> array[int]:
         """The chips of each vertex."""

@@ -225,7 +225,7 @@ def _declare_piles(found: ctypes.CDLL) -> None:
         (found.chipfire_pile_play, (_NUMBER, number_at)),
         (found.chipfire_pile_drop, (_NUMBER, _NUMBER, number_at, number_at, number_at)),
         (found.chipfire_pile_drops, (*5 * _SLICE, number_at)),
-        (found.chipfire_pile_measure, (*9 * _SLICE, number_at)),
+        (found.chipfire_pile_measure, (*2 * _SLICE, _NUMBER, *8 * _SLICE, number_at)),
         (found.chipfire_pile_chips, _SLICE),
         (found.chipfire_pile_fired, _SLICE),
         (found.chipfire_pile_size, ()),

@@ -322,8 +322,8 @@ def chains(
 
     Notes
     -----
-    Proved: sizes, areas, dissipated chips, durations and counts of the drops. Not proved: that vertices are evenly
-    drawn, and which drop ends a chain.
+    Proved: sizes, areas, dissipated chips, durations and counts of the drops, and with which drop a chain ends. Not
+    proved: that vertices are evenly drawn, and which of them are at borders.
 
     Examples
     --------

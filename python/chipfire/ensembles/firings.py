@@ -110,7 +110,12 @@ class Room:
         self._pieces: list[tuple[Any, Any]] = []
 
     def drops(
-        self, pile: kept.KeptPile, at: Any, amounts: Any, columns: Sequence[Any]
+        self,
+        pile: kept.KeptPile,
+        at: Any,
+        amounts: Any,
+        columns: Sequence[Any],
+        until: kept.Until = kept.NEVER,
     ) -> tuple[int, int]:
         """Drops as `KeptPile.measure` makes them, in as many calls as there is room for."""
         numpy = import_optional("numpy")
@@ -118,13 +123,14 @@ class Room:
         while True:
             ends = numpy.zeros(len(at) - made, "u8")
             where, many, *rest = (it[made:] for it in (at, amounts, *columns))
-            number, place = pile.measure(where, many, rest, (ends, self._vertices, self._times))
+            room = (ends, self._vertices, self._times)
+            number, place = pile.measure(where, many, rest, room, until)
             if number not in (0, kept.STOPPED):
                 return number, made + place
             if place:
                 self._take(int(ends[place - 1]))
             made += place
-            if number or made == len(at):
+            if number or made == len(at) or ends_run(until, columns, made, self._pieces[-1][0]):
                 return number, made
 
     def _take(self, written: int) -> None:
@@ -141,16 +147,34 @@ class Room:
 
 
 def fall(
-    pile: kept.KeptPile, room: Room | None, at: Any, amounts: Any, columns: Sequence[Any]
+    pile: kept.KeptPile,
+    room: Room | None,
+    at: Any,
+    amounts: Any,
+    columns: Sequence[Any],
+    until: kept.Until = kept.NEVER,
 ) -> tuple[int, int]:
     """Drops on a pile, whose numbers go into the columns, the durations too if there is a fourth, and what they fire into the
     room, if there is one: the number of a fault, or 0, and how many were made, or the place of the fault.
     """
     if room:
-        return room.drops(pile, at, amounts, columns)
-    if len(columns) == 3:
-        return pile.drops(at, amounts, [*columns])
-    return pile.measure(at, amounts, columns)
+        return room.drops(pile, at, amounts, columns, until)
+    return pile.measure(at, amounts, columns, until=until)
+
+
+def ends_run(until: kept.Until, columns: Sequence[Any], made: int, vertices: Any) -> bool:
+    """Whether a run ends with the last of the drops that were made: of all columns, and of the vertices that the last ones
+    fired. It takes vertices only if there are marks."""
+    if not made:
+        return False
+    if until.loses and columns[2][made - 1]:
+        return True
+    if not len(until.marks):
+        return False
+    numpy = import_optional("numpy")
+    extent = int(columns[1][made - 1])
+    fired = int(numpy.bitwise_or.reduce(until.marks[vertices[len(vertices) - extent :]]))
+    return any(fired & bits == bits for bits in (1, 2 | 4, 8 | 16))
 
 
 def numbers_of(lengths: Any, first: int = 0) -> Any:

@@ -9,14 +9,14 @@ import random
 import threading
 from array import array
 from collections import Counter
-from collections.abc import Callable, Mapping, Sequence
+from collections.abc import Mapping, Sequence
 from dataclasses import dataclass, field, replace
 from typing import Any, Union
 
 from chipfire.backend import kept, library
 from chipfire.backend.process import refused
 from chipfire.ensembles.drops import COLUMNS, in_calls, names_of, PART
-from chipfire.ensembles.firings import fall, numbers_of, Room
+from chipfire.ensembles.firings import ends_run, fall, numbers_of, Room
 from chipfire.ensembles.wilson import recurrent_rows
 from chipfire.graphs.graph import Graph
 from chipfire.utils import import_optional, MAX_LIMIT
@@ -299,7 +299,7 @@ class _Player:
         self.twister: Any = None
         is_asked = plan.fired or plan.until == "spans"
         self.room = Room(self.graph.vertices) if is_asked else None
-        self.ends = _ends(self.graph, plan.until)
+        self.until = _until(self.graph, plan.until)
         #: The number of the next drop among those of all chains, and whether the chain has ended.
         self.next = 0
         self.is_over = False
@@ -371,27 +371,18 @@ class _Player:
             return not self.is_over
 
         at = self._drawn(len(amounts))
-        first = 1 if self.plan.until else self.watch.drops_of_call
-        of_call = in_calls(call, at, amounts, rows, first)
+        of_call = in_calls(call, at, amounts, rows, self.watch.drops_of_call)
         self.watch.drops_of_call = of_call or self.watch.drops_of_call
         return made
 
     def _call(self, pile: kept.KeptPile, at: Any, amounts: Any, columns: list[Any]) -> int:
-        """Makes drops up to the one with which the chain ends; how many. If more were made, they are taken back."""
-        before = pile.chips() if self.plan.until else None
-        number, told = fall(pile, self.room, at, amounts, columns)
+        """Makes drops up to the one with which the chain ends; how many."""
+        number, made = fall(pile, self.room, at, amounts, columns, self.until)
         if number:
-            raise refused(number, told, self.graph)
-        fired = self.room.taken() if self.room else ()
-        last = self.ends(columns, fired)
-        made = len(at) if last is None else last + 1
-        self.is_over = last is not None
+            raise refused(number, made, self.graph)
+        fired = self.room.taken() if self.room else ((),)
+        self.is_over = ends_run(self.until, columns, made, fired[0])
         self._note(columns, fired, made)
-        if before is not None and made < len(at):
-            self._put(pile, before)
-            pile.drops(at[:made], amounts[:made], [column[:made] for column in columns[:3]])
-            for column in columns:
-                _copy(column[made:], array("Q", bytes(8 * (len(at) - made))))
         return made
 
     def _note(self, columns: list[Any], fired: Any, made: int) -> None:
@@ -415,41 +406,26 @@ def stabilize(graph: Graph, chips: Any, fired: Any, stopped: Any) -> None:
         raise ValueError("a vertex fired 2^40 times, and the chips are not stable then")
 
 
-def _ends(graph: Graph, until: str | None) -> Callable[[list[Any], Any], int | None]:
-    """What tells of the columns of drops, and of what they fired, with which of them the chain ends."""
+def _until(graph: Graph, until: str | None) -> kept.Until:
+    """With which drop a chain ends, as the library is told."""
     if until is None:
-        return lambda columns, fired: None
+        return kept.NEVER
     if until == "loss":
-        return lambda columns, fired: _first(_numbers(columns[2]) > 0)
-    spans = spanning(graph)
-    return lambda columns, fired: _first(spans(_numbers(columns[1]), fired[0]))
+        return kept.Until(loses=True)
+    return kept.Until(marks=spanning(graph))
 
 
-def _first(test: Any) -> int | None:
-    """The place of the first that is true."""
-    places = test.nonzero()[0]
-    return int(places[0]) if len(places) else None
-
-
-def spanning(graph: Graph) -> Callable[[Any, Any], Any]:
-    """What tells of each drop whether the vertices that fired touch two opposite borders of the grid: of drops that fired
-    so many, and these vertices."""
+def spanning(graph: Graph) -> Any:
+    """Marks with which a run ends when a drop fires vertices at two opposite borders of the grid (`kept.Until`)."""
     if graph.shape is None:
         raise ValueError("the graph is no grid, so nothing spans it")
     numpy = import_optional("numpy")
     height, width = graph.shape
     places = [divmod(square, width) for square in graph.squares]
-    is_there = numpy.zeros((4, graph.vertices))
-    for row, (way, end) in zip(is_there, _ends_of(height, width)):
-        row[_border(places, graph.sink, way, end)] = 1
-
-    def by(lengths: Any, vertices: Any) -> Any:
-        drop = numbers_of(lengths)
-        touched = [numpy.bincount(drop, row[vertices], len(lengths)) > 0 for row in is_there]
-        top, bottom, left, right = touched
-        return top & bottom | left & right
-
-    return by
+    marks = numpy.zeros(graph.vertices, "u8")
+    for bit, (way, end) in zip((2, 4, 8, 16), _ends_of(height, width)):
+        marks[_border(places, graph.sink, way, end)] |= numpy.uint64(bit)
+    return marks
 
 
 def _ends_of(height: int, width: int) -> list[tuple[int, int]]:

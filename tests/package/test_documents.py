@@ -96,7 +96,7 @@ class Manual(made.Test):
     def test_that_of_the_library_lists_arguments_and_has_nothing_for_the_compiler(self):
         page = self.page(section=3)
         self.assertRegex(page, r"\n {7}guesses\s+none; or as many as chips: ")
-        self.assertRegex(page, r"\n +uint64_t owed; +/\* how many messages ")
+        self.assertRegex(page, r"\n +uint64_t owed; +/\* the number of messages ")
         self.assertNotIn("#endif", page)
 
     def test_that_of_files_has_each_part_and_fault(self):

@@ -226,11 +226,11 @@ class OneVersion(made.Test):
         self.assertRegex(changes, rf"(?s)\A(# chipfire [\d.]+ \(not yet released\)\n.*?\n)?# chipfire {name}, ")
 
     def test_it_stands_in_one_place(self):
-        """Only the source of the program, the changes, the tests of what it prints and a release have it."""
+        """Only the source of the program, the changes, the citation, the tests of what it prints and a release have it."""
         version = re.compile(rb"(?<![\w.])%b(?![\w.])" % re.escape(made.version().encode()))
         files = [it for it in made.repository_files() if not it.startswith("release/")]
         having = {name for name in files if version.search(made.read(f"{made.ROOT}/{name}"))}
-        places = {"crates/chip_arguments/src/help_texts.rt", "CHANGELOG.md", "tests/cli/cases/explain.cases"}
+        places = {"crates/chip_arguments/src/help_texts.rt", "CHANGELOG.md", "CITATION.cff", "tests/cli/cases/explain.cases"}
         self.assertEqual(having, places)
 
 

@@ -18,8 +18,8 @@ class Stopped(Exception):
 
 
 class Portions:
-    """So many parts of some work, of which a few at a time make a portion, from a small one on: the next one has more if
-    it is short, and fewer if it takes a tenth of a second. Threads may share them: each takes a portion after the other.
+    """Parts of some work, a few of which make a portion. The first portion is small. The next one has more parts if a
+    portion is short, and fewer if it takes a tenth of a second. Threads may share them, and take one after another.
     """
 
     def __init__(self, count: int, size: int = 1) -> None:
@@ -67,8 +67,9 @@ class Portions:
 
 
 def apart(work: Callable[[], T]) -> T:
-    """What work is that is no work in portions: a thread does it, so an interrupt is seen at once. Then it goes on to its end,
-    and nobody gets what it finds; it should write to nothing that others have."""
+    """Returns the result of work that is not made in portions. A thread does it, so that an interrupt
+    is seen at once. The work then goes on to its end, and its result is dropped: it must write to
+    nothing that others have."""
     found: list[T] = []
     errors: list[BaseException] = []
 

@@ -29,7 +29,8 @@
  *
  * The first fault is the first of these: 12; 1, 2, 3; of the first edge with a fault 4, 5, 6, 7; 8; of the first game
  * with a fault 9, 10, 11; of the game on which drops fall 13; of the first drop with a fault 26, 10, 13; 53. 90 is
- * returned only if none of 12, 1, 2 and 3 is: finding these allocates nothing.
+ * returned only if none of 12, 1, 2 and 3 is: finding these allocates nothing. On a pile 14 comes first, and 13 after
+ * 26 and 10 of all drops: these are checked before the first one falls.
  *
  * The caller must ensure this, which no call can check:
  *
@@ -49,7 +50,7 @@ extern "C" {
 #endif
 
 /* The version of this header, and that of the library: 1000000 * major + 1000 * minor + patch. */
-#define CHIPFIRE_VERSION UINT64_C(10000)
+#define CHIPFIRE_VERSION UINT64_C(11000)
 uint64_t chipfire_version(void);
 
 /* What calls return: success, or a fault by its name in `chipfire explain`. */
@@ -314,8 +315,12 @@ uint64_t chipfire_pile_drops(struct chipfire_pile *pile,
                              uint64_t *losts, size_t losts_len,
                              uint64_t *place);
 
-/* Makes drops as chipfire_pile_drops does, and measures more of each in four arrays, of length 0 if not asked for.
+/* Makes drops as chipfire_pile_drops does, measures more of each in four arrays, and may stop after one of them. An
+ * array that is not asked for has length 0.
  *
+ * loses      not 0: stops after the first drop that loses a chip
+ * marks      one number per vertex, or none: stops after the first drop that fires a vertex with bit 1 in its mark; or
+ *            one with bit 2 and one with bit 4; or one with bit 8 and one with bit 16. Other bits mean nothing
  * durations  one number per drop, or none: gets its number of rounds, in each of which each legal vertex fires once; 0
  *            if nothing fires
  * ends       one number per drop, or none: gets where the vertices that it fires end in the next array. Those of the
@@ -326,14 +331,17 @@ uint64_t chipfire_pile_drops(struct chipfire_pile *pile,
  * With ends it stops before a drop if vertices has fewer numbers left than the graph has vertices. So a call makes at
  * least one drop if there were as many at first.
  *
- * On success *place is the number of drops made: all, or those before the first without room. The pile is as they left
- * it. Faults are those of chipfire_pile_drops. What belongs to no drop made is unchanged.
+ * On success *place is the number of drops made: all, those up to the first after which it stops, or those before the
+ * first without room. The pile is as they left it. Faults are those of chipfire_pile_drops. What belongs to no drop
+ * made is unchanged.
  *
  * Durations require a play in rounds, which fires a vertex with many chips again and again. Otherwise they change only
  * the order of vertices. */
 uint64_t chipfire_pile_measure(struct chipfire_pile *pile,
                                const uint64_t *at, size_t at_len,
                                const uint64_t *amounts, size_t amounts_len,
+                               uint64_t loses,
+                               const uint64_t *marks, size_t marks_len,
                                uint64_t *sizes, size_t sizes_len,
                                uint64_t *extents, size_t extents_len,
                                uint64_t *losts, size_t losts_len,

@@ -364,17 +364,21 @@ public:
         return set_off;
     }
 
-    /// Drops chips as `drops` does, and returns what they fire, and their durations if asked for (chipfire_pile_measure).
-    Measures measure(Numbers at, Numbers amounts, bool timed = false)
+    /// Drops chips as `drops` does, and returns what they fire, and their durations if asked for. Stops after the first
+    /// that loses a chip, if `loses`, or that fires vertices with such marks as chipfire_pile_measure says.
+    Measures measure(Numbers at, Numbers amounts, bool timed = false, bool loses = false, Numbers marks = {})
     {
+        its();
         Measures found(at.size());
         found.durations.resize(timed ? at.size() : 0);
         found.ends.resize(at.size());
         if (amounts.size() != at.size()) throw Error(CHIPFIRE_FAULT_LENGTHS, 0);
         std::size_t made = 0;
         do {
-            made = measure_more(at, amounts, made, found);
-        } while (made < at.size());
+            made = measure_more(at, amounts, loses, marks, made, found);
+        } while (made < at.size() && !ends_run(found, made - 1, loses, marks));
+        for (auto rows : {&found.sizes, &found.extents, &found.losts, &found.ends}) rows->resize(made);
+        found.durations.resize(timed ? made : 0);
         return found;
     }
 
@@ -398,8 +402,21 @@ public:
     std::uint64_t size() { return chipfire_pile_size(its()); }
 
 private:
-    /// Makes the drops from number `made` on that there is room for: how many are made then.
-    std::size_t measure_more(Numbers at, Numbers amounts, std::size_t made, Measures &found)
+    /// Whether chipfire_pile_measure stops after this drop.
+    static bool ends_run(const Measures &found, std::size_t drop, bool loses, Numbers marks)
+    {
+        if (loses && found.losts[drop] > 0) return true;
+        if (marks.size() == 0) return false;
+        std::uint64_t bits = 0;
+        for (std::uint64_t it = drop == 0 ? 0 : found.ends[drop - 1]; it < found.ends[drop]; it++) {
+            bits |= marks.data()[found.vertices[static_cast<std::size_t>(it)]];
+        }
+        return (bits & 1) == 1 || (bits & 6) == 6 || (bits & 24) == 24;
+    }
+
+    /// Makes the drops from number `made` on that there is room for, up to one after which it stops. Returns the number of
+    /// drops made.
+    std::size_t measure_more(Numbers at, Numbers amounts, bool loses, Numbers marks, std::size_t made, Measures &found)
     {
         const std::size_t before = found.vertices.size(), room = before + std::max(vertices_, before);
         const std::size_t left = at.size() - made, timed = found.durations.empty() ? 0 : left;
@@ -407,8 +424,8 @@ private:
         found.times.resize(room);
         std::uint64_t place = 0;
         const std::uint64_t fault = chipfire_pile_measure(
-            its(), at.data() + made, left, amounts.data() + made, left, found.sizes.data() + made, left,
-            found.extents.data() + made, left, found.losts.data() + made, left,
+            its(), at.data() + made, left, amounts.data() + made, left, loses, marks.data(), marks.size(),
+            found.sizes.data() + made, left, found.extents.data() + made, left, found.losts.data() + made, left,
             found.durations.data() + (timed == 0 ? 0 : made), timed, found.ends.data() + made, left,
             found.vertices.data() + before, room - before, found.times.data() + before, room - before, &place);
         if (fault != CHIPFIRE_FAULT_STOPPED) detail::must(fault, place);

@@ -14,7 +14,7 @@ use Rattle.chip_sequence.specs.Firing.{IsStable}
 use Rattle.chip_sequence.specs.Play.{IsPlayed}
 use Rattle.chip_sequence.specs.Sequence.{position_after, IsFiringSequence, HasEnded}
 use Rattle.chip_sequence.specs.declared.outcome.Outcome.{Outcome}
-use Rattle.chip_sequence.proofs.SittingLemmas.{played_is_sitting}
+use Rattle.chip_sequence.proofs.StageLemmas.{played_is_stage}
 use Rattle.chip_fire.specs.declared.avalanche.Avalanche.{Avalanche}
 use Rattle.chip_fire.specs.Avalanches.{dropped, IsAvalanche, AreAvalanches}
 use Rattle.chip_fire.proofs.DropLemmas.{drops_add_up}
@@ -227,7 +227,7 @@ module _ (g : ChipGame) (ds : List (ℕ × ℕ)) (rows : List ℕ) (asked report
         sums last p played are stable here v =
             let (vs, whole, ended_there) = rests_there is.last is.outcome is.played here in
             let a = drops_add_up g.graph is.game.graph_fits (slice_index g.start) (slice_index p.fired.items)
-            (slice_index p.chips.items) (played_is_sitting g p played) stable told (slice_index chips) are
+            (slice_index p.chips.items) (played_is_stage g p played) stable told (slice_index chips) are
             (slice_index is.last.start) (started last) vs
             (subst (λ (G : Multigraph). IsFiringSequence G (slice_index is.last.start) vs) last.same_graph whole.sequence)
             (subst (λ (G : Multigraph). HasEnded G (slice_index is.last.start) vs) last.same_graph ended_there) in

@@ -2,4 +2,4 @@ pub mod CommandLemmas
 pub mod InputLemmas
 pub mod OneReportLemmas
 pub mod RoundTripLemmas
-pub mod SittingLemmas
+pub mod StageLemmas

@@ -8,4 +8,4 @@ pub mod OneReport
 pub mod Reports
 pub mod Statuses
 pub mod Worked
-pub mod Sitting
+pub mod Stage

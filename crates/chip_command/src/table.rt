@@ -205,7 +205,7 @@ graph: the graph comes first.
 static SHAPE: Explanation = row!(21 Shape NOWHERE: "the JSON is no graph", "\
 A graph file is one object with exactly these four members, in any order:
     {\"edges\":[[0,1,1]],\"sink\":1,\"version\":1,\"vertices\":2}
-Four mistakes are common. A member is missing or misspelt. There is a fifth one. A row of
+Four mistakes are common. A member is missing or misspelt. There is a fifth member. A row of
 \"edges\" has not three values. A value is no whole number as JSON writes one: it has a sign,
 a point, an exponent or quotes (-1, 1.0, 1e3, \"2\").
 ");

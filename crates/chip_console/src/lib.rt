@@ -5,10 +5,11 @@
 #![tactic(auto)]
 
 pub use console::{Console, Opened, Opener, Reader};
-pub use terminal::{say_no_text, say_unexpected, tell_more};
+pub use program::respond;
 
 mod commands;
 mod console;
+mod program;
 mod progress;
 mod terminal;
 mod threads;

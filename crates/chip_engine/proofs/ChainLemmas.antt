@@ -1,4 +1,4 @@
--- Serves Sittings.antt.
+-- Serves Stages.antt.
 -- Plays that go on, from text to text.
 use Rattle.std.proofs.Common.{◌≡◌, ℕ, ◌+◌, List, [], ◌∷◌, codes, slice_index, true}
 use Rattle.std.proofs.Common.{refl, sym, ◌∙◌, subst, inl, inr}
@@ -8,20 +8,20 @@ use Rattle.chip_graph.specs.Limits.{SizeLimits}
 use Rattle.chip_graph.specs.Multigraph.{Multigraph}
 use Rattle.chip_file.specs.GraphText.{MeansGraph}
 use Rattle.chip_sequence.specs.Firing.{IsLegal}
-use Rattle.chip_sequence.specs.Sittings.{IsResumed, LeadsTo}
+use Rattle.chip_sequence.specs.Stages.{IsResumed, LeadsTo}
 use Rattle.chip_sequence.specs.declared.resumed.Resumed.{Resumed}
 use Rattle.chip_report.specs.ReportText.{is_empty, report_text}
-use Rattle.chip_report.specs.ReportTwo.{SittingContent, sitting_content, report_two_text, IsAnyReportOf}
-use Rattle.chip_report.proofs.ReportTwoLemmas.{one_sitting, not_both}
+use Rattle.chip_report.specs.ReportTwo.{StageContent, stage_content, report_two_text, IsAnyReportOf}
+use Rattle.chip_report.proofs.ReportTwoLemmas.{one_stage, not_both}
 use Rattle.chip_command.specs.Inputs.{ReadsWithin}
 use Rattle.chip_engine.specs.ResumeCommand.{LeadsToTheEnd, ReportsOn}
-use Rattle.chip_command.specs.Sitting.{TellsPlayFrom}
-use Rattle.chip_command.proofs.SittingLemmas.{first_tells, report_tells}
+use Rattle.chip_command.specs.Stage.{TellsPlayFrom}
+use Rattle.chip_command.proofs.StageLemmas.{first_tells, report_tells}
 use Rattle.chip_command.proofs.OneReportLemmas.{plain_reports}
-use Rattle.chip_engine.specs.Sittings.{IsResumedTo, AreResumed}
+use Rattle.chip_engine.specs.Stages.{IsResumedTo, AreResumed}
 use Rattle.chip_core.specs.Positions.{chips_given}
-use Rattle.chip_engine.specs.Sittings.{PlainTellsPlay, SimulateTellsPlay, ResumedPlaysAddUp}
-use Rattle.chip_engine.proofs.SittingLemmas.{none_legal, leads_on}
+use Rattle.chip_engine.specs.Stages.{PlainTellsPlay, SimulateTellsPlay, ResumedPlaysAddUp}
+use Rattle.chip_engine.proofs.StageLemmas.{none_legal, leads_on}
 
 -- ---- a first stage
 
@@ -46,20 +46,20 @@ simulate_tells_play g log end report status ends is =
 -- ---- later stages
 
 -- the counts of a stage lead from x to its chips
-abbrev LeadsInAll : Multigraph → (ℕ → ℕ) → SittingContent → Type 0
+abbrev LeadsInAll : Multigraph → (ℕ → ℕ) → StageContent → Type 0
 LeadsInAll G x t = LeadsTo G x (λ v. slice_index t.prior v + slice_index t.last.fired v) (slice_index t.last.chips)
 
 -- if it closed, it left no vertex legal
-abbrev LeavesNone : Multigraph → SittingContent → Type 0
+abbrev LeavesNone : Multigraph → StageContent → Type 0
 LeavesNone G t = (is_empty t.last.over && is_empty t.last.sealed) ≡ true
     → (v : ℕ) → IsLegal G (slice_index t.last.chips) v → ⊥
 
 -- any two stages that are read from one report agree
 read_again : (report : List ℕ) (s : Resumed) → IsResumed s → report ≡ report_two_text s
-    → (r : Resumed) → IsAnyReportOf report r → sitting_content s ≡ sitting_content r
+    → (r : Resumed) → IsAnyReportOf report r → stage_content s ≡ stage_content r
 read_again report s fits spelled r (inl first) =
     absurd (not_both report r.outcome s first.0 (record { reportable = fits; spelled = spelled }))
-read_again report s fits spelled r (inr two) = one_sitting s r fits two.reportable (sym spelled ∙ two.spelled)
+read_again report s fits spelled r (inr two) = one_stage s r fits two.reportable (sym spelled ∙ two.spelled)
 
 module _ (limits : SizeLimits) (graph_text : List ℕ) (G : Multigraph)
     (reads : ReadsWithin limits graph_text (MeansGraph limits graph_text G)) (x : ℕ → ℕ) where

@@ -12,7 +12,7 @@ use Rattle.chip_file.proofs.VertexRowLemmas.{names_vertex}
 use Rattle.chip_sequence.specs.Play.{IsPlayed}
 use Rattle.chip_sequence.specs.declared.outcome.Outcome.{Outcome}
 use Rattle.chip_sequence.proofs.CertificateLemmas.{end_of_the_way}
-use Rattle.chip_engine.proofs.SittingLemmas.{none_legal}
+use Rattle.chip_engine.proofs.StageLemmas.{none_legal}
 use Rattle.chip_fire.specs.declared.pile.Pile.{Pile}
 use Rattle.chip_fire.specs.Pile.{IsPile}
 use Rattle.chip_sequence.specs.Firing.{IsStable}

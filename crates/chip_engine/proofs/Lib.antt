@@ -1,5 +1,5 @@
 mod ChainLemmas
-pub mod SittingLemmas
+pub mod StageLemmas
 mod GuessLemmas
 mod VerifyLemmas
 mod DropLemmas

@@ -5,7 +5,7 @@ use Rattle.std.specs.Global.{Vec}
 use Rattle.std.specs.Option.{ForSome}
 use Rattle.chip_graph.specs.Limits.{SizeLimits}
 use Rattle.chip_file.specs.GuessText.{guess_of_text, guess_text_fault}
-use Rattle.chip_sequence.specs.Sittings.{fired_in_all}
+use Rattle.chip_sequence.specs.Stages.{fired_in_all}
 use Rattle.chip_sequence.specs.declared.resumed.Resumed.{Resumed}
 use Rattle.chip_sequence.specs.declared.resumed.ResumeFault.TheVariants.{Mismatch}
 use Rattle.chip_report.specs.ReportTwo.{IsAnyReportWithin, IsNoReportAtAllWithin}

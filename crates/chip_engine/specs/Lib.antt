@@ -6,7 +6,7 @@ pub mod GuessCommand
 pub mod DropRows
 pub mod AvalanchesCommand
 pub mod RecurrentCommand
-pub mod Sittings
+pub mod Stages
 pub mod Worked
 pub mod SimulatedBytes
 pub mod Board

@@ -4,7 +4,7 @@ use Rattle.std.specs.Option.{ForSome}
 use Rattle.chip_graph.specs.Limits.{SizeLimits}
 use Rattle.chip_graph.specs.Multigraph.{Multigraph}
 use Rattle.chip_sequence.specs.Sequence.{position_after, IsFiringSequence, counts, HasEnded}
-use Rattle.chip_sequence.specs.Sittings.{IsPlayFrom, IsResumed, fired_in_all}
+use Rattle.chip_sequence.specs.Stages.{IsPlayFrom, IsResumed, fired_in_all}
 use Rattle.chip_sequence.specs.Resume.{GoesOn, IsResumeFault}
 use Rattle.chip_sequence.specs.declared.resumed.Resumed.{Resumed}
 use Rattle.chip_sequence.specs.declared.resumed.ResumeFault.{ResumeFault}
@@ -50,8 +50,8 @@ RefusesReport limits text fault =
     RefusesText limits text (λ f. ⊥) fault ⊎ (ReadsWithin limits text (IsNoReportAtAllWithin limits text) × (fault ≡ NotReport))
 
 -- what reading a report may give: the first stage of a play, or a later one
-abbrev pub reading_sitting : SizeLimits → Option (List ℕ) → Spec Resumed
-reading_sitting limits report = record {
+abbrev pub reading_stage : SizeLimits → Option (List ℕ) → Spec Resumed
+reading_stage limits report = record {
   gives = λ told. ForSome report (λ text. ReadsWithin limits text (IsAnyReportWithin limits text told)) × IsResumed told;
   refuses = λ fault. ForSome report (λ text. RefusesReport limits text fault);
 }
@@ -68,4 +68,4 @@ going_on G limit earlier = record {
 abbrev pub ResumeAnswers : SizeLimits → Option (List ℕ) → Option (List ℕ) → ℕ → Option (List ℕ) → Option (List ℕ)
     → Result Ended Fault → Type 0
 ResumeAnswers limits graph report limit old new result = CommandAnswers
-    (bind (reading_graph limits graph) (λ G. bind (reading_sitting limits report) (going_on G limit))) old new result
+    (bind (reading_graph limits graph) (λ G. bind (reading_stage limits report) (going_on G limit))) old new result

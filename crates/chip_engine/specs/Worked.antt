@@ -13,7 +13,7 @@ use Rattle.chip_part.specs.declared.reply.Reply.TheVariants.{Done, Sent, NotNow}
 use Rattle.chip_part.specs.declared.rule.Rule.TheVariants.{NotCleared}
 use Rattle.chip_part.specs.Steps.{message_of}
 use Rattle.chip_sequence.specs.Worked.{chips_on, on_each}
-use Rattle.chip_sequence.specs.Sittings.{fired_in_all}
+use Rattle.chip_sequence.specs.Stages.{fired_in_all}
 use Rattle.chip_sequence.specs.declared.resumed.Resumed.{Resumed}
 use Rattle.chip_sequence.specs.declared.resumed.ResumeFault.TheVariants.{Mismatch, Total, Limit, Prior}
 use Rattle.chip_report.specs.ReportTwo.{report_two_text}

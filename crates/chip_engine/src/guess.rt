@@ -1,7 +1,7 @@
 //! Guesses of the firing counts.
 
 ghost use Rattle.std.specs.Prelude.{◌≡◌, ℕ, ◌<◌, IfOk, MatchResult, length, slice_index};
-ghost use Rattle.chip_sequence.specs.Sittings.{IsResumed, fired_in_all};
+ghost use Rattle.chip_sequence.specs.Stages.{IsResumed, fired_in_all};
 ghost use Rattle.chip_command.specs.CommandAnswers.{MeetsSpec};
 ghost use Rattle.chip_engine.specs.GuessCommand.{RefusesTold, TellsCounts, has_brace, reading_guess};
 

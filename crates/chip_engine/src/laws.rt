@@ -2,13 +2,13 @@
 
 ghost use Rattle.chip_engine.specs.Worked.{TriangleGoesOn, TriangleLeaves, OneFeedIsSent, RefusalsAreNumbered, LoopIsExplained};
 ghost use Rattle.chip_engine.specs.SimulatedBytes.{SimulatedBytes};
-ghost use Rattle.chip_engine.specs.Sittings.{PlainTellsPlay, SimulateTellsPlay, ResumedPlaysAddUp};
+ghost use Rattle.chip_engine.specs.Stages.{PlainTellsPlay, SimulateTellsPlay, ResumedPlaysAddUp};
 ghost use Rattle.chip_engine.specs.JudgeLaws.{OneAnswer, SameTexts};
 
 use chip_log::laws::{one_absent, one_first, one_judgment, same_first, same_judgment};
 
 /// A stage that went on, and the refusals of `resume`, as the definitions compute them.
-pub fn worked_sitting()
+pub fn worked_stage()
     ensures triangle { TriangleGoesOn }
     ensures refusals { RefusalsAreNumbered }
 {}
@@ -30,7 +30,7 @@ pub fn worked_feeds()
 
 /// The reports of a play in several stages add up, however many there are and whatever stopped each: `plain` or
 /// `simulate` writes the first, and `resume` each later one, given the one before it.
-pub fn sittings()
+pub fn stages()
     ensures plain { PlainTellsPlay }
     ensures simulate { SimulateTellsPlay }
     ensures resume { ResumedPlaysAddUp }

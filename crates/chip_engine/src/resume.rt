@@ -1,9 +1,9 @@
 //! `resume`: a play goes on from where its report says that it stopped.
 
 ghost use Rattle.chip_graph.specs.Limits.{standard};
-ghost use Rattle.chip_sequence.specs.Sittings.{IsResumed};
+ghost use Rattle.chip_sequence.specs.Stages.{IsResumed};
 ghost use Rattle.chip_command.specs.CommandAnswers.{GivesAnswer, MeetsSpec};
-ghost use Rattle.chip_engine.specs.ResumeCommand.{ResumeAnswers, going_on, reading_sitting};
+ghost use Rattle.chip_engine.specs.ResumeCommand.{ResumeAnswers, going_on, reading_stage};
 
 use chip_command::{Answer, Ended, Fault, PlayOptions, deliver, status_of};
 use chip_file::{read_graph_within, read_whole_within};
@@ -52,18 +52,18 @@ pub fn resume_engine_with<G: Read, R: Read, P: Watch, W: Write>(
         (W.contents output.old) (W.contents output.new) result }
 {
     let graph = read_graph_within(alloc, options.limits, graph)?;
-    let earlier = read_sitting(alloc, options.limits, report)?;
+    let earlier = read_stage(alloc, options.limits, report)?;
     let answer = go_on(alloc, graph, &earlier, options.limit, watch)?;
     deliver(output, answer)
 }
 
 /// The stage of a report of either version, within the limits.
-pub(crate) fn read_sitting<R: Read>(
+pub(crate) fn read_stage<R: Read>(
     alloc: Global,
     limits: Limits,
     report: &mut R,
 ) -> Result<Resumed, Fault>
-    ensures { MeetsSpec (reading_sitting limits (R.remaining report.old)) result }
+    ensures { MeetsSpec (reading_stage limits (R.remaining report.old)) result }
 {
     let text = read_whole_within(alloc, limits, report)?;
     Ok(read_any_within(alloc, limits, &text)?)

@@ -4,12 +4,12 @@ ghost use Rattle.std.specs.Prelude.{◌≡◌, ◌↔◌, ℕ, ◌<◌, true, Co
 ghost use Rattle.std.specs.List.Sorted.{IsStrictlyIncreasing};
 ghost use Rattle.chip_graph.specs.Limits.{standard};
 ghost use Rattle.chip_sequence.specs.Outcomes.{IsOutcome};
-ghost use Rattle.chip_sequence.specs.Sittings.{IsResumed, fired_in_all};
+ghost use Rattle.chip_sequence.specs.Stages.{IsResumed, fired_in_all};
 ghost use Rattle.chip_command.specs.CommandAnswers.{GivesAnswer};
-ghost use Rattle.chip_engine.specs.VerifyCommand.{SittingAgreesAt, IsFirstDisagreement, VerifyAnswers, verifying};
+ghost use Rattle.chip_engine.specs.VerifyCommand.{StageAgreesAt, IsFirstDisagreement, VerifyAnswers, verifying};
 
 use crate::guess::counts_in_all;
-use crate::resume::read_sitting;
+use crate::resume::read_stage;
 use chip_command::{Answer, Ended, Fault, PlayOptions, deliver, read_game};
 use chip_fire::{Unwatched, Watch, plain_given};
 use chip_graph::Game;
@@ -58,7 +58,7 @@ pub fn verify_engine_with<G: Read, C: Read, R: Read, P: Watch, W: Write>(
 {
     let answer = {
         let game = read_game(alloc, options.limits, graph, chips, options.limit)?;
-        let told = read_sitting(alloc, options.limits, report)?;
+        let told = read_stage(alloc, options.limits, report)?;
         verify(alloc, &game, &told, watch)
     };
     deliver(output, answer?)
@@ -91,7 +91,7 @@ fn first_difference(told: &Resumed, outcome: &Outcome) -> Option<u64>
     requires in_range { IsResumed told.now }
     requires is_outcome { IsOutcome outcome.now }
     requires as_many { length told.now.outcome.fired.items ≡ length outcome.now.fired.items }
-    ensures { MatchOption result ((v : ℕ) → v < length outcome.now.fired.items → SittingAgreesAt told.now outcome.now v)
+    ensures { MatchOption result ((v : ℕ) → v < length outcome.now.fired.items → StageAgreesAt told.now outcome.now v)
         (IsFirstDisagreement told.now outcome.now) }
 {
     for vertex in 0..outcome.fired.len() as u64 {
@@ -108,7 +108,7 @@ fn agrees_at(told: &Resumed, outcome: &Outcome, vertex: u64) -> bool
     requires is_outcome { IsOutcome outcome.now }
     requires as_many { length told.now.outcome.fired.items ≡ length outcome.now.fired.items }
     requires is_vertex { vertex < length outcome.now.fired.items }
-    ensures { (result ≡ true) ↔ SittingAgreesAt told.now outcome.now vertex }
+    ensures { (result ≡ true) ↔ StageAgreesAt told.now outcome.now vertex }
 {
     let last = &told.outcome;
     if !has_numbers(told, outcome, vertex) {

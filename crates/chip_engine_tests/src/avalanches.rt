@@ -32,7 +32,7 @@ const STOPPED: &str =
     "{\"chips\":[5,1,11],\"closed\":false,\"fired\":[3,1,0],\"over\":[0],\"sealed\":[],\"version\":1}\n";
 
 /// The pile of these chips.
-#[tactic(auto, using(chip_engine::proofs::SittingLemmas::none_legal))]
+#[tactic(auto, using(chip_engine::proofs::StageLemmas::none_legal))]
 fn rested(rt: &(impl AllocGlobal + Abort)) -> Box<Pile>
     ensures pile { IsPile result.value }
     ensures stable { IsStable result.value.game.graph (slice_index result.value.chips.items) }

@@ -95,19 +95,19 @@ fn plain_tells_of_its_game_its_play_and_its_report(rt: HostRuntime) {
 }
 
 #[test]
-fn resume_tells_of_its_sitting(rt: HostRuntime) {
+fn resume_tells_of_its_stage(rt: HostRuntime) {
     let (mut told, mut output) = (NOTHING, Vec::new(rt.alloc()));
     let (graph, report) = (&mut TRIANGLE.as_bytes(), &mut STOPPED.as_bytes());
     let options = PlayOptions::standard(NO_LIMIT);
     let ended = resume_engine_with(rt.alloc(), graph, report, options, &mut told, &mut output);
     assert!(rt; ended == closed(0));
-    let sitting = Told {
+    let stage = Told {
         vertices: 3,
         firings: 1,
         bytes: WENT_ON.len() as u64,
         given: None,
     };
-    assert!(rt; told == sitting);
+    assert!(rt; told == stage);
 }
 
 #[test]

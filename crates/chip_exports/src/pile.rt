@@ -4,8 +4,10 @@ ghost use Rattle.std.specs.Prelude.{◌≡◌, None, Bool};
 ghost use Rattle.chip_fire.specs.declared.avalanche.Avalanche.{Avalanche};
 ghost use Rattle.chip_library.specs.declared.fault.CallFault.{CallFault};
 ghost use Rattle.chip_library.specs.KeptGames.{PutsChips, PlaysSome, Drops};
+ghost use Rattle.chip_library.specs.Measures.{measures_of};
 ghost use Rattle.chip_handle.specs.Handles.{MakesNew, OnPile, DropsOn, MeasuresOn, CopiesOf, chips_on, firings_on, bytes_held};
 ghost use Rattle.chip_exports.specs.Answers.{Answers, answer_of};
+ghost use Rattle.chip_exports.specs.Status.{is_true};
 ghost use Rattle.chip_exports.specs.Piles.{CallStatus, call_status_of, left_of, written_of, TellsMade};
 
 use crate::answer;
@@ -132,6 +134,8 @@ pub extern "C" fn chipfire_pile_measure(
     pile: &mut Handle,
     at: &[u64],
     amounts: &[u64],
+    loses: u64,
+    marks: &[u64],
     sizes: &mut [u64],
     extents: &mut [u64],
     losts: &mut [u64],
@@ -142,23 +146,14 @@ pub extern "C" fn chipfire_pile_measure(
     place: &mut u64,
 ) -> u64
     ensures { TellsMade result place.new (MeasuresOn pile.old.raw.value pile.new.raw.value at.now amounts.now
-        (record {
-          rows = record { sizes = sizes.old; extents = extents.old; losts = losts.old };
-          durations = durations.old;
-          ends = ends.old;
-          vertices = vertices.old;
-          times = times.old;
-        })
-        (record {
-          rows = record { sizes = sizes.new; extents = extents.new; losts = losts.new };
-          durations = durations.new;
-          ends = ends.new;
-          vertices = vertices.new;
-          times = times.new;
-        })) }
+        (is_true loses) marks.now
+        (measures_of sizes.old extents.old losts.old durations.old ends.old vertices.old times.old)
+        (measures_of sizes.new extents.new losts.new durations.new ends.new vertices.new times.new)) }
 {
+    let loses = loses != 0;
     let made = measure_on(
-        alloc, pile, at, amounts, sizes, extents, losts, durations, ends, vertices, times,
+        alloc, pile, at, amounts, loses, marks, sizes, extents, losts, durations, ends, vertices,
+        times,
     );
     match made {
         Ok(made) => {

@@ -20,12 +20,12 @@ use Rattle.chip_sequence.specs.Sequence.{position_after, IsFiringSequence, count
 use Rattle.chip_sequence.specs.Certificate.{IsOnTheWay}
 use Rattle.chip_sequence.specs.Play.{IsPlayed}
 use Rattle.chip_sequence.specs.declared.outcome.Outcome.{Outcome}
-use Rattle.chip_sequence.specs.Sittings.{LeadsTo}
+use Rattle.chip_sequence.specs.Stages.{LeadsTo}
 use Rattle.chip_sequence.proofs.FiringLemmas.{counts_here, counts_else, position_is, sink_never, more_chips}
 use Rattle.chip_sequence.proofs.EndLemmas.{continued}
 use Rattle.chip_sequence.proofs.BoundLemmas.{chips_are_kept, ends}
 use Rattle.chip_sequence.proofs.CertificateLemmas.{end_of_the_way, same_way, playing_on, start_on_the_way}
-use Rattle.chip_sequence.proofs.SittingLemmas.{leads_both, ends_alike, played_is_sitting}
+use Rattle.chip_sequence.proofs.StageLemmas.{leads_both, ends_alike, played_is_stage}
 use Rattle.chip_sequence.proofs.AfterLemmas.{sum_small}
 use Rattle.chip_fire.specs.Rounds.{IsBegun, IsAtRest}
 use Rattle.chip_fire.specs.WorkList.{HasSupport}
@@ -260,7 +260,7 @@ row_told g ds x d is chips' fired' begun stable vertices times row =
 module _ (g : ChipGame) (ok : IsGame g) (o : Outcome) (played : IsPlayed g o) where
   pub played_begun : IsBegun g o.chips.items o.fired.items
   played_begun =
-      let way = led_way _ _ _ _ _ (played_is_sitting g o played) played.low_counts in
+      let way = led_way _ _ _ _ _ (played_is_stage g o played) played.low_counts in
       record { in_range = grind arith; on_the_way = way }
 
   pub played_rests : IsAtRest g o.chips.items o.fired.items

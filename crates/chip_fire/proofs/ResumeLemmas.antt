@@ -1,5 +1,5 @@
 -- Serves Resume.antt.
--- A sitting that goes on from an earlier one.
+-- A stage that goes on from an earlier one.
 use Rattle.std.proofs.Common.{◌≡◌, ℕ, ◌+◌, slice_index, sym, ap, subst, arith, ◌<◌, ◌≤◌, length}
 use Rattle.std.proofs.lemmas.List.{get_or_past}
 use Rattle.std.proofs.lemmas.List.Elements.{All-from_get_or}
@@ -10,9 +10,9 @@ use Rattle.chip_graph.specs.ChipGame.{IsGame}
 use Rattle.chip_sequence.specs.declared.resumed.Resumed.{Resumed}
 use Rattle.chip_sequence.specs.Outcomes.{IsOutcome}
 use Rattle.chip_sequence.specs.Play.{IsPlayed}
-use Rattle.chip_sequence.specs.Sittings.{IsResumed, LeadsTo, IsPlayFrom, fired_in_all, max_prior}
+use Rattle.chip_sequence.specs.Stages.{IsResumed, LeadsTo, IsPlayFrom, fired_in_all, max_prior}
 use Rattle.chip_sequence.specs.Resume.{GoesOn, game_from}
-use Rattle.chip_sequence.proofs.SittingLemmas.{leads_both, played_is_sitting}
+use Rattle.chip_sequence.proofs.StageLemmas.{leads_both, played_is_stage}
 
 module _ (G : Multigraph) (earlier r : Resumed) (limit : ℕ) (fits : IsResumed earlier)
     (same_length : length r.prior.items ≡ length earlier.prior.items)
@@ -29,7 +29,7 @@ module _ (G : Multigraph) (earlier r : Resumed) (limit : ℕ) (fits : IsResumed 
       get_or_past earlier.outcome.fired.items v 0 (let d = fits.prior_each in omega arith) in
       omega arith)
 
-  -- the sitting that was played from there goes on
+  -- the stage that was played from there goes on
   pub goes_on : IsGame (game_from G earlier limit) → IsPlayed (game_from G earlier limit) r.outcome
       → IsOutcome r.outcome → GoesOn G earlier limit r
   goes_on game played outcome = record {
@@ -52,4 +52,4 @@ module _ (G : Multigraph) (earlier r : Resumed) (limit : ℕ) (fits : IsResumed 
       (λ i v. (ap (λ (n : ℕ). n + slice_index r.outcome.fired.items v) (sym (before v))) i)
       (leads_both G x (fired_in_all earlier) (slice_index earlier.outcome.chips.items)
       (slice_index r.outcome.fired.items) (slice_index r.outcome.chips.items)
-      earlier_leads (played_is_sitting (game_from G earlier limit) r.outcome on.played))
+      earlier_leads (played_is_stage (game_from G earlier limit) r.outcome on.played))

@@ -5,7 +5,7 @@ use Rattle.chip_graph.specs.Sums.{sum_below}
 use Rattle.chip_graph.specs.Multigraph.{Multigraph, IsGraph}
 use Rattle.chip_graph.specs.More.{brought_to}
 use Rattle.chip_sequence.specs.Sequence.{position_after, IsFiringSequence, counts, HasEnded}
-use Rattle.chip_sequence.specs.Sittings.{LeadsTo}
+use Rattle.chip_sequence.specs.Stages.{LeadsTo}
 use Rattle.chip_fire.specs.declared.avalanche.Avalanche.{Avalanche}
 use Rattle.chip_fire.specs.declared.pile.Pile.{Pile}
 use Rattle.chip_sequence.specs.Firing.{IsStable}

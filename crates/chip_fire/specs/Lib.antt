@@ -4,7 +4,7 @@ pub use Rattle.chip_graph.specs.Multigraph
 pub use Rattle.chip_graph.specs.ChipGame
 pub use Rattle.chip_sequence.specs.Play
 pub use Rattle.chip_sequence.specs.Outcomes
-pub use Rattle.chip_sequence.specs.Sittings
+pub use Rattle.chip_sequence.specs.Stages
 pub mod Rounds
 pub mod WorkList
 pub mod Player

@@ -5,7 +5,7 @@ use Rattle.chip_graph.specs.Multigraph.{Multigraph}
 use Rattle.chip_graph.specs.ChipGame.{ChipGame, IsGame}
 use Rattle.chip_graph.specs.More.{HasMore}
 use Rattle.chip_sequence.specs.Firing.{IsStable}
-use Rattle.chip_sequence.specs.Sittings.{LeadsTo}
+use Rattle.chip_sequence.specs.Stages.{LeadsTo}
 use Rattle.chip_fire.specs.Rounds.{IsBegun, IsAtRest}
 use Rattle.chip_fire.specs.WorkList.{HasSupport}
 use Rattle.chip_fire.specs.declared.pile.BegunDrop.{BegunDrop}

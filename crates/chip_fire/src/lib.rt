@@ -12,7 +12,7 @@ pub use pile::{BegunDrop, Pile};
 pub use play::Play;
 pub use player::{plain, plain_given, plain_watched};
 pub use rounds::make_rounds;
-pub use sitting::{resume, resume_watched};
+pub use stage::{resume, resume_watched};
 pub use watch::{GivenUse, Unwatched, Watch};
 pub use work_list::is_legal;
 
@@ -28,8 +28,8 @@ pub mod pile;
 mod play;
 pub mod player;
 mod rounds;
-pub mod sitting;
 mod soon;
+pub mod stage;
 mod tuning;
 pub mod watch;
 mod work_list;

@@ -16,8 +16,11 @@ pub(crate) const TURN: u64 = 4;
 /// Which part of its visits the play makes at least in a turn, so that turns grow with the play: ring-one-way.
 pub(crate) const PART_OF_TURN: u64 = 4;
 
-/// How many visits one in a work list counts for, since it lies anywhere: peak-511.
+/// How many visits one in a work list counts for on a graph that no cache holds, since it lies anywhere: peak-511.
 pub(crate) const VISITS_OF_LISTED: u64 = 4;
+
+/// How many vertices and edges a processor's cache holds.
+pub(crate) const PLACES_IN_CACHE: u64 = 1 << 15;
 
 /// How many visits to each vertex and edge are made by a work list, if few chips wait.
 pub(crate) const VISITS_OF_LIST: u64 = 256;

@@ -12,14 +12,15 @@ ghost use Rattle.chip_fire.specs.WorkList.{AreTheLegal, IsStuck, WorksOff, legal
 use crate::play::{Play, legal_vertices};
 use crate::rounds::times_in;
 use crate::soon::visits_at_all;
-use crate::tuning::{VERTICES_PER_PLACE, VISITS_OF_LISTED};
+use crate::tuning::{PLACES_IN_CACHE, VERTICES_PER_PLACE, VISITS_OF_LISTED};
 use chip_graph::{Game, Graph};
 use std::alloc::{AllocError, Global};
 
 impl Play<'_> {
     /// Goes on by a queue of legal vertices if these are few, until about `most` visits are made. The visits are added to
     /// `visits`, up to 2^64 - 1: those at a vertex that fires and at its edges, of which it has as many as vertices
-    /// have in the mean, count `VISITS_OF_LISTED` times, since they lie anywhere. Whether it may go on so.
+    /// have in the mean. On a graph that no cache holds they count `VISITS_OF_LISTED` times, since they lie anywhere.
+    /// Whether it may go on so.
     pub fn work_off_few(
         &mut self,
         alloc: Global,
@@ -45,11 +46,8 @@ impl Play<'_> {
         let mut queue = legal_vertices(alloc, graph, &self.chips)?;
         let listed = queue.len();
         queue.resize(listed + 2 * few, 0)?;
-        let at_each = (graph.edges().len() as u64 / vertices.max(1)).saturating_add(1);
-        let of_turn = at_each
-            .saturating_mul(VISITS_OF_LISTED)
-            .min(visits_at_all(graph));
-        let most = most / of_turn.max(1);
+        let of_turn = visits_of_turn(graph);
+        let most = most / of_turn;
         let worked = work_off(
             self.game,
             listed,
@@ -63,6 +61,20 @@ impl Play<'_> {
         *visits = visits.saturating_add(worked.turns.saturating_mul(of_turn));
         Ok(worked.turns == most)
     }
+}
+
+/// How many visits a turn in a work list counts for: those at a vertex and at its edges.
+fn visits_of_turn(graph: &Graph) -> u64
+    ensures some { 0 < result }
+    ensures few { result ≤ graph.now.vertices + length graph.now.edges }
+{
+    let all = visits_at_all(graph);
+    let edges = graph.edges().len() as u64 / graph.vertices().max(1);
+    let at_each = edges.saturating_add(1).min(all);
+    if all <= PLACES_IN_CACHE {
+        return at_each;
+    }
+    at_each.saturating_mul(VISITS_OF_LISTED).min(all)
 }
 
 /// Whether at most `few` vertices are legal.

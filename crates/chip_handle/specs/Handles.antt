@@ -1,5 +1,5 @@
 -- What calls on a handle return.
-use Rattle.std.specs.Prelude.{◌≡◌, ℕ, List, length, Option, Some, None, Result, Ok, Err}
+use Rattle.std.specs.Prelude.{◌≡◌, ℕ, Bool, List, length, Option, Some, None, Result, Ok, Err}
 use Rattle.chip_library.specs.declared.edges.EdgeLists.{EdgeLists}
 use Rattle.chip_library.specs.declared.fault.CallFault.{CallFault}
 use Rattle.chip_library.specs.declared.fault.CallFault.TheVariants.{Lengths, NoPile}
@@ -36,10 +36,10 @@ DropsOn old new at amounts =
     WritesOn {T = Unit {0}} {W = Rows} (λ k k' before after told. DropsEach k k' at amounts before after told) old new
 
 -- what measuring many drops on a pile returns
-abbrev pub MeasuresOn : (old new : Option KeptGame) → (at amounts : List ℕ) → (before after : Measures)
-    → Result ℕ CallFault → Type 0
-MeasuresOn old new at amounts =
-    WritesOn {T = ℕ} {W = Measures} (λ k k' before after told. MeasuresEach k k' at amounts before after told) old new
+abbrev pub MeasuresOn : (old new : Option KeptGame) → (at amounts : List ℕ) → (loses : Bool) → (marks : List ℕ)
+    → (before after : Measures) → Result ℕ CallFault → Type 0
+MeasuresOn old new at amounts loses marks = WritesOn {T = ℕ} {W = Measures}
+    (λ k k' before after told. MeasuresEach k k' at amounts loses marks before after told) old new
 
 -- what a copy returns: these numbers, if the slice has the same length; else a fault, and nothing is written
 abbrev pub Copies : List ℕ → (old new : List ℕ) → Result (Unit {0}) CallFault → Type 0

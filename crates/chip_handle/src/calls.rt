@@ -2,6 +2,7 @@
 
 ghost use Rattle.std.specs.Prelude.{◌≡◌, None};
 ghost use Rattle.chip_library.specs.KeptGames.{PutsChips, PlaysSome, Drops};
+ghost use Rattle.chip_library.specs.Measures.{measures_of};
 ghost use Rattle.chip_handle.specs.Handles.{MakesNew, OnPile, DropsOn, MeasuresOn, Copies, CopiesOf, chips_on, firings_on, bytes_held};
 
 use crate::handle::Handle;
@@ -129,6 +130,8 @@ pub fn measure_on(
     handle: &mut Handle,
     at: &[u64],
     amounts: &[u64],
+    loses: bool,
+    marks: &[u64],
     sizes: &mut [u64],
     extents: &mut [u64],
     losts: &mut [u64],
@@ -137,28 +140,16 @@ pub fn measure_on(
     vertices: &mut [u64],
     times: &mut [u64],
 ) -> Result<u64, CallFault>
-    ensures { MeasuresOn handle.old.raw.value handle.new.raw.value at.now amounts.now
-        (record {
-          rows = record { sizes = sizes.old; extents = extents.old; losts = losts.old };
-          durations = durations.old;
-          ends = ends.old;
-          vertices = vertices.old;
-          times = times.old;
-        })
-        (record {
-          rows = record { sizes = sizes.new; extents = extents.new; losts = losts.new };
-          durations = durations.new;
-          ends = ends.new;
-          vertices = vertices.new;
-          times = times.new;
-        }) result }
+    ensures { MeasuresOn handle.old.raw.value handle.new.raw.value at.now amounts.now loses marks.now
+        (measures_of sizes.old extents.old losts.old durations.old ends.old vertices.old times.old)
+        (measures_of sizes.new extents.new losts.new durations.new ends.new vertices.new times.new) result }
 {
     let Some(mut boxed) = handle.take(alloc) else {
         return Err(CallFault::NoPile);
     };
     let kept: &mut KeptPile = &mut boxed;
     let told = kept.measure_each(
-        alloc, at, amounts, sizes, extents, losts, durations, ends, vertices, times,
+        alloc, at, amounts, loses, marks, sizes, extents, losts, durations, ends, vertices, times,
     );
     *handle = Handle::of(boxed);
     told

@@ -1,8 +1,8 @@
 -- Serves Measures.antt.
 -- Drops measured one after another, and what is written of them.
-use Rattle.std.proofs.Common.{◌≡◌, ◌⊎◌, ⊎_elim, ℕ, ◌+◌, ◌<◌, ◌≤◌, Bool, true, List, [], ◌∷◌, ◌++◌}
-use Rattle.std.proofs.Common.{length, map, take, drop, set, slice_index, Some, Result, Ok, Err}
-use Rattle.std.proofs.Common.{inl, inr, refl, sym, ap, ◌∙◌, subst, arith, add-one, drop-cons}
+use Rattle.std.proofs.Common.{◌≡◌, ◌⊎◌, ⊎_elim, ℕ, ◌+◌, ◌<◌, ◌≤◌, Bool, true, false, List, [], ◌∷◌, ◌++◌}
+use Rattle.std.proofs.Common.{length, map, take, drop, set, slice_index, Some, Result, Ok, Err, MatchBool}
+use Rattle.std.proofs.Common.{inl, inr, refl, sym, ap, ◌∙◌, subst, arith, add-one, drop-cons, true≢false}
 use Rattle.std.proofs.lemmas.List.{map-append, append_assoc, length-append, length-map, length_push}
 use Rattle.std.proofs.lemmas.List.{take_all, take_more, length-take-le, take-append-le, drop-drop, set_at, flat_map_more}
 use Rattle.std.proofs.lemmas.List.Concat.{flat_map-cons}
@@ -25,7 +25,7 @@ use Rattle.chip_library.specs.Drops.{Told, AreOn, CanFall}
 use Rattle.chip_library.specs.KeptGames.{KeptGame, IsKept, Plays, Rows, with_rows, DropsOnStable, DropsEach}
 use Rattle.chip_library.specs.Measures.{Noted, told_of, AreNoted, LeavesNoted, noted_on, MeasuresOnStable}
 use Rattle.chip_library.specs.Measures.{Measures, is_timed, AreMeasures, fired_in, times_in, ends_from, at_front}
-use Rattle.chip_library.specs.Measures.{IsFull, AreWritten}
+use Rattle.chip_library.specs.Measures.{fires_marked, fires_both, EndsRun, LastEnds, IsFull, IsOver, AreAsked, AreWritten}
 use Rattle.chip_library.specs.Measures.{MeasuresSome, MeasuresEach}
 use Rattle.chip_library.proofs.DropLemmas.{leaves_none, on_more}
 use Rattle.chip_library.proofs.KeptLemmas.{more_drops, drops_well, played_once, first_more, first_all}
@@ -68,6 +68,38 @@ measures_well k kept stable v count timed m inside p is more (rests, avalanche, 
   leaves = drops_well k kept stable v count m.avalanche inside p is more (rests, avalanche);
   noted = (slice_index p.chips.items, record { avalanche = avalanche; row = row; duration = lasts }, λ v. refl);
 }
+
+-- ---- where a run ends
+
+-- no vertex has a bit if there are no marks
+pub fires_none : (marks : List ℕ) → length marks ≡ 0 → (bit : ℕ) (vertices : List ℕ)
+    → fires_marked marks bit vertices ≡ false
+fires_none [] none bit [] = refl
+fires_none [] none bit (v ∷ more) = fires_none [] none bit more
+fires_none (m ∷ ms) none bit vertices = absurd (omega arith)
+
+both_none : (bit other : ℕ) (vertices : List ℕ) → fires_both [] bit other vertices ≡ false
+both_none bit other vertices = rw (fires_none [] refl bit vertices) refl
+
+-- if nothing is asked, no drop ends the run
+never_ends : (n : Noted) → EndsRun false [] n → ⊥
+never_ends n (inl (loses, lost)) = true≢false (sym loses)
+never_ends n (inr (inl one)) = true≢false (sym one ∙ fires_none [] refl 1 n.vertices)
+never_ends n (inr (inr (inl two))) = true≢false (sym two ∙ both_none 2 4 n.vertices)
+never_ends n (inr (inr (inr two))) = true≢false (sym two ∙ both_none 8 16 n.vertices)
+
+last_never : (notes : List Noted) → LastEnds (EndsRun false []) notes → ⊥
+last_never [] ends = ends
+last_never (n ∷ []) ends = never_ends n ends
+last_never (n ∷ m ∷ more) ends = last_never (m ∷ more) ends
+
+-- the last one is the drop that is made
+last_push : (Ends : Noted → Type 0) (is_over : Bool) (notes : List Noted) (n : Noted)
+    → MatchBool is_over (Ends n) (Ends n → ⊥)
+    → MatchBool is_over (LastEnds Ends (notes ++ n ∷ [])) (LastEnds Ends (notes ++ n ∷ []) → ⊥)
+last_push Ends is_over [] n ends = ends
+last_push Ends is_over (m ∷ []) n ends = ends
+last_push Ends is_over (m ∷ k ∷ more) n ends = last_push Ends is_over (k ∷ more) n ends
 
 -- ---- what is written
 
@@ -215,8 +247,10 @@ each_more P notes n i long each last j inside =
     subst P (sym front) (dite (ℕ_discrete j i) (λ is. subst P (sym (take_all j notes (omega arith))) last)
     (λ no. each j (omega arith)))
 
--- the first i drops were made and measured, and what is asked for of them is written: what fired up to `end`
-pub record SoFar (old new : KeptGame) (at amounts : List ℕ) (before now : Measures) (notes : List Noted) (end i : ℕ) : Type 0 where
+-- the first i drops were made and measured, and what is asked for of them is written: what fired up to `end`; the run
+-- is over if the last one ends it
+pub record SoFar (old new : KeptGame) (at amounts : List ℕ) (Ends : Noted → Type 0) (before now : Measures)
+    (notes : List Noted) (is_over : Bool) (end i : ℕ) : Type 0 where
   pub many : length notes ≡ i
   pub stable : new.state ≡ Stable
   pub left : LeavesNoted old.pile (is_timed before) notes new.pile
@@ -225,12 +259,13 @@ pub record SoFar (old new : KeptGame) (at amounts : List ℕ) (before now : Meas
   pub durations : now.durations ≡ at_front (map (λ (n : Noted). n.rounds) notes) before.durations
   pub fired : HoldsRows notes before.ends before.vertices before.times now.ends now.vertices now.times end
   pub within : end ≤ length now.vertices
-  pub room : (j : ℕ) → j < i → IsFull old.pile.game.graph before (take j notes) → ⊥
+  pub over : MatchBool is_over (LastEnds Ends notes) (LastEnds Ends notes → ⊥)
+  pub going : (j : ℕ) → j < i → IsOver old.pile.game.graph before Ends (take j notes) → ⊥
 
 -- no drops yet
-pub so_far_none : (k : KeptGame) (at amounts : List ℕ) (before : Measures) → IsKept k.pile k.state → k.state ≡ Stable
-    → SoFar k k at amounts before before [] 0 0
-so_far_none k at amounts before kept stable =
+pub so_far_none : (k : KeptGame) (at amounts : List ℕ) (Ends : Noted → Type 0) (before : Measures)
+    → IsKept k.pile k.state → k.state ≡ Stable → SoFar k k at amounts Ends before before [] false 0 0
+so_far_none k at amounts Ends before kept stable =
     let rests = kept.stable stable in record {
       many = refl;
       stable = stable;
@@ -240,28 +275,34 @@ so_far_none k at amounts before kept stable =
       durations = sym (front_none before.durations);
       fired = holds_none before.ends before.vertices before.times;
       within = omega arith;
-      room = λ j inside. absurd (omega arith);
+      over = λ ends. ends;
+      going = λ j inside. absurd (omega arith);
     }
 
--- there is room for the next
-pub not_full : (old new : KeptGame) (at amounts : List ℕ) (before now : Measures) (notes : List Noted) (end i : ℕ)
-    → SoFar old new at amounts before now notes end i → length now.ends ≡ length before.ends
-    → length now.vertices ≡ length before.vertices
+-- the next one is made
+pub not_over : (old new : KeptGame) (at amounts : List ℕ) (Ends : Noted → Type 0) (before now : Measures)
+    (notes : List Noted) (is_over : Bool) (end i : ℕ)
+    → SoFar old new at amounts Ends before now notes is_over end i → length now.ends ≡ length before.ends
+    → length now.vertices ≡ length before.vertices → is_over ≡ false
     → (0 < length now.ends → end + new.pile.game.graph.vertices ≤ length now.vertices)
-    → IsFull old.pile.game.graph before notes → ⊥
-not_full old new at amounts before now notes end i so_far ends_each vertices_each room (some, less) =
+    → IsOver old.pile.game.graph before Ends notes → ⊥
+not_over old new at amounts Ends before now notes is_over end i so_far ends_each vertices_each going room (inr ends) =
+    let not : LastEnds Ends notes → ⊥ = rw going at so_far.over in not ends
+not_over old new at amounts Ends before now notes is_over end i so_far ends_each vertices_each going room
+    (inl (some, less)) =
     let same = ap (λ (G : Multigraph). G.vertices) so_far.left.leaves.game.same_graph in
     let there : end ≡ length (fired_in notes) = so_far.fired.end_is some in
     let any : 0 < length now.ends = omega arith in
     let fits : end + new.pile.game.graph.vertices ≤ length now.vertices = room any in omega arith
 
 -- there is no room
-pub is_full : (old new : KeptGame) (at amounts : List ℕ) (before now : Measures) (notes : List Noted) (end i : ℕ)
-    → SoFar old new at amounts before now notes end i → length now.ends ≡ length before.ends
+pub is_full : (old new : KeptGame) (at amounts : List ℕ) (Ends : Noted → Type 0) (before now : Measures)
+    (notes : List Noted) (is_over : Bool) (end i : ℕ)
+    → SoFar old new at amounts Ends before now notes is_over end i → length now.ends ≡ length before.ends
     → length now.vertices ≡ length before.vertices
     → (0 < length now.ends) × (length now.vertices < end + new.pile.game.graph.vertices)
     → IsFull old.pile.game.graph before notes
-is_full old new at amounts before now notes end i so_far ends_each vertices_each (some, less) =
+is_full old new at amounts Ends before now notes is_over end i so_far ends_each vertices_each (some, less) =
     let same = ap (λ (G : Multigraph). G.vertices) so_far.left.leaves.game.same_graph in
     let any : 0 < length before.ends = omega arith in
     let there : end ≡ length (fired_in notes) = so_far.fired.end_is any in (any, omega arith)
@@ -299,10 +340,10 @@ rows_more told t i before now now' long (sizes, extents, losts) so_far more =
     let b = first_more (λ (t : Told). t.1.extent) told t before.extents i long extents in
     let c = first_more (λ (t : Told). t.1.lost) told t before.losts i long losts in rw (more, so_far, a, b, c) refl
 
-pub so_far_more : (old new new' : KeptGame) (at amounts : List ℕ) (before now now' : Measures) (notes : List Noted)
-    (end end' i : ℕ) (m : Measured) → AreMeasures at amounts before → i < length at
-    → length now.ends ≡ length before.ends → length now'.vertices ≡ length before.vertices
-    → SoFar old new at amounts before now notes end i → (IsFull old.pile.game.graph before notes → ⊥)
+pub so_far_more : (old new new' : KeptGame) (at amounts : List ℕ) (Ends : Noted → Type 0) (before now now' : Measures)
+    (notes : List Noted) (is_over is_over' : Bool) (end end' i : ℕ) (m : Measured) → AreMeasures at amounts before
+    → i < length at → length now.ends ≡ length before.ends → length now'.vertices ≡ length before.vertices
+    → SoFar old new at amounts Ends before now notes is_over end i → (IsOver old.pile.game.graph before Ends notes → ⊥)
     → MeasuresOnStable new new' (slice_index at i) (slice_index amounts i) (is_timed before) (Some m)
     → now'.rows ≡ record {
       sizes = set now.rows.sizes i m.avalanche.size;
@@ -313,10 +354,12 @@ pub so_far_more : (old new new' : KeptGame) (at amounts : List ℕ) (before now 
     → WritesRow (noted_on new'.pile (slice_index at i) (slice_index amounts i) m) i end end' now.ends now.vertices now.times
     now'.ends now'.vertices now'.times
     → end' ≤ length now'.vertices
-    → SoFar old new' at amounts before now' (notes ++ noted_on new'.pile (slice_index at i) (slice_index amounts i) m ∷ [])
-    end' (i + 1)
-so_far_more old new new' at amounts before now now' notes end end' i m measures inside ends_each vertices_each so_far not
-    (stable, leaves) rows durations writes within =
+    → MatchBool is_over' (Ends (noted_on new'.pile (slice_index at i) (slice_index amounts i) m))
+    (Ends (noted_on new'.pile (slice_index at i) (slice_index amounts i) m) → ⊥)
+    → SoFar old new' at amounts Ends before now'
+    (notes ++ noted_on new'.pile (slice_index at i) (slice_index amounts i) m ∷ []) is_over' end' (i + 1)
+so_far_more old new new' at amounts Ends before now now' notes is_over is_over' end end' i m measures inside ends_each
+    vertices_each so_far not (stable, leaves) rows durations writes within over =
     let n : Noted = noted_on new'.pile (slice_index at i) (slice_index amounts i) m in
     let long = so_far.many in
     let each = measures.rows in
@@ -347,13 +390,15 @@ so_far_more old new new' at amounts before now now' notes end end' i m measures 
           (λ no. ⊎_elim (λ all. absurd (omega arith)) (λ none. none.1) measures.ends_each)
           measures.times_each ends_each (λ any. omega arith) so_far.fired writes;
       within = within;
-      room = each_more (λ (made : List Noted). IsFull old.pile.game.graph before made → ⊥) notes n i long so_far.room not;
+      over = last_push Ends is_over' notes n over;
+      going = each_more (λ (made : List Noted). IsOver old.pile.game.graph before Ends made → ⊥) notes n i long so_far.going not;
     }
 
-pub so_far_written : (old new : KeptGame) (at amounts : List ℕ) (before now : Measures) (notes : List Noted) (end i : ℕ)
-    → Plays old old (Ok tt) → SoFar old new at amounts before now notes end i
-    → AreWritten old new at amounts before now notes
-so_far_written old new at amounts before now notes end i plays so_far =
+pub so_far_written : (old new : KeptGame) (at amounts : List ℕ) (Ends : Noted → Type 0) (before now : Measures)
+    (notes : List Noted) (is_over : Bool) (end i : ℕ) → Plays old old (Ok tt)
+    → SoFar old new at amounts Ends before now notes is_over end i
+    → AreWritten old new at amounts Ends before now notes
+so_far_written old new at amounts Ends before now notes is_over end i plays so_far =
     let rows = so_far.rows in
     let durations = so_far.durations in
     let ends = so_far.fired.ends_are in
@@ -362,50 +407,52 @@ so_far_written old new at amounts before now notes end i plays so_far =
       on = rw so_far.many so_far.on;
       measured = (old, plays, so_far.stable, so_far.left);
       written = rw (← rows, ← durations, ← ends, ← vertices, ← times) refl;
-      room = rw so_far.many so_far.room;
+      going = rw so_far.many so_far.going;
     }
 
 -- ---- one call after another
 
 -- drops on a pile that was played out are drops on the pile before that play
-written_played : (old played new : KeptGame) (at amounts : List ℕ) (before after : Measures) (notes : List Noted)
-    → Plays old played (Ok tt) → AreWritten played new at amounts before after notes
-    → AreWritten old new at amounts before after notes
-written_played old played new at amounts before after notes first made =
+written_played : (old played new : KeptGame) (at amounts : List ℕ) (Ends : Noted → Type 0) (before after : Measures)
+    (notes : List Noted) → Plays old played (Ok tt) → AreWritten played new at amounts Ends before after notes
+    → AreWritten old new at amounts Ends before after notes
+written_played old played new at amounts Ends before after notes first made =
     let (end, again, stable, leaves) = made.measured in record {
       on = made.on;
       measured = (end, (played_once old played end first again.0, again.1), stable, leaves);
       written = made.written;
-      room = subst (λ (g : ChipGame). (i : ℕ) → i < length notes → IsFull g.graph before (take i notes) → ⊥)
-          first.0.same_game made.room;
+      going = subst (λ (g : ChipGame). (i : ℕ) → i < length notes → IsOver g.graph before Ends (take i notes) → ⊥)
+          first.0.same_game made.going;
     }
 
-pub measures_played : (old played new : KeptGame) (at amounts : List ℕ) (before after : Measures)
-    → AreMeasures at amounts before → CanFall old.pile.game at amounts (length at) → Plays old played (Ok tt)
-    → (told : Result ℕ CallFault) → MeasuresSome played new at amounts before after told
-    → MeasuresEach old new at amounts before after told
-measures_played old played new at amounts before after measures can first (Ok made) (notes, written, long, stops) = (
+pub measures_played : (old played new : KeptGame) (at amounts : List ℕ) (loses : Bool) (marks : List ℕ)
+    (before after : Measures) → AreAsked old.pile.game.graph at amounts marks before
+    → CanFall old.pile.game at amounts (length at) → Plays old played (Ok tt)
+    → (told : Result ℕ CallFault) → MeasuresSome played new at amounts (EndsRun loses marks) before after told
+    → MeasuresEach old new at amounts loses marks before after told
+measures_played old played new at amounts loses marks before after measures can first (Ok made) (notes, written, long, stops) = (
   measures,
   can,
   (
     notes,
-    written_played old played new at amounts before after notes first written,
+    written_played old played new at amounts (EndsRun loses marks) before after notes first written,
     long,
-    subst (λ (g : ChipGame). (made ≡ length at) ⊎ ((made < length at) × IsFull g.graph before notes)) first.0.same_game stops,
+    subst (λ (g : ChipGame). (made ≡ length at) ⊎ ((made < length at) × IsOver g.graph before (EndsRun loses marks) notes))
+        first.0.same_game stops,
   ),
 )
-measures_played old played new at amounts before after measures can first (Err fault)
+measures_played old played new at amounts loses marks before after measures can first (Err fault)
     (i, is, (notes, k, written, long, inside, room, stopped)) =
-    subst (λ (f : CallFault). MeasuresEach old new at amounts before after (Err f)) (sym is) (
+    subst (λ (f : CallFault). MeasuresEach old new at amounts loses marks before after (Err f)) (sym is) (
       measures,
       can,
       inr (
         notes,
         k,
-        written_played old played k at amounts before after notes first written,
+        written_played old played k at amounts (EndsRun loses marks) before after notes first written,
         long,
         inside,
-        subst (λ (g : ChipGame). IsFull g.graph before notes → ⊥) first.0.same_game room,
+        subst (λ (g : ChipGame). IsOver g.graph before (EndsRun loses marks) notes → ⊥) first.0.same_game room,
         stopped,
       ),
     )
@@ -420,12 +467,17 @@ pub record AsksNone (m : Measures) : Type 0 where
   pub times : length m.times ≡ 0
 
 drops_all : (old new : KeptGame) (at amounts : List ℕ) (before after : Measures) → AsksNone before → (made : ℕ)
-    → MeasuresEach old new at amounts before after (Ok made) → DropsEach old new at amounts before.rows after.rows (Ok tt)
+    → MeasuresEach old new at amounts false [] before after (Ok made)
+    → DropsEach old new at amounts before.rows after.rows (Ok tt)
 drops_all old new at amounts before after none made (measures, can, (notes, written, long, stops)) =
     let (played, plays, stable, leaves) = written.measured in
     let no_ends = none.ends in
-    let all : made ≡ length at = elim stops [ inl is ↦ is | inr found ↦ absurd (let some = found.1.0 in omega arith) ] in
-    let each = measures.rows in
+    let all : made ≡ length at = elim stops [
+      | inl is ↦ is
+      | inr (fewer, inl full) ↦ absurd (let some = full.0 in omega arith)
+      | inr (fewer, inr last) ↦ absurd (last_never notes last)
+    ] in
+    let each = measures.0.rows in
     let sizes_each = each.sizes_each in
     let extents_each = each.extents_each in
     let losts_each = each.losts_each in
@@ -445,20 +497,23 @@ drops_all old new at amounts before after none made (measures, can, (notes, writ
     )
 
 drops_not : (old new : KeptGame) (at amounts : List ℕ) (before after : Measures) → AsksNone before
-    → (fault : CallFault) → MeasuresEach old new at amounts before after (Err fault)
+    → (fault : CallFault) → MeasuresEach old new at amounts false [] before after (Err fault)
     → DropsEach old new at amounts before.rows after.rows (Err fault)
 drops_not old new at amounts before after none Lengths (same, unwritten, differ) = (
   same,
   ap (λ (m : Measures). m.rows) unwritten,
-  λ rows. differ (record {
-    rows = rows;
-    durations_each = inl none.durations;
-    ends_each = inr (none.ends, none.vertices);
-    times_each = none.times ∙ sym none.vertices;
-  }),
+  λ rows. differ (
+    record {
+      rows = rows;
+      durations_each = inl none.durations;
+      ends_each = inr (none.ends, none.vertices);
+      times_each = none.times ∙ sym none.vertices;
+    },
+    inl refl,
+  ),
 )
 drops_not old new at amounts before after none (Stopped i) (measures, can, stops) = (
-  measures.rows,
+  measures.0.rows,
   can,
   elim stops [
     | inl (zero, unwritten, halts) ↦ inl (zero, ap (λ (m : Measures). m.rows) unwritten, halts)
@@ -477,16 +532,18 @@ drops_not old new at amounts before after none (Stopped i) (measures, can, stops
   ],
 )
 drops_not old new at amounts before after none fault told =
-    (told.0, ap (λ (m : Measures). m.rows) told.1, told.2.rows, told.3)
+    (told.0, ap (λ (m : Measures). m.rows) told.1, told.2.0.rows, told.3)
 
 pub drops_ok : (old new : KeptGame) (at amounts : List ℕ) (before after : Measures) → AsksNone before
-    → (told : Result ℕ CallFault) (made : ℕ) → told ≡ Ok made → MeasuresEach old new at amounts before after told
+    → (told : Result ℕ CallFault) (made : ℕ) → told ≡ Ok made
+    → MeasuresEach old new at amounts false [] before after told
     → DropsEach old new at amounts before.rows after.rows (Ok tt)
 drops_ok old new at amounts before after none told made is each =
     drops_all old new at amounts before after none made (rw is at each)
 
 pub drops_err : (old new : KeptGame) (at amounts : List ℕ) (before after : Measures) → AsksNone before
-    → (told : Result ℕ CallFault) (fault : CallFault) → told ≡ Err fault → MeasuresEach old new at amounts before after told
+    → (told : Result ℕ CallFault) (fault : CallFault) → told ≡ Err fault
+    → MeasuresEach old new at amounts false [] before after told
     → DropsEach old new at amounts before.rows after.rows (Err fault)
 drops_err old new at amounts before after none told fault is each =
     drops_not old new at amounts before after none fault (rw is at each)

@@ -1,7 +1,8 @@
 -- What is measured of drops on a kept pile, and what is written of it.
-use Rattle.std.specs.Prelude.{◌≡◌, ◌⊎◌, ℕ, ◌+◌, ◌<◌, Bool, true, not, ◌==◌, List, [], ◌∷◌, ◌++◌, length, map, take, drop, slice_index}
+use Rattle.std.specs.Prelude.{◌≡◌, ◌⊎◌, ℕ, ◌+◌, ◌<◌, Bool, true, not, ◌&&◌, ◌==◌, bit_and, IsTrue}
+use Rattle.std.specs.Prelude.{List, [], ◌∷◌, ◌++◌, length, map, take, drop, slice_index}
 use Rattle.std.specs.Prelude.{Option, Some, None, Result, Ok, Err}
-use Rattle.std.specs.List.{flat_map}
+use Rattle.std.specs.List.{flat_map, list_any}
 use Rattle.chip_graph.specs.Multigraph.{Multigraph}
 use Rattle.chip_fire.specs.declared.avalanche.Measured.{Measured}
 use Rattle.chip_fire.specs.declared.pile.Pile.{Pile}
@@ -69,6 +70,16 @@ pub record Measures : Type 0 where
   pub vertices : List ℕ
   pub times : List ℕ
 
+-- the same, by the slices of a call
+abbrev pub measures_of : (sizes extents losts durations ends vertices times : List ℕ) → Measures
+measures_of sizes extents losts durations ends vertices times = record {
+  rows = record { sizes = sizes; extents = extents; losts = losts };
+  durations = durations;
+  ends = ends;
+  vertices = vertices;
+  times = times;
+}
+
 -- whether durations are asked for
 abbrev pub is_timed : Measures → Bool
 is_timed m = not (length m.durations == 0)
@@ -79,6 +90,10 @@ pub record AreMeasures (at amounts : List ℕ) (m : Measures) : Type 0 where
   pub durations_each : (length m.durations ≡ 0) ⊎ (length m.durations ≡ length at)
   pub ends_each : (length m.ends ≡ length at) ⊎ ((length m.ends ≡ 0) × (length m.vertices ≡ 0))
   pub times_each : length m.times ≡ length m.vertices
+
+-- also, there is one mark per vertex, or none
+abbrev pub AreAsked : Multigraph → (at amounts marks : List ℕ) → Measures → Type 0
+AreAsked G at amounts marks m = AreMeasures at amounts m × ((length marks ≡ 0) ⊎ (length marks ≡ G.vertices))
 
 -- the vertices that fired, drop after drop
 abbrev pub fired_in : List Noted → List ℕ
@@ -112,45 +127,72 @@ with_notes notes m = record {
 abbrev pub IsFull : Multigraph → Measures → List Noted → Type 0
 IsFull G m notes = (0 < length m.ends) × (length m.vertices < length (fired_in notes) + G.vertices)
 
--- the first drops were made, each with room before it, and what is asked for of them is written
-pub record AreWritten (old new : KeptGame) (at amounts : List ℕ) (before after : Measures) (notes : List Noted) : Type 0 where
+-- whether one of these vertices has this bit in its mark
+abbrev pub fires_marked : (marks : List ℕ) → (bit : ℕ) → (vertices : List ℕ) → Bool
+fires_marked marks bit vertices = list_any (λ v. not (bit_and (slice_index marks v) bit == 0)) vertices
+
+-- whether one has the first bit, and one the other
+abbrev pub fires_both : (marks : List ℕ) → (bit other : ℕ) → (vertices : List ℕ) → Bool
+fires_both marks bit other vertices = fires_marked marks bit vertices && fires_marked marks other vertices
+
+-- a drop ends the run: it loses a chip, if `loses`; or fires a vertex with bit 1, or some with 2 and 4, or 8 and 16
+abbrev pub EndsRun : (loses : Bool) → (marks : List ℕ) → Noted → Type 0
+EndsRun loses marks n = (IsTrue loses × (0 < n.told.1.lost)) ⊎ IsTrue (fires_marked marks 1 n.vertices)
+    ⊎ IsTrue (fires_both marks 2 4 n.vertices) ⊎ IsTrue (fires_both marks 8 16 n.vertices)
+
+-- the last of these drops ends the run
+abbrev pub LastEnds : (Noted → Type 0) → List Noted → Type 0
+LastEnds Ends [] = ⊥
+LastEnds Ends (n ∷ []) = Ends n
+LastEnds Ends (n ∷ m ∷ more) = LastEnds Ends (m ∷ more)
+
+-- no drop is made after these: there is no room for the next one, or the last one ends the run
+abbrev pub IsOver : Multigraph → Measures → (Noted → Type 0) → List Noted → Type 0
+IsOver G m Ends notes = IsFull G m notes ⊎ LastEnds Ends notes
+
+-- the first drops were made, none after one that ends the run, each with room, and what is asked for of them is written
+pub record AreWritten (old new : KeptGame) (at amounts : List ℕ) (Ends : Noted → Type 0) (before after : Measures)
+    (notes : List Noted) : Type 0 where
   pub on : AreOn (told_of notes) (take (length notes) at) (take (length notes) amounts)
   pub measured : AreMeasured old new (is_timed before) notes
   pub written : after ≡ with_notes notes before
-  pub room : (i : ℕ) → i < length notes → IsFull old.pile.game.graph before (take i notes) → ⊥
+  pub going : (i : ℕ) → i < length notes → IsOver old.pile.game.graph before Ends (take i notes) → ⊥
 
--- this number of drops was made: all, or there is no room before the next one
-abbrev pub MakesSome : (old new : KeptGame) → (at amounts : List ℕ) → (before after : Measures) → ℕ → Type 0
-MakesSome old new at amounts before after made =
-    (notes : List Noted) × AreWritten old new at amounts before after notes × (length notes ≡ made)
-    × ((made ≡ length at) ⊎ ((made < length at) × IsFull old.pile.game.graph before notes))
+-- this number of drops was made: all, or there is no room before the next one, or the last one ends the run
+abbrev pub MakesSome : (old new : KeptGame) → (at amounts : List ℕ) → (Noted → Type 0) → (before after : Measures) → ℕ
+    → Type 0
+MakesSome old new at amounts Ends before after made =
+    (notes : List Noted) × AreWritten old new at amounts Ends before after notes × (length notes ≡ made)
+    × ((made ≡ length at) ⊎ ((made < length at) × IsOver old.pile.game.graph before Ends notes))
 
--- the limit stopped the play of drop i, for which there was room; the drops before it were made
-abbrev pub StopsMeasure : (old new : KeptGame) → (at amounts : List ℕ) → (before after : Measures) → ℕ → Type 0
-StopsMeasure old new at amounts before after i =
-    (notes : List Noted) × (k : KeptGame) × AreWritten old k at amounts before after notes × (length notes ≡ i)
-    × (i < length at) × (IsFull old.pile.game.graph before notes → ⊥)
+-- the limit stopped the play of drop i, which was to be made; the drops before it were made
+abbrev pub StopsMeasure : (old new : KeptGame) → (at amounts : List ℕ) → (Noted → Type 0) → (before after : Measures)
+    → ℕ → Type 0
+StopsMeasure old new at amounts Ends before after i =
+    (notes : List Noted) × (k : KeptGame) × AreWritten old k at amounts Ends before after notes × (length notes ≡ i)
+    × (i < length at) × (IsOver old.pile.game.graph before Ends notes → ⊥)
     × DropsOnStable k new (slice_index at i) (slice_index amounts i) None
 
 -- what drops that can fall return on a stable pile: the number made; or the limit stops one
-abbrev pub MeasuresSome : (old new : KeptGame) → (at amounts : List ℕ) → (before after : Measures) → Result ℕ CallFault
-    → Type 0
-MeasuresSome old new at amounts before after (Ok made) = MakesSome old new at amounts before after made
-MeasuresSome old new at amounts before after (Err fault) =
-    (i : ℕ) × (fault ≡ Stopped i) × StopsMeasure old new at amounts before after i
+abbrev pub MeasuresSome : (old new : KeptGame) → (at amounts : List ℕ) → (Noted → Type 0) → (before after : Measures)
+    → Result ℕ CallFault → Type 0
+MeasuresSome old new at amounts Ends before after (Ok made) = MakesSome old new at amounts Ends before after made
+MeasuresSome old new at amounts Ends before after (Err fault) =
+    (i : ℕ) × (fault ≡ Stopped i) × StopsMeasure old new at amounts Ends before after i
 
--- what measuring many drops on a pile returns: the number made, all or up to one without room; or the first fault: of
--- the lengths, else of the first drop that cannot fall, and nothing changes; else the limit stops the play before the
--- drops, and nothing is dropped, or the play of one of them
-abbrev pub MeasuresEach : (old new : KeptGame) → (at amounts : List ℕ) → (before after : Measures) → Result ℕ CallFault
-    → Type 0
-MeasuresEach old new at amounts before after (Ok made) =
-    AreMeasures at amounts before × CanFall old.pile.game at amounts (length at)
-    × MakesSome old new at amounts before after made
-MeasuresEach old new at amounts before after (Err Lengths) =
-    (new ≡ old) × (after ≡ before) × (AreMeasures at amounts before → ⊥)
-MeasuresEach old new at amounts before after (Err (Stopped i)) =
-    AreMeasures at amounts before × CanFall old.pile.game at amounts (length at)
-    × (((i ≡ 0) × (after ≡ before) × Plays old new (Err (Stopped 0))) ⊎ StopsMeasure old new at amounts before after i)
-MeasuresEach old new at amounts before after (Err fault) = (new ≡ old) × (after ≡ before)
-    × AreMeasures at amounts before × IsFaultOfColumns old.pile.game at amounts fault
+-- what measuring many drops on a pile returns: the number made, all, those before one without room, or those up to one
+-- that ends the run; or the first fault: of the lengths, else of the first drop that cannot fall, and nothing changes;
+-- else the limit stops the play before the drops, and nothing is dropped, or the play of one of them
+abbrev pub MeasuresEach : (old new : KeptGame) → (at amounts : List ℕ) → (loses : Bool) → (marks : List ℕ)
+    → (before after : Measures) → Result ℕ CallFault → Type 0
+MeasuresEach old new at amounts loses marks before after (Ok made) =
+    AreAsked old.pile.game.graph at amounts marks before × CanFall old.pile.game at amounts (length at)
+    × MakesSome old new at amounts (EndsRun loses marks) before after made
+MeasuresEach old new at amounts loses marks before after (Err Lengths) =
+    (new ≡ old) × (after ≡ before) × (AreAsked old.pile.game.graph at amounts marks before → ⊥)
+MeasuresEach old new at amounts loses marks before after (Err (Stopped i)) =
+    AreAsked old.pile.game.graph at amounts marks before × CanFall old.pile.game at amounts (length at)
+    × (((i ≡ 0) × (after ≡ before) × Plays old new (Err (Stopped 0)))
+    ⊎ StopsMeasure old new at amounts (EndsRun loses marks) before after i)
+MeasuresEach old new at amounts loses marks before after (Err fault) = (new ≡ old) × (after ≡ before)
+    × AreAsked old.pile.game.graph at amounts marks before × IsFaultOfColumns old.pile.game at amounts fault

@@ -9,12 +9,12 @@ ghost use Rattle.chip_fire.specs.Measured.{row_vertices, row_times};
 ghost use Rattle.chip_library.specs.Drops.{CanFall, IsFaultOfColumns};
 ghost use Rattle.chip_library.specs.KeptGames.{BeginsGame, MakesPile, PutsChips, Plays, PlaysSome, Drops};
 ghost use Rattle.chip_library.specs.KeptGames.{DropsEach, bytes_on};
-ghost use Rattle.chip_library.specs.Measures.{MeasuresOnStable, MeasuresEach};
+ghost use Rattle.chip_library.specs.Measures.{measures_of, MeasuresOnStable, MeasuresEach};
 
 use crate::edges::EdgeLists;
 use crate::fault::CallFault;
 use crate::game::game_of;
-use crate::measures::{are_measures, make_each};
+use crate::measures::{are_asked, make_each};
 use chip_fire::{Avalanche, Measured, Pile};
 use chip_graph::{Game, GameFault, Graph, MAX_LIMIT, MAX_TOTAL, total_of};
 use core::mem::replace_with;
@@ -222,6 +222,8 @@ impl KeptPile {
             alloc,
             at,
             amounts,
+            false,
+            &[],
             sizes,
             extents,
             losts,
@@ -241,11 +243,17 @@ impl KeptPile {
     /// `durations` gets the number of rounds of each avalanche; in a round each legal vertex fires once. `vertices`
     /// gets the vertices that fired and `times` how often, drop after drop; `ends` gets where those of each drop end.
     /// Stops before a drop if `vertices` has less room left than the graph has vertices.
+    ///
+    /// Stops after the first drop that ends the run: that loses a chip, if `loses` is true; that fires a vertex with
+    /// bit 1 in its mark; or that fires one with bit 2 and one with bit 4, or one with bit 8 and one with bit 16.
+    /// `marks` has one number per vertex, or is empty.
     pub fn measure_each(
         &mut self,
         alloc: Global,
         at: &[u64],
         amounts: &[u64],
+        loses: bool,
+        marks: &[u64],
         sizes: &mut [u64],
         extents: &mut [u64],
         losts: &mut [u64],
@@ -254,24 +262,12 @@ impl KeptPile {
         vertices: &mut [u64],
         times: &mut [u64],
     ) -> Result<u64, CallFault>
-        ensures { MeasuresEach self.old self.new at.now amounts.now
-            (record {
-              rows = record { sizes = sizes.old; extents = extents.old; losts = losts.old };
-              durations = durations.old;
-              ends = ends.old;
-              vertices = vertices.old;
-              times = times.old;
-            })
-            (record {
-              rows = record { sizes = sizes.new; extents = extents.new; losts = losts.new };
-              durations = durations.new;
-              ends = ends.new;
-              vertices = vertices.new;
-              times = times.new;
-            }) result }
+        ensures { MeasuresEach self.old self.new at.now amounts.now loses marks.now
+            (measures_of sizes.old extents.old losts.old durations.old ends.old vertices.old times.old)
+            (measures_of sizes.new extents.new losts.new durations.new ends.new vertices.new times.new) result }
     {
-        if !are_measures(
-            at, amounts, sizes, extents, losts, durations, ends, vertices, times,
+        if !are_asked(
+            self, at, amounts, marks, sizes, extents, losts, durations, ends, vertices, times,
         ) {
             return Err(CallFault::Lengths);
         }
@@ -280,7 +276,8 @@ impl KeptPile {
         }
         replace_with(self, alloc, KeptPile::play)?;
         make_each(
-            alloc, self, at, amounts, sizes, extents, losts, durations, ends, vertices, times,
+            alloc, self, at, amounts, loses, marks, sizes, extents, losts, durations, ends,
+            vertices, times,
         )
     }
 

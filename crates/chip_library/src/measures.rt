@@ -1,12 +1,13 @@
 //! Many drops on a kept pile, and what is written of them.
 
-ghost use Rattle.std.specs.Prelude.{◌≡◌, ◌↔◌, ◌+◌, ◌<◌, ◌≤◌, ◌++◌, length, take, drop, sum, slice_set, IsTrue, MatchBool, Ok};
+ghost use Rattle.std.specs.Prelude.{◌≡◌, ◌↔◌, ℕ, ◌+◌, ◌<◌, ◌≤◌, ◌++◌, length, take, drop, sum, slice_index, slice_set, IsTrue, MatchBool, Ok};
 ghost use Rattle.chip_graph.specs.Limits.{max_total};
 ghost use Rattle.chip_fire.specs.Measured.{row_vertices, row_times};
 ghost use Rattle.chip_library.specs.declared.kept.PileState.TheVariants.{Stable};
 ghost use Rattle.chip_library.specs.Drops.{CanFall};
 ghost use Rattle.chip_library.specs.KeptGames.{Plays};
-ghost use Rattle.chip_library.specs.Measures.{AreMeasures, MeasuresOnStable, MeasuresSome};
+ghost use Rattle.chip_library.specs.Measures.{measures_of, AreMeasures, AreAsked, MeasuresOnStable, MeasuresSome};
+ghost use Rattle.chip_library.specs.Measures.{noted_on, fires_marked, fires_both, EndsRun};
 
 use crate::drops::are_rows;
 use crate::fault::CallFault;
@@ -15,8 +16,31 @@ use chip_fire::Measured;
 use core::mem::replace_with;
 use std::alloc::Global;
 
+/// Whether the columns have one number per drop, or none where that is allowed, and the marks one per vertex, or none.
+pub(crate) fn are_asked(
+    kept: &KeptPile,
+    at: &[u64],
+    amounts: &[u64],
+    marks: &[u64],
+    sizes: &[u64],
+    extents: &[u64],
+    losts: &[u64],
+    durations: &[u64],
+    ends: &[u64],
+    vertices: &[u64],
+    times: &[u64],
+) -> bool
+    ensures { IsTrue result ↔ AreAsked kept.now.pile.game.graph at.now amounts.now marks.now
+        (measures_of sizes.now extents.now losts.now durations.now ends.now vertices.now times.now) }
+{
+    (marks.is_empty() || marks.len() as u64 == kept.game().graph().vertices())
+        && are_measures(
+            at, amounts, sizes, extents, losts, durations, ends, vertices, times,
+        )
+}
+
 /// Whether the columns have one number per drop, or none where that is allowed.
-pub(crate) fn are_measures(
+fn are_measures(
     at: &[u64],
     amounts: &[u64],
     sizes: &[u64],
@@ -27,13 +51,8 @@ pub(crate) fn are_measures(
     vertices: &[u64],
     times: &[u64],
 ) -> bool
-    ensures { IsTrue result ↔ AreMeasures at.now amounts.now (record {
-      rows = record { sizes = sizes.now; extents = extents.now; losts = losts.now };
-      durations = durations.now;
-      ends = ends.now;
-      vertices = vertices.now;
-      times = times.now;
-    }) }
+    ensures { IsTrue result ↔ AreMeasures at.now amounts.now
+        (measures_of sizes.now extents.now losts.now durations.now ends.now vertices.now times.now) }
 {
     are_rows(at, amounts, sizes, extents, losts)
         && (durations.is_empty() || durations.len() == at.len())
@@ -41,13 +60,15 @@ pub(crate) fn are_measures(
         && times.len() == vertices.len()
 }
 
-/// Makes drops that can fall on a stable pile, in order, until the limit stops one or there is no room for every vertex
-/// once more. Returns the number of drops made.
+/// Makes drops that can fall on a stable pile, in order, until the limit stops one, there is no room for every vertex
+/// once more, or a drop ends the run. Returns the number of drops made.
 pub(crate) fn make_each(
     alloc: Global,
     kept: &mut KeptPile,
     at: &[u64],
     amounts: &[u64],
+    loses: bool,
+    marks: &[u64],
     sizes: &mut [u64],
     extents: &mut [u64],
     losts: &mut [u64],
@@ -57,34 +78,18 @@ pub(crate) fn make_each(
     times: &mut [u64],
 ) -> Result<u64, CallFault>
     requires played { Plays kept.old kept.old (Ok tt) }
-    requires measures { AreMeasures at.now amounts.now (record {
-      rows = record { sizes = sizes.old; extents = extents.old; losts = losts.old };
-      durations = durations.old;
-      ends = ends.old;
-      vertices = vertices.old;
-      times = times.old;
-    }) }
+    requires measures { AreMeasures at.now amounts.now
+        (measures_of sizes.old extents.old losts.old durations.old ends.old vertices.old times.old) }
     requires can_fall { CanFall kept.old.pile.game at.now amounts.now (length at.now) }
-    ensures { MeasuresSome kept.old kept.new at.now amounts.now
-        (record {
-          rows = record { sizes = sizes.old; extents = extents.old; losts = losts.old };
-          durations = durations.old;
-          ends = ends.old;
-          vertices = vertices.old;
-          times = times.old;
-        })
-        (record {
-          rows = record { sizes = sizes.new; extents = extents.new; losts = losts.new };
-          durations = durations.new;
-          ends = ends.new;
-          vertices = vertices.new;
-          times = times.new;
-        }) result }
+    ensures { MeasuresSome kept.old kept.new at.now amounts.now (EndsRun loses marks.now)
+        (measures_of sizes.old extents.old losts.old durations.old ends.old vertices.old times.old)
+        (measures_of sizes.new extents.new losts.new durations.new ends.new vertices.new times.new) result }
 {
     let timed = !durations.is_empty();
     let mut end = 0usize;
+    let mut is_over = false;
     for drop in 0..at.len() {
-        if lacks_room(kept, end, ends, vertices) {
+        if is_over || lacks_room(kept, end, ends, vertices) {
             return Ok(drop as u64);
         }
         let falls = (alloc, at[drop], amounts[drop], timed);
@@ -96,6 +101,7 @@ pub(crate) fn make_each(
         losts[drop] = measured.avalanche.lost;
         write_if_any(durations, drop, measured.duration);
         end = write_row(kept, drop, end, ends, vertices, times);
+        is_over = ends_run(kept, &measured, loses, marks);
     }
     Ok(at.len() as u64)
 }
@@ -109,6 +115,50 @@ fn one_drop(kept: KeptPile, falls: (Global, u64, u64, bool)) -> (KeptPile, Optio
 {
     let (alloc, vertex, count, timed) = falls;
     kept.measure_on_stable(alloc, vertex, count, timed)
+}
+
+/// Whether the last drop, with these measures, ends the run.
+fn ends_run(kept: &KeptPile, measured: &Measured, loses: bool, marks: &[u64]) -> bool
+    requires { kept.now.state ≡ Stable }
+    ensures { (v count : ℕ) → MatchBool result
+        (EndsRun loses marks.now (noted_on kept.now.pile v count measured.now))
+        (EndsRun loses marks.now (noted_on kept.now.pile v count measured.now) → ⊥) }
+{
+    if loses && measured.avalanche.lost > 0 {
+        return true;
+    }
+    let vertices = kept.row_vertices();
+    fires_marked(marks, 1, vertices)
+        || fires_both(marks, 2, 4, vertices)
+        || fires_both(marks, 8, 16, vertices)
+}
+
+/// Whether one of these vertices has the first bit in its mark, and one the other.
+fn fires_both(marks: &[u64], bit: u64, other: u64, vertices: &[u64]) -> bool
+    ensures { result ≡ fires_both marks.now bit other vertices.now }
+{
+    fires_marked(marks, bit, vertices) && fires_marked(marks, other, vertices)
+}
+
+/// Whether one of these vertices has this bit in its mark.
+fn fires_marked(marks: &[u64], bit: u64, vertices: &[u64]) -> bool
+    ensures { result ≡ fires_marked marks.now bit vertices.now }
+{
+    !marks.is_empty()
+        && vertices
+            .iter()
+            .any(|vertex| mark_of(marks, *vertex) & bit != 0)
+}
+
+/// The mark of a vertex, or 0 if it has none.
+fn mark_of(marks: &[u64], vertex: u64) -> u64
+    ensures { result ≡ slice_index marks.now vertex }
+{
+    if vertex < marks.len() as u64 {
+        marks[vertex as usize]
+    } else {
+        0
+    }
 }
 
 /// Whether the caller asks what fires, and there is no room for all vertices after `end`.

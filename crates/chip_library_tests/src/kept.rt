@@ -226,8 +226,8 @@ fn all_of(numbers: &[u64]) -> u64 {
 /// A heap played by a work list and rounds, and one for which counts are searched.
 #[test]
 fn heaps_in_portions(rt: HostRuntime) {
-    expect_portions(&rt, 30, 1, 3);
-    expect_portions(&rt, 30, 1000, 2);
+    expect_portions(&rt, 60, 1, 3);
+    expect_portions(&rt, 60, 1000, 2);
     expect_portions(&rt, 2000, 1, 100);
     expect_portions(&rt, 2000, 1 << 16, 2);
     expect_portions(&rt, 20_000, 1, 3);
@@ -272,6 +272,8 @@ fn measures_of_drops(rt: HostRuntime) {
         rt.alloc(),
         &[0, 2, 0],
         &[1, 1, 5],
+        false,
+        &[],
         &mut sizes,
         &mut extents,
         &mut losts,
@@ -297,6 +299,8 @@ fn no_room_for_a_drop(rt: HostRuntime) {
         rt.alloc(),
         &[0, 0],
         &[1, 5],
+        false,
+        &[],
         &mut sizes,
         &mut extents,
         &mut losts,
@@ -312,6 +316,8 @@ fn no_room_for_a_drop(rt: HostRuntime) {
         rt.alloc(),
         &[2, 0],
         &[1, 5],
+        false,
+        &[],
         &mut sizes,
         &mut extents,
         &mut losts,
@@ -321,4 +327,36 @@ fn no_room_for_a_drop(rt: HostRuntime) {
         &mut [],
     );
     assert!(&rt; told == Err(CallFault::Stopped(1)) && durations == [0, 7] && sizes == [0, 7]);
+}
+
+/// Of three drops the second fires 0 and 1, and loses chips: how many are made, if these end the run.
+fn expect_made(rt: &(impl AllocGlobal + Abort), loses: bool, marks: &[u64], made: u64) {
+    let lists = TRIANGLE.edges();
+    let mut kept = KeptPile::new(rt.alloc(), lists, LARGEST, &[1, 1, 0]).expect(rt, "a pile");
+    let (mut sizes, mut extents, mut losts) = ([7; 3], [7; 3], [7; 3]);
+    let told = kept.measure_each(
+        rt.alloc(),
+        &[2, 0, 2],
+        &[1, 1, 1],
+        loses,
+        marks,
+        &mut sizes,
+        &mut extents,
+        &mut losts,
+        &mut [],
+        &mut [],
+        &mut [],
+        &mut [],
+    );
+    assert!(rt; told == Ok(made), "{:?}", told);
+}
+
+#[test]
+fn ends_of_runs(rt: HostRuntime) {
+    expect_made(&rt, false, &[], 3);
+    expect_made(&rt, true, &[], 2);
+    expect_made(&rt, false, &[0, 3, 0], 2);
+    expect_made(&rt, false, &[2, 4, 0], 2);
+    expect_made(&rt, false, &[8, 16, 0], 2);
+    expect_made(&rt, false, &[2, 16, 5], 3);
 }

@@ -1,6 +1,6 @@
 //! Games worked out by hand, and each call once. What holds for all inputs stands in the contracts.
 
-ghost use Rattle.chip_sequence.specs.Sittings.{IsResumed};
+ghost use Rattle.chip_sequence.specs.Stages.{IsResumed};
 
 use crate::games::{Rows, TRIANGLE, game_of, graph_of, triangle};
 use chip_fire::{Play, ResumeFault, Search, Watch, plain, plain_watched, resume, resume_watched};
@@ -246,7 +246,7 @@ fn one_chip_more_on_a_long_path(rt: HostRuntime) {
 /// It sets off so many that rounds go on.
 #[test]
 fn one_chip_more_far_from_the_ends(rt: HostRuntime) {
-    expect_one_more(&rt, 200, true);
+    expect_one_more(&rt, 1_000, true);
 }
 
 /// The side of a grid whose borders lose chips to the sink.
@@ -300,7 +300,7 @@ fn few_chips_more_on_a_full_grid(rt: HostRuntime) {
 }
 
 /// The first stage of a play.
-fn first_sitting(rt: &(impl AllocGlobal + Abort), game: &Game) -> Resumed
+fn first_stage(rt: &(impl AllocGlobal + Abort), game: &Game) -> Resumed
     ensures { IsResumed result }
 {
     let outcome = plain(rt.alloc(), game).expect(rt, "memory");
@@ -310,15 +310,12 @@ fn first_sitting(rt: &(impl AllocGlobal + Abort), game: &Game) -> Resumed
 /// At first each vertex may fire once, and then as often as it can: the counts add up to those of one stage, and are
 /// searched as in one.
 #[test]
-fn a_long_path_in_two_sittings(rt: HostRuntime) {
-    let first = first_sitting(&rt, &long_game(&rt, 1));
+fn a_long_path_in_two_stages(rt: HostRuntime) {
+    let first = first_stage(&rt, &long_game(&rt, 1));
     assert!(rt; first.outcome.over.as_slice() == [511].as_slice());
     let path = Box::into_inner(path(&rt, 1_023));
     let mut told = Told::nothing();
-    let last = resume_watched(rt.alloc(), path, &first, 1 << 40, &mut told).expect(
-        &rt,
-        "a sitting",
-    );
+    let last = resume_watched(rt.alloc(), path, &first, 1 << 40, &mut told).expect(&rt, "a stage");
     assert!(rt; last.prior.get(511).copied() == Some(1));
     assert!(rt; last.outcome.fired.get(511).copied() == Some(268_304_639));
     long_path_ends(&rt, &last.outcome);
@@ -335,8 +332,8 @@ pub(crate) struct Told {
     pub(crate) rounds: u64,
     firings: u64,
     pub(crate) searches: u64,
-    /// How many looks at each vertex and edge the search made and the play beside it.
-    pub(crate) looks: u64,
+    /// How many visits at each vertex and edge the search made and the play beside it.
+    pub(crate) visits: u64,
     /// The least and the greatest number of chips that were still to move while a search went on.
     pub(crate) least_to_move: u64,
     pub(crate) most_to_move: u64,
@@ -350,7 +347,7 @@ impl Told {
             rounds: 0,
             firings: 0,
             searches: 0,
-            looks: 0,
+            visits: 0,
             least_to_move: u64::MAX,
             most_to_move: 0,
         }
@@ -379,7 +376,7 @@ impl Watch for Told {
         let all = graph.vertices() + graph.edges().len() as u64;
         self.searches = self.searches.saturating_add(1);
         let played = alone.saturating_add(beside);
-        self.looks = played.saturating_add(searched) / all.max(1);
+        self.visits = played.saturating_add(searched) / all.max(1);
     }
 }
 
@@ -476,7 +473,7 @@ fn go_on(
     ensures { IsResumed result }
 {
     let graph = Box::into_inner(triangle(rt));
-    let resumed = resume(rt.alloc(), graph, earlier, limit).expect(rt, "a sitting");
+    let resumed = resume(rt.alloc(), graph, earlier, limit).expect(rt, "a stage");
     assert!(rt; resumed.outcome.fired.as_slice() == fired);
     assert!(rt; resumed.outcome.chips.as_slice() == chips);
     assert!(rt; resumed.prior.as_slice() == prior);
@@ -487,11 +484,11 @@ fn go_on(
 fn five_chips(rt: &(impl AllocGlobal + Abort)) -> Resumed
     ensures { IsResumed result }
 {
-    first_sitting(rt, &game_of(rt, TRIANGLE, &[5, 0, 0], 2))
+    first_stage(rt, &game_of(rt, TRIANGLE, &[5, 0, 0], 2))
 }
 
 #[test]
-fn three_sittings(rt: HostRuntime) {
+fn three_stages(rt: HostRuntime) {
     let first = five_chips(&rt);
     let second = go_on(&rt, &first, 0, &[0, 0, 0], &[2, 0, 3], &[2, 1, 0]);
     assert!(rt; second.outcome.over.as_slice() == [0].as_slice());
@@ -501,7 +498,7 @@ fn three_sittings(rt: HostRuntime) {
 
 /// The second stage is reported once, and its one round, in which vertex 0 fires.
 #[test]
-fn a_watched_sitting(rt: HostRuntime) {
+fn a_watched_stage(rt: HostRuntime) {
     let first = five_chips(&rt);
     let mut told = Told::nothing();
     let graph = Box::into_inner(triangle(&rt));

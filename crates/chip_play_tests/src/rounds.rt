@@ -70,13 +70,13 @@ fn rounds_up_to_the_limit(rt: HostRuntime) {
 }
 
 /// If the first vertex of a path with one chip each has one more, each vertex fires once: in as many turns as it has
-/// vertices, since a turn has no more looks than 16. On the triangle no vertex is few, and nothing is done.
+/// vertices, since a turn has no more visits than 16. On the triangle no vertex is few, and nothing is done.
 #[test]
 fn work_lists(rt: HostRuntime) {
     let game = one_more(&rt, 1);
     let mut play = Play::new(rt.alloc(), &game).expect(&rt, "memory");
-    let mut looks = 0u64;
-    play.work_off_few(rt.alloc(), 16 * END, &mut looks)
+    let mut visits = 0u64;
+    play.work_off_few(rt.alloc(), 16 * END, &mut visits)
         .expect(&rt, "memory");
     assert!(rt;
         play.fired
@@ -84,10 +84,10 @@ fn work_lists(rt: HostRuntime) {
             .take(END as usize)
             .all(|times| *times == 1)
     );
-    assert!(rt; END <= looks && looks <= 16 * END);
+    assert!(rt; END <= visits && visits <= 16 * END);
     let game = game_of(&rt, TRIANGLE, &[4, 0, 0], 1 << 40);
     let mut play = Play::new(rt.alloc(), &game).expect(&rt, "memory");
-    play.work_off_few(rt.alloc(), 16, &mut looks)
+    play.work_off_few(rt.alloc(), 16, &mut visits)
         .expect(&rt, "memory");
     assert!(rt;
         play.chips.as_slice() == [4, 0, 0].as_slice()

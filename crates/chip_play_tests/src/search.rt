@@ -1,4 +1,4 @@
-//! Plays that are long without a search of counts: by their looks and rounds, which do not depend on the machine.
+//! Plays that are long without a search of counts: by their visits and rounds, which do not depend on the machine.
 
 use crate::fire::{Told, heap};
 use crate::games::graph_of;
@@ -46,9 +46,9 @@ fn heaps_on_a_long_path(rt: HostRuntime) {
         let game = heap(&rt, LAST, chips, 1 << 40);
         let (told, outcome) = Box::into_inner(play(&rt, &game));
         assert!(rt;
-            told.looks < 1_000,
-            "{} looks for {chips} chips",
-            told.looks
+            told.visits < 1_000,
+            "{} visits for {chips} chips",
+            told.visits
         );
         assert!(rt;
             told.rounds < 500,
@@ -108,7 +108,7 @@ fn heaps_on_strips(rt: HostRuntime) {
     for (width, is_grid) in [(2, true), (3, true), (2, false), (4, false)] {
         let game = strip(&rt, width, is_grid);
         let (told, outcome) = Box::into_inner(play(&rt, &game));
-        assert!(rt; told.looks < 1_000, "{} looks", told.looks);
+        assert!(rt; told.visits < 1_000, "{} visits", told.visits);
         assert!(rt; told.rounds < 1_000, "{} rounds", told.rounds);
         assert!(rt; outcome.over.is_empty());
     }

@@ -36,7 +36,7 @@ pub use borrow.Author.Count.{below_more}
 pub use denote.Ref.{Bor}
 pub use Rattle.chip_graph.specs.Limits.{SizeLimits, max_limit, max_total, max_vertices}
 pub use Rattle.chip_sequence.specs.Outcomes.{IsOutcome}
-pub use Rattle.chip_sequence.specs.Sittings.{IsResumed, max_prior}
+pub use Rattle.chip_sequence.specs.Stages.{IsResumed, max_prior}
 pub use Rattle.chip_sequence.specs.declared.outcome.Outcome.{Outcome}
 pub use Rattle.chip_sequence.specs.declared.resumed.Resumed.{Resumed}
 pub use Rattle.chip_report.specs.Laws.{RoundTrip, RoundTripTwo}

@@ -9,7 +9,7 @@ use Rattle.chip_report.proofs.Names.{AreHalted, bool_text, array_text, is_empty,
 use Rattle.chip_report.proofs.Names.{IsReportOf, GrowsForALine, GivesReport, list_at, text_behind_lists, AreReportNumbers, HasNoList}
 use Rattle.chip_report.proofs.Names.{IsReportIn, IsNoReportIn, IsToldBy, content_by_text, text_in, ReportFault}
 use Rattle.chip_report.specs.ReportText.{report_text}
-use Rattle.chip_report.specs.ReportTwo.{IsReportTwoOf, SittingContent, sitting_content}
+use Rattle.chip_report.specs.ReportTwo.{IsReportTwoOf, StageContent, stage_content}
 use Rattle.chip_report.specs.declared.fault.ReportFault.TheVariants as fault
 use Rattle.chip_report.proofs.BracketLemmas.{Part, IsPart, text_of, is_plain, list_at-text_of, not_HasNoList}
 use Rattle.chip_report.proofs.BracketLemmas.{ascii_plain, ascii_text_of}
@@ -25,11 +25,11 @@ abbrev closed_front : Bool → List ℕ
 closed_front closed = codes ",\"closed\":" ++ bool_text closed ++ codes ",\"fired\":"
 
 -- the lists after the vertices that are over
-abbrev last_parts : Bool → SittingContent → List Part
+abbrev last_parts : Bool → StageContent → List Part
 last_parts true t = (codes ",\"prior\":", t.prior) ∷ (codes ",\"sealed\":", t.last.sealed) ∷ []
 last_parts false t = (codes ",\"sealed\":", t.last.sealed) ∷ []
 
-abbrev parts : Bool → SittingContent → List Part
+abbrev parts : Bool → StageContent → List Part
 parts went_on t =
     (codes "{\"chips\":", t.last.chips) ∷ (closed_front (closed_of t.last), t.last.fired)
     ∷ (codes ",\"over\":", t.last.over) ∷ last_parts went_on t
@@ -40,7 +40,7 @@ version true = codes ",\"version\":2}\n"
 version false = codes ",\"version\":1}\n"
 
 -- the report of a stage with these numbers
-abbrev text_by_content : Bool → SittingContent → List ℕ
+abbrev text_by_content : Bool → StageContent → List ℕ
 text_by_content went_on t = text_of (parts went_on t) (version went_on)
 
 regroup : (a b c d e f g h i j k : List ℕ)
@@ -54,7 +54,7 @@ regroup_two : (a b c d e f g h i j k l m : List ℕ)
 regroup_two a b c d e f g h i j k l m = simp append_assoc
 
 -- the numbers of a first stage, whose report says nothing of those before
-abbrev pub first_content : Outcome → SittingContent
+abbrev pub first_content : Outcome → StageContent
 first_content o = record { last = content o; prior = replicate (length o.fired.items) 0 }
 
 in_parts_one : (o : Outcome) → report_text o ≡ text_by_content false (first_content o)
@@ -64,7 +64,7 @@ in_parts_one o =
     (codes ",\"over\":") (array_text o.over.items) (codes ",\"sealed\":") (array_text o.sealed.items)
     (codes ",\"version\":1}\n")
 
-in_parts : (went_on : Bool) (r : Resumed) → text_in went_on r ≡ text_by_content went_on (sitting_content r)
+in_parts : (went_on : Bool) (r : Resumed) → text_in went_on r ≡ text_by_content went_on (stage_content r)
 in_parts true r =
     regroup_two (codes "{\"chips\":") (array_text r.outcome.chips.items) (codes ",\"closed\":")
     (bool_text (is_closed r.outcome)) (codes ",\"fired\":") (array_text r.outcome.fired.items)
@@ -81,8 +81,8 @@ AreOfOutcome t =
     × AreHalted t.over t.sealed (length t.fired)
 
 -- the numbers are those of a stage
-abbrev AreOfSitting : SittingContent → Type 0
-AreOfSitting t = AreOfOutcome t.last × (length t.prior ≡ length t.last.fired) × All (λ n. n ≤ max_prior) t.prior
+abbrev AreOfStage : StageContent → Type 0
+AreOfStage t = AreOfOutcome t.last × (length t.prior ≡ length t.last.fired) × All (λ n. n ≤ max_prior) t.prior
 
 outcome_then : (o : Outcome) → IsOutcome o → AreOfOutcome (content o)
 outcome_then o h = search rules
@@ -103,23 +103,23 @@ pub halted_of_outcome : (o : Outcome) (vertices : ℕ) → length o.fired.items 
     → AreHalted o.over.items o.sealed.items vertices
 halted_of_outcome o vertices e h = rw e at (outcome_then o h).2
 
-sitting_then : (r : Resumed) → IsResumed r → AreOfSitting (sitting_content r)
-sitting_then r h = (outcome_then r.outcome h.outcome_fits, h.prior_each, h.few_before)
+stage_then : (r : Resumed) → IsResumed r → AreOfStage (stage_content r)
+stage_then r h = (outcome_then r.outcome h.outcome_fits, h.prior_each, h.few_before)
 
-sitting_if : (r : Resumed) → AreOfSitting (sitting_content r) → IsResumed r
-sitting_if r h = record { outcome_fits = outcome_if r.outcome h.0; prior_each = h.1; few_before = h.2 }
+stage_if : (r : Resumed) → AreOfStage (stage_content r) → IsResumed r
+stage_if r h = record { outcome_fits = outcome_if r.outcome h.0; prior_each = h.1; few_before = h.2 }
 
 -- ---- the lists that such numbers make
 
 -- numbers that a report lists, at most `most` of each kind
-pub record AreListedAll (most : ℕ) (t : SittingContent) : Type 0 where
+pub record AreListedAll (most : ℕ) (t : StageContent) : Type 0 where
   pub fired : AreReportNumbers most t.last.fired
   pub chips : AreReportNumbers most t.last.chips
   pub over : AreReportNumbers most t.last.over
   pub prior : AreReportNumbers most t.prior
   pub sealed : AreReportNumbers most t.last.sealed
 
-listed : (most : ℕ) (t : SittingContent) → AreOfSitting t → length t.last.fired ≤ most → AreListedAll most t
+listed : (most : ℕ) (t : StageContent) → AreOfStage t → length t.last.fired ≤ most → AreListedAll most t
 listed most t h few =
     let below : length t.last.fired ≤ max_vertices = h.0.0.2 in
     let over = few_below t.last.over (length t.last.fired) h.0.2.0.0 h.0.2.0.1 in
@@ -138,13 +138,13 @@ plain_closed closed = grind arith
 plain_version : (went_on : Bool) → is_plain (version went_on) ≡ true
 plain_version went_on = grind arith
 
-last_are_parts : (went_on : Bool) (most : ℕ) (t : SittingContent) → AreListedAll most t
+last_are_parts : (went_on : Bool) (most : ℕ) (t : StageContent) → AreListedAll most t
     → AllByRecursion (IsPart most) (last_parts went_on t)
 last_are_parts true most t h =
     (record { plain = refl; listed = h.prior }, (record { plain = refl; listed = h.sealed }, tt))
 last_are_parts false most t h = (record { plain = refl; listed = h.sealed }, tt)
 
-are_parts : (went_on : Bool) (most : ℕ) (t : SittingContent) → AreOfSitting t → length t.last.fired ≤ most
+are_parts : (went_on : Bool) (most : ℕ) (t : StageContent) → AreOfStage t → length t.last.fired ≤ most
     → AllByRecursion (IsPart most) (parts went_on t)
 are_parts went_on most t h few =
     let are = listed most t h few in (
@@ -158,8 +158,8 @@ are_parts went_on most t h few =
 -- ---- what a report says
 
 -- the bytes are the report of these numbers
-pub record IsReportBy (went_on : Bool) (bytes : List ℕ) (t : SittingContent) : Type 0 where
-  pub in_range : AreOfSitting t
+pub record IsReportBy (went_on : Bool) (bytes : List ℕ) (t : StageContent) : Type 0 where
+  pub in_range : AreOfStage t
   pub spelled : bytes ≡ text_by_content went_on t
   pub first : went_on ≡ false → t.prior ≡ replicate (length t.last.fired) 0
 
@@ -174,21 +174,21 @@ by_outcome bytes o is = record {
   first = λ _. refl;
 }
 
-pub by_sitting : (bytes : List ℕ) (r : Resumed) → IsReportTwoOf bytes r → IsReportBy true bytes (sitting_content r)
-by_sitting bytes r is = record {
-  in_range = sitting_then r is.reportable;
+pub by_stage : (bytes : List ℕ) (r : Resumed) → IsReportTwoOf bytes r → IsReportBy true bytes (stage_content r)
+by_stage bytes r is = record {
+  in_range = stage_then r is.reportable;
   spelled = is.spelled ∙ in_parts true r;
   first = λ e. absurd (false≢true (sym e));
 }
 
-list_in : (went_on : Bool) (bytes : List ℕ) (t : SittingContent) → IsReportBy went_on bytes t → (k : ℕ)
+list_in : (went_on : Bool) (bytes : List ℕ) (t : StageContent) → IsReportBy went_on bytes t → (k : ℕ)
     → k < length (parts went_on t) → list_at k bytes ≡ (get_or (parts went_on t) k ([], [])).1
 list_in went_on bytes t is k l =
     ap (list_at k) is.spelled
     ∙ list_at-text_of max_vertices (parts went_on t) (version went_on)
     (are_parts went_on max_vertices t is.in_range is.in_range.0.0.2) k l
 
-tells : (went_on : Bool) (bytes : List ℕ) (t : SittingContent) → IsReportBy went_on bytes t
+tells : (went_on : Bool) (bytes : List ℕ) (t : StageContent) → IsReportBy went_on bytes t
     → content_by_text went_on bytes ≡ t
 tells true bytes t is =
     let list = list_in true bytes t is in
@@ -202,21 +202,21 @@ tells false bytes t is =
     let prior = (λ i. replicate (length (fired i)) 0) ∙ sym (is.first refl) in
     λ i. record { last = record { fired = fired i; chips = chips i; over = over i; sealed = seals i }; prior = prior i }
 
-pub that_sitting : (went_on : Bool) (limits : SizeLimits) (bytes : List ℕ) (r : Resumed)
+pub that_stage : (went_on : Bool) (limits : SizeLimits) (bytes : List ℕ) (r : Resumed)
     → IsToldBy went_on limits bytes r → IsResumed r → bytes ≡ text_in went_on r → IsReportIn went_on limits bytes r
-that_sitting true limits bytes r told h e = (record { reportable = h; spelled = e }, told.1)
-that_sitting false limits bytes r told h e = (
+that_stage true limits bytes r told h e = (record { reportable = h; spelled = e }, told.1)
+that_stage false limits bytes r told h e = (
   (record { reportable = h.outcome_fits; spelled = e }, told.1),
-  ap (λ (t : SittingContent). t.prior) told.0
-      ∙ ap (λ (t : SittingContent). replicate (length t.last.fired) 0) (sym told.0),
+  ap (λ (t : StageContent). t.prior) told.0
+      ∙ ap (λ (t : StageContent). replicate (length t.last.fired) 0) (sym told.0),
 )
 
 -- ---- bytes that are no report
 
 none_in : (went_on : Bool) (limits : SizeLimits) (bytes : List ℕ)
-    → ((t : SittingContent) → IsReportBy went_on bytes t → length t.last.fired ≤ limits.vertices → ⊥)
+    → ((t : StageContent) → IsReportBy went_on bytes t → length t.last.fired ≤ limits.vertices → ⊥)
     → IsNoReportIn went_on limits bytes
-none_in true limits bytes none = λ r is. none (sitting_content r) (by_sitting bytes r is.0) is.1
+none_in true limits bytes none = λ r is. none (stage_content r) (by_stage bytes r is.0) is.1
 none_in false limits bytes none = λ o is. none (first_content o) (by_outcome bytes o is.0) is.1
 
 text_ends : (ps : List Part) (end : List ℕ) → (front : List ℕ) × (text_of ps end ≡ front ++ end)
@@ -228,7 +228,7 @@ text_ends (part ∷ ps) end =
       rw rest.1 (sym (append_assoc part.0 (array ++ rest.0) end ∙ rw append_assoc)),
     )
 
-pub report_ends : (went_on : Bool) (bytes : List ℕ) (t : SittingContent) → IsReportBy went_on bytes t
+pub report_ends : (went_on : Bool) (bytes : List ℕ) (t : StageContent) → IsReportBy went_on bytes t
     → (front : List ℕ) × (bytes ≡ front ++ version went_on)
 report_ends went_on bytes t is =
     let end = text_ends (parts went_on t) (version went_on) in (end.0, is.spelled ∙ end.1)
@@ -261,7 +261,7 @@ lists_in false = 4
 pub has_four : (went_on : Bool) (k : ℕ) → k < 4 → k < lists_in went_on
 has_four went_on k l = grind arith
 
-as_many : (went_on : Bool) (t : SittingContent) → length (parts went_on t) ≡ lists_in went_on
+as_many : (went_on : Bool) (t : StageContent) → length (parts went_on t) ≡ lists_in went_on
 as_many went_on t = grind arith
 
 none_without_list : (went_on : Bool) (limits : SizeLimits) (bytes : List ℕ) (k : ℕ) → k < lists_in went_on
@@ -270,12 +270,12 @@ none_without_list went_on limits bytes k l none = none_in went_on limits bytes (
     not_HasNoList limits.vertices (parts went_on t) (version went_on)
     (are_parts went_on limits.vertices t is.in_range fits) k (rw (as_many went_on t) l) (rw is.spelled at none))
 
-pub not_that_sitting : (went_on : Bool) (limits : SizeLimits) (bytes : List ℕ) (found : Resumed)
-    → sitting_content found ≡ content_by_text went_on bytes → (IsResumed found → bytes ≡ text_in went_on found → ⊥)
+pub not_that_stage : (went_on : Bool) (limits : SizeLimits) (bytes : List ℕ) (found : Resumed)
+    → stage_content found ≡ content_by_text went_on bytes → (IsResumed found → bytes ≡ text_in went_on found → ⊥)
     → IsNoReportIn went_on limits bytes
-not_that_sitting went_on limits bytes found e none = none_in went_on limits bytes (λ t is fits.
-    let same : t ≡ sitting_content found = sym (e ∙ tells went_on bytes t is) in
-    none (sitting_if found (rw same at is.in_range))
+not_that_stage went_on limits bytes found e none = none_in went_on limits bytes (λ t is fits.
+    let same : t ≡ stage_content found = sym (e ∙ tells went_on bytes t is) in
+    none (stage_if found (rw same at is.in_range))
     (is.spelled ∙ ap (text_by_content went_on) same ∙ sym (in_parts went_on found)))
 
 -- ---- results that are passed on
@@ -313,13 +313,13 @@ grows_on bytes (Err g) f is grows = λ memory. grows (sym is ∙ memory)
 -- ---- the laws
 
 -- reports of the same bytes in one version have the same numbers
-pub one_content : (went_on : Bool) (bytes : List ℕ) (t u : SittingContent) → IsReportBy went_on bytes t
+pub one_content : (went_on : Bool) (bytes : List ℕ) (t u : StageContent) → IsReportBy went_on bytes t
     → IsReportBy went_on bytes u → t ≡ u
 one_content went_on bytes t u is also = sym (tells went_on bytes t is) ∙ tells went_on bytes u also
 
 pub one_outcome : (o p : Outcome) → IsOutcome o → IsOutcome p → report_text o ≡ report_text p → content o ≡ content p
 one_outcome o p h k e =
-    ap (λ (t : SittingContent). t.last)
+    ap (λ (t : StageContent). t.last)
     (one_content false _ _ _ (by_outcome (report_text o) o (record { reportable = h; spelled = refl }))
     (by_outcome _ p (record { reportable = k; spelled = e })))
 

@@ -5,8 +5,8 @@ use Rattle.chip_report.proofs.Names.{inr, refl, sym, ap, ◌∙◌, arith, appen
 use Rattle.chip_report.proofs.Names.{SizeLimits, Outcome, Resumed, IsResumed, RoundTripTwo, IsReportOf}
 use Rattle.chip_report.proofs.Names.{IsNoReportWithin, GivesReport, IsReportIn, IsNoReportIn, ReportFault}
 use Rattle.chip_report.specs.ReportTwo.{report_two_text, IsReportTwoOf, IsNoReportTwoWithin, IsAnyReportWithin}
-use Rattle.chip_report.specs.ReportTwo.{IsNoReportAtAllWithin, sitting_content}
-use Rattle.chip_report.proofs.ReportLemmas.{version, by_outcome, by_sitting, first_content, report_ends, one_content}
+use Rattle.chip_report.specs.ReportTwo.{IsNoReportAtAllWithin, stage_content}
+use Rattle.chip_report.proofs.ReportLemmas.{version, by_outcome, by_stage, first_content, report_ends, one_content}
 
 ends_differ : (one two : List ℕ) → one ++ version false ≢ two ++ version true
 ends_differ one two e =
@@ -25,7 +25,7 @@ none_before_end bytes front e o is =
 none_without_end : (bytes : List ℕ) → ((front : List ℕ) → bytes ≢ front ++ version true) → (r : Resumed)
     → IsReportTwoOf bytes r → ⊥
 none_without_end bytes none r is =
-    let end = report_ends true bytes (sitting_content r) (by_sitting bytes r is) in none end.0 end.1
+    let end = report_ends true bytes (stage_content r) (by_stage bytes r is) in none end.0 end.1
 
 -- neither the one nor the other
 none_at_all : (limits : SizeLimits) (bytes : List ℕ) → IsNoReportWithin limits bytes
@@ -50,22 +50,22 @@ read_by_end false limits bytes ends none (Err f) (inr (same, none_one)) =
 
 -- ---- the laws
 
-pub one_sitting : (r s : Resumed) → IsResumed r → IsResumed s → report_two_text r ≡ report_two_text s
-    → sitting_content r ≡ sitting_content s
-one_sitting r s h k e =
-    one_content true _ _ _ (by_sitting (report_two_text r) r (record { reportable = h; spelled = refl }))
-    (by_sitting _ s (record { reportable = k; spelled = e }))
+pub one_stage : (r s : Resumed) → IsResumed r → IsResumed s → report_two_text r ≡ report_two_text s
+    → stage_content r ≡ stage_content s
+one_stage r s h k e =
+    one_content true _ _ _ (by_stage (report_two_text r) r (record { reportable = h; spelled = refl }))
+    (by_stage _ s (record { reportable = k; spelled = e }))
 
 pub not_both : (bytes : List ℕ) (o : Outcome) (r : Resumed) → IsReportOf bytes o → IsReportTwoOf bytes r → ⊥
 not_both bytes o r first went_on =
-    let two = report_ends true bytes (sitting_content r) (by_sitting bytes r went_on) in
+    let two = report_ends true bytes (stage_content r) (by_stage bytes r went_on) in
     none_before_end bytes two.0 two.1 o first
 
 pub round_trip_two : RoundTripTwo
 round_trip_two limits r h fits (Ok read) (inl first, few) =
     absurd (not_both (report_two_text r) read.outcome r first.0 (record { reportable = h; spelled = refl }))
 round_trip_two limits r h fits (Ok read) (inr went_on, few) =
-    inl (read, refl, sym (one_sitting r read h went_on.reportable went_on.spelled))
+    inl (read, refl, sym (one_stage r read h went_on.reportable went_on.spelled))
 round_trip_two limits r h fits (Err f) gives = elim gives [
   | inl memory ↦ inr (ap (λ (f : ReportFault). Err f) memory)
   | inr none ↦ absurd (none.1 r (inr (record { reportable = h; spelled = refl }), fits))

@@ -1,8 +1,8 @@
 -- The laws of reports, as the functions of `src/laws.rt` state them.
 use Rattle.std.specs.Prelude.{◌≡◌, ◌⊎◌, ℕ, List, Result, Ok, Err}
 use Rattle.chip_sequence.specs.declared.resumed.Resumed.{Resumed}
-use Rattle.chip_sequence.specs.Sittings.{IsResumed}
-use Rattle.chip_report.specs.ReportTwo.{report_two_text, sitting_content, IsReportTwoOf}
+use Rattle.chip_sequence.specs.Stages.{IsResumed}
+use Rattle.chip_report.specs.ReportTwo.{report_two_text, stage_content, IsReportTwoOf}
 use Rattle.chip_report.specs.ReportTwo.{IsAnyReportWithin, IsNoReportAtAllWithin}
 use Rattle.chip_graph.specs.Limits.{SizeLimits}
 use Rattle.chip_sequence.specs.declared.outcome.Outcome.{Outcome}
@@ -26,9 +26,9 @@ RoundTrip = (limits : SizeLimits) (outcome : Outcome) → IsOutcome outcome → 
     → ((read : Outcome) × (answer ≡ Ok read) × (content read ≡ content outcome)) ⊎ (answer ≡ Err fault.NoMemory)
 
 -- stages with the same report have the same numbers
-abbrev pub OneSitting : Type 0
-OneSitting = (one other : Resumed) → IsResumed one → IsResumed other
-    → report_two_text one ≡ report_two_text other → sitting_content one ≡ sitting_content other
+abbrev pub OneStage : Type 0
+OneStage = (one other : Resumed) → IsResumed one → IsResumed other
+    → report_two_text one ≡ report_two_text other → stage_content one ≡ stage_content other
 
 -- whatever `read_any_within` may return for the report of a later stage that fits in the limits: a stage with the same
 -- numbers, or that memory ran out
@@ -36,7 +36,7 @@ abbrev pub RoundTripTwo : Type 0
 RoundTripTwo = (limits : SizeLimits) (r : Resumed) → IsResumed r → FitsIn limits r.outcome
     → (answer : Result Resumed ReportFault)
     → GivesReport (IsAnyReportWithin limits (report_two_text r)) (IsNoReportAtAllWithin limits (report_two_text r)) answer
-    → ((read : Resumed) × (answer ≡ Ok read) × (sitting_content read ≡ sitting_content r))
+    → ((read : Resumed) × (answer ≡ Ok read) × (stage_content read ≡ stage_content r))
     ⊎ (answer ≡ Err fault.NoMemory)
 
 -- no text is the report both of a first stage and of a later one

@@ -3,7 +3,7 @@
 use Rattle.std.specs.Prelude.{◌≡◌, ◌⊎◌, ℕ, List, ◌++◌, codes, length, replicate}
 use Rattle.chip_graph.specs.Limits.{SizeLimits}
 use Rattle.chip_sequence.specs.declared.resumed.Resumed.{Resumed}
-use Rattle.chip_sequence.specs.Sittings.{IsResumed}
+use Rattle.chip_sequence.specs.Stages.{IsResumed}
 use Rattle.chip_report.specs.ReportText.{array_text, bool_text, is_closed}
 use Rattle.chip_report.specs.Reportable.{Content, content, IsReportOf, FitsIn}
 
@@ -49,10 +49,10 @@ IsNoReportAtAllWithin limits bytes = (r : Resumed) → IsAnyReportWithin limits 
 -- ---- the numbers of a stage
 
 -- the numbers of a stage, without their places in memory
-pub record SittingContent : Type 0 where
+pub record StageContent : Type 0 where
   pub last : Content
   pub prior : List ℕ
 
 -- the numbers that a stage reports
-abbrev pub sitting_content : Resumed → SittingContent
-sitting_content r = record { last = content r.outcome; prior = r.prior.items }
+abbrev pub stage_content : Resumed → StageContent
+stage_content r = record { last = content r.outcome; prior = r.prior.items }

@@ -6,7 +6,7 @@ use Rattle.chip_report.specs.ReportText.{report_text}
 use Rattle.chip_report.specs.Reportable.{IsReportWithin, IsNoReportWithin, FitsIn}
 use Rattle.chip_report.specs.ReportLists.{list_at}
 use Rattle.chip_report.specs.ReportTwo.{report_two_text, IsReportTwoWithin, IsNoReportTwoWithin}
-use Rattle.chip_report.specs.ReportTwo.{SittingContent, sitting_content}
+use Rattle.chip_report.specs.ReportTwo.{StageContent, stage_content}
 
 -- the report of a stage
 abbrev pub text_in : Bool → Resumed → List ℕ
@@ -25,7 +25,7 @@ IsNoReportIn true limits bytes = IsNoReportTwoWithin limits bytes
 IsNoReportIn false limits bytes = IsNoReportWithin limits bytes
 
 -- the numbers of a text, if it is a report
-abbrev pub content_by_text : Bool → List ℕ → SittingContent
+abbrev pub content_by_text : Bool → List ℕ → StageContent
 content_by_text true text = record {
   last = record { fired = list_at 1 text; chips = list_at 0 text; over = list_at 2 text; sealed = list_at 4 text };
   prior = list_at 3 text;
@@ -37,4 +37,4 @@ content_by_text false text = record {
 
 -- the stage has the numbers of a text, and fits in the limits
 abbrev pub IsToldBy : Bool → SizeLimits → List ℕ → Resumed → Type 0
-IsToldBy went_on limits text r = (sitting_content r ≡ content_by_text went_on text) × FitsIn limits r.outcome
+IsToldBy went_on limits text r = (stage_content r ≡ content_by_text went_on text) × FitsIn limits r.outcome

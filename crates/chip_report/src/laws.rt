@@ -1,6 +1,6 @@
 //! The laws of reports: functions without code, whose contracts are the laws.
 
-ghost use Rattle.chip_report.specs.Laws.{OneOutcome, RoundTrip, OneSitting, RoundTripTwo, NotBoth};
+ghost use Rattle.chip_report.specs.Laws.{OneOutcome, RoundTrip, OneStage, RoundTripTwo, NotBoth};
 
 /// A report has one outcome.
 pub fn one_outcome()
@@ -13,8 +13,8 @@ pub fn round_trip()
 {}
 
 /// A report of a later stage has that stage alone, is read back as it, and is no report of a first one.
-pub fn sittings()
-    ensures one_sitting { OneSitting }
+pub fn stages()
+    ensures one_stage { OneStage }
     ensures round_trip { RoundTripTwo }
     ensures not_both { NotBoth }
 {}

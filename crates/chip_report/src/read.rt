@@ -37,7 +37,7 @@ pub fn read_report_within(
 
 /// The stage whose report the bytes are, within the standard limits.
 pub fn read_any(alloc: Global, bytes: &[u8]) -> Result<Resumed, ReportFault>
-    ensures sitting { GivesReport (IsAnyReportWithin standard bytes.now) (IsNoReportAtAllWithin standard bytes.now) result }
+    ensures stage { GivesReport (IsAnyReportWithin standard bytes.now) (IsNoReportAtAllWithin standard bytes.now) result }
     ensures memory { GrowsForALine bytes.now result }
 {
     read_any_within(alloc, Limits::standard(), bytes)
@@ -48,7 +48,7 @@ pub fn read_any(alloc: Global, bytes: &[u8]) -> Result<Resumed, ReportFault>
 ///
 /// Only the report of a later stage ends in version 2, so the bytes are read as one version.
 pub fn read_any_within(alloc: Global, limits: Limits, bytes: &[u8]) -> Result<Resumed, ReportFault>
-    ensures sitting { GivesReport (IsAnyReportWithin limits bytes.now) (IsNoReportAtAllWithin limits bytes.now) result }
+    ensures stage { GivesReport (IsAnyReportWithin limits bytes.now) (IsNoReportAtAllWithin limits bytes.now) result }
     ensures memory { GrowsForALine bytes.now result }
 {
     let went_on = bytes.ends_with(b",\"version\":2}\n");
@@ -65,13 +65,13 @@ fn read_version(
     went_on: bool,
     bytes: &[u8],
 ) -> Result<Resumed, ReportFault>
-    ensures sitting { GivesReport (IsReportIn went_on limits bytes.now) (IsNoReportIn went_on limits bytes.now) result }
+    ensures stage { GivesReport (IsReportIn went_on limits bytes.now) (IsNoReportIn went_on limits bytes.now) result }
     ensures memory { GrowsForALine bytes.now result }
 {
     if !bytes.ends_with(b"\n") {
         return Err(ReportFault::NotReport);
     }
-    let resumed = sitting_of_text(alloc, limits, went_on, bytes)?;
+    let resumed = stage_of_text(alloc, limits, went_on, bytes)?;
     if is_resumed(&resumed) && text_of(alloc, went_on, &resumed)?.as_slice() == bytes {
         Ok(resumed)
     } else {
@@ -91,7 +91,7 @@ fn text_of(alloc: Global, went_on: bool, resumed: &Resumed) -> Result<Vec<u8>, A
 }
 
 /// The stage of a text, if it is a report within the limits. A first one has no list of earlier firings.
-fn sitting_of_text(
+fn stage_of_text(
     alloc: Global,
     limits: Limits,
     went_on: bool,

@@ -3,7 +3,7 @@
 ghost use Rattle.std.specs.Prelude.{◌≡◌, ◌↔◌, true, Contains};
 ghost use Rattle.std.specs.List.Sorted.{IsStrictlyIncreasing};
 ghost use Rattle.chip_sequence.specs.Outcomes.{IsOutcome};
-ghost use Rattle.chip_sequence.specs.Sittings.{IsResumed};
+ghost use Rattle.chip_sequence.specs.Stages.{IsResumed};
 ghost use Rattle.chip_report.specs.OutcomeParts.{AreReportCounts, IsAscendingBelow, AreDisjoint, AreHalted};
 
 use chip_graph::{MAX_LIMIT, MAX_TOTAL, MAX_VERTICES};

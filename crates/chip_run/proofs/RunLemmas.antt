@@ -29,7 +29,7 @@ use Rattle.chip_run.specs.RunCommand.{fault_of_crew, ReportsSome, ReportsSomeRun
 use Rattle.chip_graph.specs.Multigraph.{Multigraph, IsGraph}
 use Rattle.chip_graph.specs.More.{HasMore}
 use Rattle.chip_command.proofs.OneReportLemmas.{one_report, one_game, one_more, plain_reports}
-use Rattle.chip_command.proofs.SittingLemmas.{report_tells}
+use Rattle.chip_command.proofs.StageLemmas.{report_tells}
 use Rattle.chip_run.specs.Laws.{SameBytes, SameBytesFed, RunWrote, RunTellsPlay}
 
 -- what is known of a text is all that follows of it

@@ -9,7 +9,7 @@ use Rattle.chip_core.specs.Laws.{ForEveryLog}
 use Rattle.chip_trace.specs.Interleaving.{IsInterleaving, row_firings}
 use Rattle.chip_command.specs.Inputs.{MeansGame}
 use Rattle.chip_command.specs.OneReport.{PlainWrote}
-use Rattle.chip_command.specs.Sitting.{TellsPlayFrom}
+use Rattle.chip_command.specs.Stage.{TellsPlayFrom}
 use Rattle.chip_command.specs.declared.ended.Ended.{Ended}
 use Rattle.chip_crew.specs.Finished.{IsWhole}
 use Rattle.chip_crew.specs.declared.plan.Plan.{Plan}

@@ -12,7 +12,7 @@ pub fn same_bytes()
 
 /// The report of a run is that of a first stage, which `resume` continues: its counts lead to its chips, from the start
 /// of the game that has all chips at the start, those that were fed too.
-pub fn first_sitting()
+pub fn first_stage()
     ensures { RunTellsPlay }
 {}
 

@@ -9,4 +9,4 @@ pub mod LegalLemmas
 pub mod OutcomeLemmas
 pub mod BatchLemmas
 pub mod AfterLemmas
-pub mod SittingLemmas
+pub mod StageLemmas

@@ -12,5 +12,5 @@ pub mod Worked
 pub mod Play
 pub mod Outcomes
 pub mod Faults
-pub mod Sittings
+pub mod Stages
 pub mod Resume

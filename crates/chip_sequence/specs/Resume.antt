@@ -7,7 +7,7 @@ use Rattle.chip_graph.specs.declared.fault.GameFault.{GameFault}
 use Rattle.chip_graph.specs.declared.fault.GameFault.TheVariants as game_fault
 use Rattle.chip_sequence.specs.declared.resumed.Resumed.{Resumed}
 use Rattle.chip_sequence.specs.Play.{IsPlayed}
-use Rattle.chip_sequence.specs.Sittings.{max_prior, IsResumed, fired_in_all}
+use Rattle.chip_sequence.specs.Stages.{max_prior, IsResumed, fired_in_all}
 use Rattle.chip_sequence.specs.declared.resumed.ResumeFault.{ResumeFault}
 use Rattle.chip_sequence.specs.declared.resumed.ResumeFault.TheVariants.{Mismatch, Total, Limit, Prior, NoMemory}
 

@@ -8,7 +8,7 @@ ghost use Rattle.chip_sequence.specs.Laws.{LegalVertices, PositionByCounts, Batc
 ghost use Rattle.chip_sequence.specs.Laws.{Continuation, ChipsAreKept, FiringBound, Enough, FewFirings, EnoughByDistance};
 ghost use Rattle.chip_sequence.specs.Laws.{AbelianProperty, MoreChips, CertifiedCounts, BurntCounts, FiredBurn, ScriptCounts};
 ghost use Rattle.chip_sequence.specs.Laws.{PlayingOn, EndOfTheWay};
-ghost use Rattle.chip_sequence.specs.Sittings.{SittingsAddUp, PlayedIsSitting};
+ghost use Rattle.chip_sequence.specs.Stages.{StagesAddUp, PlayedIsStage};
 
 /// The game on the smallest graph on which a vertex sends chips back, played by hand.
 pub fn triangle()
@@ -116,7 +116,7 @@ pub fn end_of_the_way()
 {}
 
 /// The stages of a play add up, for every number of stages and whatever stopped each.
-pub fn sittings()
-    ensures add_up { SittingsAddUp }
-    ensures played { PlayedIsSitting }
+pub fn stages()
+    ensures add_up { StagesAddUp }
+    ensures played { PlayedIsStage }
 {}

@@ -18,7 +18,7 @@ pub struct Resumed {
 impl Resumed {
     ghost use Rattle.std.specs.Prelude.{◌≡◌, IfOk, length, replicate};
     ghost use Rattle.chip_sequence.specs.Outcomes.{IsOutcome};
-    ghost use Rattle.chip_sequence.specs.Sittings.{IsResumed};
+    ghost use Rattle.chip_sequence.specs.Stages.{IsResumed};
 
     /// A first stage: nothing was fired before it.
     pub fn first(alloc: Global, outcome: Outcome) -> Result<Resumed, AllocError>

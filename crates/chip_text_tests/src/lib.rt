@@ -15,7 +15,7 @@ mod report;
 #[cfg(test)]
 mod runs;
 #[cfg(test)]
-mod sittings;
+mod stages;
 #[cfg(test)]
 mod trace;
 #[cfg(test)]

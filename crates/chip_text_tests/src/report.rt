@@ -281,8 +281,8 @@ fn a_report_of_one_vertex_too_many(rt: HostRuntime) {
     let read = read_report_within(rt.alloc(), Limits::large(), wider.as_bytes());
     let read = read.expect(&rt, "a report");
     assert!(rt; read.fired.len() == 4_097);
-    let sitting = read_any_within(rt.alloc(), Limits::large(), wider.as_bytes());
-    assert!(rt; sitting.expect(&rt, "a sitting").prior.len() == 4_097);
+    let stage = read_any_within(rt.alloc(), Limits::large(), wider.as_bytes());
+    assert!(rt; stage.expect(&rt, "a stage").prior.len() == 4_097);
 }
 
 /// Writes bytes to a writer that fails at this write, or takes none there, and maybe from there on. The output ends

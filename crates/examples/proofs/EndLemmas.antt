@@ -11,10 +11,10 @@ use Rattle.chip_graph.specs.ChipGame.{ChipGame}
 use Rattle.chip_sequence.specs.Firing.{legal_vertices}
 use Rattle.chip_sequence.specs.Play.{IsPlayed}
 use Rattle.chip_sequence.specs.Resume.{GoesOn, game_from}
-use Rattle.chip_sequence.specs.Sittings.{LeadsTo, IsPlayFrom, fired_in_all}
+use Rattle.chip_sequence.specs.Stages.{LeadsTo, IsPlayFrom, fired_in_all}
 use Rattle.chip_sequence.specs.declared.outcome.Outcome.{Outcome}
 use Rattle.chip_sequence.specs.declared.resumed.Resumed.{Resumed}
-use Rattle.chip_sequence.proofs.SittingLemmas.{leads_both, played_is_sitting}
+use Rattle.chip_sequence.proofs.StageLemmas.{leads_both, played_is_stage}
 use Rattle.chip_fire.specs.Player.{PlaysOut}
 use Rattle.chip_fire.specs.Avalanches.{dropped, IsAvalanche, TellsAvalanche}
 use Rattle.chip_fire.specs.declared.avalanche.Avalanche.{Avalanche}
@@ -26,7 +26,7 @@ use Rattle.chip_link.specs.declared.trace.TraceRow.TheVariants.{Take, Fire}
 use Rattle.chip_command.proofs.OneReportLemmas.{same_numbers}
 use Rattle.chip_library.specs.Batch.{Games, ArePlayed, row, game_at}
 use Rattle.chip_report.specs.ReportText.{is_closed}
-use Rattle.chip_engine.proofs.SittingLemmas.{none_legal}
+use Rattle.chip_engine.proofs.StageLemmas.{none_legal}
 use Rattle.chip_sequence.specs.Firing.{IsStable}
 use Rattle.chip_part.specs.Setting.{Setting, setting_with}
 use Rattle.chip_core.specs.Positions.{firings as firings_in}
@@ -67,7 +67,7 @@ pub goes_on : (G : Multigraph) (earlier later : Resumed) (limit : ℕ) → GoesO
 goes_on G earlier later limit on x before =
     let both = leads_both G x (fired_in_all earlier) (slice_index earlier.outcome.chips.items)
     (slice_index later.outcome.fired.items) (slice_index later.outcome.chips.items) before
-    (played_is_sitting (game_from G earlier limit) later.outcome on.played) in
+    (played_is_stage (game_from G earlier limit) later.outcome on.played) in
     subst (λ (f : ℕ → ℕ). LeadsTo G x f (slice_index later.outcome.chips.items))
     (λ i v. ap (λ (n : ℕ). n + slice_index later.outcome.fired.items v) (sym (on.prior v)) i) both
 

@@ -7,7 +7,7 @@ use Rattle.chip_group.specs.Recurrent.{IsRecurrent, AreEquivalent, IsIdentity}
 use Rattle.chip_file.specs.ChipsText.{text_of_chips}
 use Rattle.chip_file.specs.GraphText.{MeansGraph}
 use Rattle.chip_sequence.specs.Sequence.{position_after, IsFiringSequence, counts, HasEnded, IsWithin, IsWholePlay}
-use Rattle.chip_sequence.specs.Sittings.{fired_in_all}
+use Rattle.chip_sequence.specs.Stages.{fired_in_all}
 use Rattle.chip_sequence.specs.declared.outcome.Outcome.{Outcome}
 use Rattle.chip_sequence.specs.declared.resumed.Resumed.{Resumed}
 use Rattle.chip_fire.specs.Avalanches.{dropped, Tells}

@@ -4,7 +4,7 @@ ghost use Rattle.std.specs.Prelude.{◌≡◌, ℕ, ◌+◌, ◌<◌, ◌≤◌,
 ghost use Rattle.chip_graph.specs.Limits.{max_total};
 ghost use Rattle.chip_graph.specs.ChipGame.{IsGame};
 ghost use Rattle.chip_sequence.specs.Counted.{game_from};
-ghost use Rattle.chip_sequence.specs.Sittings.{IsResumed, IsPlayFrom};
+ghost use Rattle.chip_sequence.specs.Stages.{IsResumed, IsPlayFrom};
 ghost use Rattle.chip_library.specs.EdgeLists.{graph_of};
 ghost use Rattle.chip_library.specs.Batch.{row, game_at};
 ghost use Rattle.examples.specs.Answers.{IsEveryEnd, SetsOffAvalanche};

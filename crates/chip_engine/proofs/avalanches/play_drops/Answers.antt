@@ -4,7 +4,7 @@ use Rattle.chip_command.proofs.CommandLemmas.{handed_on}
 use Rattle.chip_engine.specs.DropRows.{rows_text}
 use Rattle.chip_report.specs.ReportText.{is_closed}
 use Rattle.chip_engine.proofs.DropLemmas.{tells, comes_to}
-use Rattle.chip_engine.proofs.SittingLemmas.{none_legal}
+use Rattle.chip_engine.proofs.StageLemmas.{none_legal}
 use Rattle.chip_engine.proofs.avalanches.play_drops.Goals as goal
 
 pub returns-in_err-write_all_of : goal.returns-in_err-write_all_of

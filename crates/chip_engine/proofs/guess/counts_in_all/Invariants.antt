@@ -1,5 +1,5 @@
 use Rattle.std.proofs.Common.{◌≡◌, ℕ, ◌<◌, length, slice_index}
-use Rattle.chip_sequence.specs.Sittings.{fired_in_all}
+use Rattle.chip_sequence.specs.Stages.{fired_in_all}
 use Rattle.chip_engine.proofs.guess.counts_in_all.Given as goal
 
 abbrev pub invariant-loop-vertex : goal.invariant-loop-vertex

@@ -1,6 +1,6 @@
 use Rattle.std.proofs.Common.{ap}
 use Rattle.chip_command.specs.Statuses.{number_of_status}
-use Rattle.chip_engine.proofs.SittingLemmas.{leads_on, none_legal}
+use Rattle.chip_engine.proofs.StageLemmas.{leads_on, none_legal}
 use Rattle.chip_engine.proofs.resume.go_on.Goals as goal
 
 pub returns : goal.returns

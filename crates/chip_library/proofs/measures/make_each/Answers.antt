@@ -1,11 +1,13 @@
 use Rattle.std.proofs.Common.{◌≡◌, ℕ, [], ◌∷◌, ◌++◌, length, set, slice_index, refl, arith, inl, inr}
 use Rattle.chip_library.specs.Measures.{Measures, told_of, noted_on}
 use Rattle.chip_library.proofs.KeptLemmas.{falls}
-use Rattle.chip_library.proofs.MeasuresLemmas.{so_far_none, so_far_more, so_far_written, not_full, is_full, row_lengths}
+use Rattle.chip_library.proofs.MeasuresLemmas.{so_far_none, so_far_more, so_far_written, not_over, is_full, row_lengths}
 use Rattle.chip_library.proofs.measures.make_each.Goals as goal
+use Rattle.chip_library.proofs.measures.make_each.Goals.{then-is_over-via-then-is_over}
+use Rattle.chip_library.proofs.measures.make_each.Goals.{then-is_over-via-else-is_over+then-lacks_room}
 
 pub loop-drop-init : goal.loop-drop-init
-loop-drop-init c = ([], so_far_none _ _ _ _ c.requires.played.0.kept c.requires.played.1)
+loop-drop-init c = ([], so_far_none _ _ _ _ _ c.requires.played.0.kept c.requires.played.1)
 
 pub replace_with-requires : goal.replace_with-requires
 replace_with-requires c =
@@ -16,16 +18,20 @@ replace_with-requires c =
           so_far.left.leaves.game,
     )
 
-pub returns-then-lacks_room : goal.returns-then-lacks_room
-returns-then-lacks_room c =
-    let (notes, so_far) = c.loop-drop.invariant in
-    let lacks = rw c.if-lacks_room.true at c.lacks_room.ensures in (
+pub returns-then-is_over : goal.returns-then-is_over
+returns-then-is_over c =
+    let (notes, so_far) = c.loop-drop.invariant in (
       notes,
-      so_far_written _ _ _ _ _ _ notes _ _ c.requires.played so_far,
+      so_far_written _ _ _ _ _ _ _ notes _ _ _ c.requires.played so_far,
       so_far.many,
       inr (
         c.loop-drop-test.true,
-        is_full _ _ _ _ _ _ notes _ _ so_far c.loop-drop.auto.ends c.loop-drop.auto.vertices lacks,
+        elim c.then-is_over.branch [
+          | then-is_over-via-then-is_over w ↦ inr (rw w.if-is_over.true at so_far.over)
+          | then-is_over-via-else-is_over+then-lacks_room w ↦
+              inl (is_full _ _ _ _ _ _ _ notes _ _ _ so_far c.loop-drop.auto.ends c.loop-drop.auto.vertices
+              (rw w.if-lacks_room.true at w.lacks_room.ensures))
+        ],
       ),
     )
 
@@ -39,10 +45,10 @@ returns-in_default c =
       (
         notes,
         c.loop-drop.kept,
-        so_far_written _ _ _ _ _ _ notes _ _ c.requires.played so_far,
+        so_far_written _ _ _ _ _ _ _ notes _ _ _ c.requires.played so_far,
         so_far.many,
         c.loop-drop-test.true,
-        not_full _ _ _ _ _ _ notes _ _ so_far c.loop-drop.auto.ends c.loop-drop.auto.vertices room,
+        not_over _ _ _ _ _ _ _ notes _ _ _ so_far c.loop-drop.auto.ends c.loop-drop.auto.vertices c.if-is_over.false room,
         stopped,
       ),
     )
@@ -79,16 +85,17 @@ loop-drop-preserved c =
     } in (
       notes ++ noted_on c.replace_with.new.dest.pile (slice_index c.args.at.now i) (slice_index c.args.amounts.now i)
           c.in-Some.measured ∷ [],
-      so_far_more _ c.loop-drop.kept c.replace_with.new.dest _ _ _ _ now notes _ c.write_row-end.result i
+      so_far_more _ c.loop-drop.kept c.replace_with.new.dest _ _ _ _ _ now notes _ _ _ c.write_row-end.result i
           c.in-Some.measured c.requires.measures c.loop-drop-test.true c.loop-drop.auto.ends alike so_far
-          (not_full _ _ _ _ _ _ notes _ _ so_far c.loop-drop.auto.ends c.loop-drop.auto.vertices room) timed refl
+          (not_over _ _ _ _ _ _ _ notes _ _ _ so_far c.loop-drop.auto.ends c.loop-drop.auto.vertices c.if-is_over.false room) timed refl
           c.write_if_any.ensures (record {
             none = c.write_row-end.ensures.none;
             ends_are = c.write_row-end.ensures.ends;
             end_is = c.write_row-end.ensures.end;
             vertices_are = c.write_row-end.ensures.vertices;
             times_are = c.write_row-end.ensures.times;
-          }) c.write_row-end.ensures.within,
+          }) c.write_row-end.ensures.within
+          (c.ends_run-is_over.ensures (slice_index c.args.at.now i) (slice_index c.args.amounts.now i)),
     )
 
 pub returns : goal.returns
@@ -97,4 +104,4 @@ returns c =
     let at_end = c.loop-drop-test.false in
     let at_most = c.loop-drop.auto.drop-end in
     let many = so_far.many in
-    (notes, so_far_written _ _ _ _ _ _ notes _ _ c.requires.played so_far, omega arith, inl refl)
+    (notes, so_far_written _ _ _ _ _ _ _ notes _ _ _ c.requires.played so_far, omega arith, inl refl)

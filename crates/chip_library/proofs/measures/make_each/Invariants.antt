@@ -1,21 +1,12 @@
 use Rattle.std.proofs.Common.{List}
-use Rattle.chip_library.specs.Measures.{Noted, Measures}
+use Rattle.chip_library.specs.Measures.{Noted, measures_of, EndsRun}
 use Rattle.chip_library.proofs.MeasuresLemmas.{SoFar}
 use Rattle.chip_library.proofs.measures.make_each.Given as goal
 
 abbrev pub invariant-loop-drop : goal.invariant-loop-drop
 invariant-loop-drop l =
-    let before : Measures = record {
-      rows = record { sizes = l.fn.sizes; extents = l.fn.extents; losts = l.fn.losts };
-      durations = l.fn.durations;
-      ends = l.fn.ends;
-      vertices = l.fn.vertices;
-      times = l.fn.times;
-    } in
-    let now : Measures = record {
-      rows = record { sizes = l.sizes; extents = l.extents; losts = l.losts };
-      durations = l.durations;
-      ends = l.ends;
-      vertices = l.vertices;
-      times = l.times;
-    } in (notes : List Noted) × SoFar l.fn.kept l.kept l.at l.amounts before now notes l.end l.drop
+    let before =
+    measures_of l.fn.sizes l.fn.extents l.fn.losts l.fn.durations l.fn.ends l.fn.vertices l.fn.times in
+    let now = measures_of l.sizes l.extents l.losts l.durations l.ends l.vertices l.times in
+    (notes : List Noted)
+    × SoFar l.fn.kept l.kept l.at l.amounts (EndsRun l.loses l.marks) before now notes l.is_over l.end l.drop

@@ -1,12 +1,12 @@
 use Rattle.chip_report.proofs.Names.{[], ◌∷◌, inr, refl, sym, ◌∙◌, false≢true, Decides-eqb, ends_is, bytes_eq-Decides}
 use Rattle.chip_report.proofs.Names.{IsReportIn}
-use Rattle.chip_report.proofs.ReportLemmas.{none_without_newline, not_that_sitting, of_a_line, passed_on}
+use Rattle.chip_report.proofs.ReportLemmas.{none_without_newline, not_that_stage, of_a_line, passed_on}
 use Rattle.chip_report.proofs.read.read_version.Goals as goal
 use Rattle.chip_report.proofs.read.read_version.Goals.{else-is_resumed-via-then-is_resumed+in_ok-text_of+else-eq}
 use Rattle.chip_report.proofs.read.read_version.Goals.{else-is_resumed-via-else-is_resumed}
 
-pub returns-then-not-ends_with-clause-sitting : goal.returns-then-not-ends_with-clause-sitting
-returns-then-not-ends_with-clause-sitting c =
+pub returns-then-not-ends_with-clause-stage : goal.returns-then-not-ends_with-clause-stage
+returns-then-not-ends_with-clause-stage c =
     let ends = ends_is Decides-eqb c.args.bytes.now (10 ∷ []) c.ends_with.result c.ends_with.ensures.value in
     inr (
       refl,
@@ -14,16 +14,16 @@ returns-then-not-ends_with-clause-sitting c =
           (λ front e. false≢true (sym c.if-not-ends_with.true ∙ ends.1 front e)),
     )
 
-pub returns-in_err-resumed-clause-sitting : goal.returns-in_err-resumed-clause-sitting
-returns-in_err-resumed-clause-sitting c =
+pub returns-in_err-resumed-clause-stage : goal.returns-in_err-resumed-clause-stage
+returns-in_err-resumed-clause-stage c =
     passed_on (IsReportIn c.args.went_on c.args.limits c.args.bytes.now) c.from_residual.result
     c.in_err-resumed.field-0.0 c.from_residual.ensures.1 c.in_err-resumed.ensures (λ none. none)
 
-pub returns-else-is_resumed-clause-sitting : goal.returns-else-is_resumed-clause-sitting
-returns-else-is_resumed-clause-sitting c =
+pub returns-else-is_resumed-clause-stage : goal.returns-else-is_resumed-clause-stage
+returns-else-is_resumed-clause-stage c =
     inr (
       refl,
-      not_that_sitting c.args.went_on c.args.limits c.args.bytes.now c.in_ok-resumed.resumed
+      not_that_stage c.args.went_on c.args.limits c.args.bytes.now c.in_ok-resumed.resumed
           c.in_ok-resumed.ensures.0
           (elim c.else-is_resumed.branch [
             | else-is_resumed-via-then-is_resumed+in_ok-text_of+else-eq w ↦

@@ -1,4 +1,4 @@
-use Rattle.std.proofs.Common.{◌≡◌, ℕ, ◌/◌, ◌++◌, ◌≤◌, mul-le-mul_left, mul-le-mul_right, List, take, drop, length, slice_index, ap, ◌∙◌, arith}
+use Rattle.std.proofs.Common.{◌≡◌, ℕ, ◌/◌, ◌++◌, ◌≤◌, mul-le-mul_right, List, take, drop, length, slice_index, ap, refl, ◌∙◌, arith}
 use Rattle.std.proofs.Math.Nat.{div-mul-le_self}
 use Rattle.std.proofs.lemmas.Grind.{common_steps}
 use Rattle.chip_graph.specs.Multigraph.{Multigraph}
@@ -24,10 +24,10 @@ pub returns-clause-few : goal.returns-clause-few
 returns-clause-few c =
     let fired = c.work_off-worked.new.fired in
     let fires = rw c.deref_mut-3.ensures.value at c.work_off-worked.ensures.each_fires in
-    let all = rw c.graph-graph.ensures.value at c.visits_at_all.ensures in
-    let each : c.min-of_turn.result ≤ places c.self.inside.game.now = (let a = c.min-of_turn.ensures in omega arith) in
+    let each : c.visits_of_turn-of_turn.result ≤ places c.self.inside.game.now =
+    rw c.graph-graph.ensures.value at c.visits_of_turn-of_turn.ensures.few in
     let few = few_turns c.self.inside.game.now c.self.inside.fired.items fired c.work_off-worked.result.turns
-    c.min-of_turn.result c.args.visits.now c.saturating_add.result fires each (omega arith) (omega arith) in
+    c.visits_of_turn-of_turn.result c.args.visits.now c.saturating_add.result fires each (omega arith) (omega arith) in
     let same : take c.self.inside.fired.len (fired ++ drop (length fired) c.self.inside.fired.items) ≡ fired =
     grind (arith, common_steps) in
     rw (← c.self.view_is, same) few
@@ -35,30 +35,27 @@ returns-clause-few c =
 pub returns-clause-at_most : goal.returns-clause-at_most
 returns-clause-at_most c =
     let most = c.work_off-worked.ensures.at_most in
-    let all = mul-le-mul_right c.min-of_turn.result most in
-    let least : c.min-of_turn.result ≤ c.max-2.result = omega arith in
-    let each = mul-le-mul_left (c.args.most / c.max-2.result) least in
-    let part = div-mul-le_self c.args.most c.max-2.result in
+    let all = mul-le-mul_right c.visits_of_turn-of_turn.result most in
+    let part = div-mul-le_self c.args.most c.visits_of_turn-of_turn.result in
     omega arith
 
 pub returns-clause-works : goal.returns-clause-works
 returns-clause-works c =
     let play = c.self.inside in
-    let all = rw c.graph-graph.ensures.value at c.visits_at_all.ensures in
-    let some = c.vertices-vertices.ensures.graph.some_vertex in
-    let fits : c.min-of_turn.result ≤ places play.game.now = (let a = c.min-of_turn.ensures in omega arith) in
+    let of_turn = c.visits_of_turn-of_turn.result in
+    let fits : of_turn ≤ places play.game.now =
+    rw c.graph-graph.ensures.value at c.visits_of_turn-of_turn.ensures.few in
     let same : take play.fired.len (c.work_off-worked.new.fired ++ drop (length c.work_off-worked.new.fired) play.fired.items)
     ≡ c.work_off-worked.new.fired = grind (arith, common_steps) in
     let same' : take play.chips.len (c.work_off-worked.new.chips ++ drop (length c.work_off-worked.new.chips) play.chips.items)
     ≡ c.work_off-worked.new.chips = grind (arith, common_steps) in
-    let each : c.max-2.result ≡ c.min-of_turn.result = omega arith in
     let vertices = ap (λ (G : Multigraph). G.vertices) c.graph-graph.ensures.value in
     let room : play.game.now.graph.vertices / 8 ≤ length c.deref_mut.result.now / 2 =
     (let a = c.deref_mut.ensures.len in let b = c.in_ok-resize.ensures.len in
     let d = c.vertices-vertices.ensures.value in omega arith) in
     let done = works_off play.game.now (play.game.now.graph.vertices / 8) c.args.most c.work_off-worked.new.chips
     c.work_off-worked.new.fired c.args.visits.now c.saturating_add.result c.work_off-worked.result.turns
-    (c.args.most / c.max-2.result) c.min-of_turn.result (length c.deref_mut.result.now / 2) (omega arith) fits
-    (ap (λ (n : ℕ). c.args.most / n) each) room c.work_off-worked.ensures.at_most (λ small. omega arith)
+    (c.args.most / of_turn) of_turn (length c.deref_mut.result.now / 2) c.visits_of_turn-of_turn.ensures.some fits
+    refl room c.work_off-worked.ensures.at_most (λ small. omega arith)
     (λ fewer. rw c.work_off-worked.ensures.legal at (c.work_off-worked.ensures.over fewer)) in
     rw (← c.self.view_is, same, same') done

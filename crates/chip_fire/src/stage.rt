@@ -1,7 +1,7 @@
 //! Going on with a play that a limit or a seal stopped.
 
 ghost use Rattle.std.specs.Prelude.{◌≡◌, ℕ, ◌<◌, ◌≤◌, IfOk, IfErr, length, slice_index};
-ghost use Rattle.chip_sequence.specs.Sittings.{IsResumed, IsPlayFrom, fired_in_all, max_prior};
+ghost use Rattle.chip_sequence.specs.Stages.{IsResumed, IsPlayFrom, fired_in_all, max_prior};
 ghost use Rattle.chip_sequence.specs.Resume.{Resumes, IsPriorFault};
 
 use crate::player::plain_watched;
@@ -13,7 +13,7 @@ use std::alloc::Global;
 /// Plays on from where an earlier stage ended, on the same graph, with a firing limit of this stage's own.
 ///
 /// The stage is `plain`'s on the chips that lie there, and what was fired before it is what was fired in all so far.
-/// So the counts of all sittings add up, and if the last one ends with no vertex legal they are those of a play that
+/// So the counts of all stages add up, and if the last one ends with no vertex legal they are those of a play that
 /// was never stopped.
 pub fn resume(
     alloc: Global,
@@ -55,7 +55,7 @@ pub fn resume_watched<W: Watch>(
     Ok(Resumed { outcome, prior })
 }
 
-/// How often each vertex fired in all sittings so far, or the least vertex that did so too often.
+/// How often each vertex fired in all stages so far, or the least vertex that did so too often.
 fn counts_so_far(alloc: Global, earlier: &Resumed) -> Result<Vec<u64>, ResumeFault>
     requires { IsResumed earlier.now }
     ensures ok { IfOk result (λ sums. (length sums.items ≡ length earlier.now.prior.items)

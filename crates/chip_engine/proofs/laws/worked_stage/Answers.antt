@@ -1,6 +1,6 @@
 use Rattle.std.proofs.Common.{refl}
 use Rattle.std.specs.Fmt.{digits}
-use Rattle.chip_engine.proofs.laws.worked_sitting.Goals as goal
+use Rattle.chip_engine.proofs.laws.worked_stage.Goals as goal
 
 pub returns-clause-triangle : goal.returns-clause-triangle
 unfolding digits

@@ -3,7 +3,7 @@ use Rattle.chip_graph.specs.ChipGame.{ChipGame, IsGame}
 use Rattle.chip_sequence.specs.Play.{IsPlayed}
 use Rattle.chip_sequence.specs.Resume.{game_from}
 use Rattle.chip_fire.proofs.ResumeLemmas.{goes_on, still_leads}
-use Rattle.chip_fire.proofs.sitting.resume_watched.Goals as goal
+use Rattle.chip_fire.proofs.stage.resume_watched.Goals as goal
 
 pub returns-clause-answer : goal.returns-clause-answer
 returns-clause-answer g c =

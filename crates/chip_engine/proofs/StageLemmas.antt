@@ -11,11 +11,11 @@ use Rattle.chip_graph.specs.Multigraph.{Multigraph, IsGraph}
 use Rattle.chip_graph.specs.ChipGame.{ChipGame}
 use Rattle.chip_sequence.specs.Firing.{IsLegal, legal_vertices}
 use Rattle.chip_sequence.specs.Play.{IsPlayed}
-use Rattle.chip_sequence.specs.Sittings.{IsResumed, IsPlayFrom, fired_in_all, max_prior}
+use Rattle.chip_sequence.specs.Stages.{IsResumed, IsPlayFrom, fired_in_all, max_prior}
 use Rattle.chip_sequence.specs.declared.outcome.Outcome.{Outcome}
 use Rattle.chip_sequence.specs.declared.resumed.Resumed.{Resumed}
 use Rattle.chip_sequence.proofs.LegalLemmas.{legal_vertices_law}
-use Rattle.chip_sequence.proofs.SittingLemmas as sittings
+use Rattle.chip_sequence.proofs.StageLemmas as stages
 use Rattle.chip_report.specs.ReportText.{is_empty, is_closed}
 use Rattle.chip_report.specs.ReportTwo.{IsAnyReportOf, IsNoReportAtAllWithin}
 use Rattle.chip_report.specs.declared.fault.ReportFault.{ReportFault}
@@ -55,7 +55,7 @@ none_legal g o played closed v can =
 pub leads_on : (G : Multigraph) → IsGraph G → (x : ℕ → ℕ) (r : Resumed) → IsPlayFrom G x r
     → LeavesNoneLegal G r.outcome → LeadsToTheEnd G x r
 leads_on G good x r leads none =
-    let alike = sittings.ends_alike G good x (fired_in_all r) (slice_index r.outcome.chips.items) leads in record {
+    let alike = stages.ends_alike G good x (fired_in_all r) (slice_index r.outcome.chips.items) leads in record {
       leads = leads;
       ends_alike = alike;
       closed = λ closed. record {

@@ -1,6 +1,6 @@
 use Rattle.std.proofs.Common.{◌≡◌, ℕ, ◌<◌, ◌≤◌, length, slice_index}
-use Rattle.chip_sequence.specs.Sittings.{fired_in_all, max_prior}
-use Rattle.chip_fire.proofs.sitting.counts_so_far.Given as goal
+use Rattle.chip_sequence.specs.Stages.{fired_in_all, max_prior}
+use Rattle.chip_fire.proofs.stage.counts_so_far.Given as goal
 
 abbrev pub invariant-loop-vertex : goal.invariant-loop-vertex
 invariant-loop-vertex l =

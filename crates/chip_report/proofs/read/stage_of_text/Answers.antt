@@ -1,6 +1,6 @@
 use Rattle.chip_report.proofs.Names.{lit<, IsToldBy}
 use Rattle.chip_report.proofs.ReportLemmas.{has_four, none_taken, none_without_utf8, passed_on}
-use Rattle.chip_report.proofs.read.sitting_of_text.Goals as goal
+use Rattle.chip_report.proofs.read.stage_of_text.Goals as goal
 
 pub returns-in_err-lists : goal.returns-in_err-lists
 returns-in_err-lists c =

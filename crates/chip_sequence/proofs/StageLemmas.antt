@@ -1,9 +1,9 @@
--- Serves Sittings.antt, Sequence.antt.
+-- Serves Stages.antt, Sequence.antt.
 -- Plays in several stages: what they lead to, and that they add up.
 use Rattle.chip_sequence.proofs.Names.{◌≡◌, ℕ, ◌+◌, List, [], ◌∷◌, ◌++◌, slice_index, refl, arith, Multigraph, IsGraph}
 use Rattle.chip_sequence.proofs.Names.{position_after, IsFiringSequence, counts, HasEnded, IsWholePlay}
-use Rattle.chip_sequence.specs.Sittings.{LeadsTo, AreSittings, counts_of_all, left_by_all, SittingsAddUp}
-use Rattle.chip_sequence.specs.Sittings.{PlayedIsSitting}
+use Rattle.chip_sequence.specs.Stages.{LeadsTo, AreStages, counts_of_all, left_by_all, StagesAddUp}
+use Rattle.chip_sequence.specs.Stages.{PlayedIsStage}
 use Rattle.chip_sequence.proofs.FiringLemmas.{counts-append, position-append, sequence-append}
 use Rattle.chip_sequence.proofs.BoundLemmas.{same_ends}
 
@@ -27,8 +27,8 @@ leads_both G x f y h z one two =
     )
 
 -- all stages are one
-pub leads_all : (G : Multigraph) (x : ℕ → ℕ) (sittings : List ((ℕ → ℕ) × (ℕ → ℕ))) → AreSittings G x sittings
-    → LeadsTo G x (counts_of_all sittings) (left_by_all x sittings)
+pub leads_all : (G : Multigraph) (x : ℕ → ℕ) (stages : List ((ℕ → ℕ) × (ℕ → ℕ))) → AreStages G x stages
+    → LeadsTo G x (counts_of_all stages) (left_by_all x stages)
 leads_all G x [] are = leads_none G x
 leads_all G x ((f, y) ∷ rest) are =
     leads_both G x f y (counts_of_all rest) (left_by_all y rest) are.0 (leads_all G y rest are.1)
@@ -46,12 +46,12 @@ ends_alike G good x f y one ws ok ended vs ok' ended' =
     (λ v can. ended v (rw goes at can)) ok' ended' in
     (λ v. omega (arith, one.1.counted v, counts-append us ws v, same.0 v), λ v. rw (← goes) (same.1 v))
 
-pub sittings_add_up : SittingsAddUp
-sittings_add_up G good x sittings are =
-    ends_alike G good x (counts_of_all sittings) (left_by_all x sittings) (leads_all G x sittings are)
+pub stages_add_up : StagesAddUp
+stages_add_up G good x stages are =
+    ends_alike G good x (counts_of_all stages) (left_by_all x stages) (leads_all G x stages are)
 
-pub played_is_sitting : PlayedIsSitting
-played_is_sitting g o played =
+pub played_is_stage : PlayedIsStage
+played_is_stage g o played =
     let vs : List ℕ = played.ends.0 in
     let whole : IsWholePlay g.graph (slice_index g.start) g.limit vs = played.ends.1 in
     (vs, record { sequence = whole.sequence; counted = played.counted vs whole; position = played.position vs whole })

@@ -1,5 +1,5 @@
 use Rattle.chip_engine.proofs.ChainLemmas.{plain_tells_play, simulate_tells_play, resumed_plays_add_up}
-use Rattle.chip_engine.proofs.laws.sittings.Goals as goal
+use Rattle.chip_engine.proofs.laws.stages.Goals as goal
 
 pub returns-clause-plain : goal.returns-clause-plain
 returns-clause-plain c = plain_tells_play

@@ -1,4 +1,4 @@
--- Serves Sitting.antt.
+-- Serves Stage.antt.
 -- What the report of a first stage says.
 use Rattle.std.proofs.Common.{◌≡◌, ℕ, List, length, slice_index, sym, ◌∙◌, subst, arith, inl, inr}
 use Rattle.std.specs.Prelude.{replicate}
@@ -6,16 +6,16 @@ use Rattle.std.proofs.lemmas.Grind.{common_steps}
 use Rattle.chip_graph.specs.Multigraph.{Multigraph}
 use Rattle.chip_graph.specs.ChipGame.{ChipGame, IsGame}
 use Rattle.chip_sequence.specs.Outcomes.{IsOutcome}
-use Rattle.chip_sequence.specs.Sittings.{LeadsTo, fired_in_all}
+use Rattle.chip_sequence.specs.Stages.{LeadsTo, fired_in_all}
 use Rattle.chip_sequence.specs.declared.outcome.Outcome.{Outcome}
-use Rattle.chip_sequence.proofs.SittingLemmas.{played_is_sitting}
+use Rattle.chip_sequence.proofs.StageLemmas.{played_is_stage}
 use Rattle.chip_sequence.proofs.OutcomeLemmas.{outcome_is}
 use Rattle.chip_report.specs.ReportText.{report_text}
 use Rattle.chip_report.specs.Reportable.{Content}
 use Rattle.chip_report.proofs.ReportLemmas.{one_outcome}
 use Rattle.chip_report.proofs.ReportTwoLemmas.{not_both}
 use Rattle.chip_command.specs.Reports.{Reports}
-use Rattle.chip_command.specs.Sitting.{TellsPlayFrom}
+use Rattle.chip_command.specs.Stage.{TellsPlayFrom}
 
 -- no firings before
 none_before : (n v : ℕ) → slice_index (replicate n 0) v ≡ 0
@@ -42,4 +42,4 @@ first_tells G x o fits leads report spelled r (inr two) =
 pub report_tells : (g : ChipGame) → IsGame g → (text : List ℕ) (status : ℕ) → Reports g text status
     → TellsPlayFrom g.graph (slice_index g.start) text
 report_tells g fits text status (o, played, spelled, s) =
-    first_tells g.graph (slice_index g.start) o (outcome_is g fits o played) (played_is_sitting g o played) text spelled
+    first_tells g.graph (slice_index g.start) o (outcome_is g fits o played) (played_is_stage g o played) text spelled

@@ -37,9 +37,9 @@ abbrev pub IsPlayFrom : Multigraph → (ℕ → ℕ) → Resumed → Type 0
 IsPlayFrom G x r = LeadsTo G x (fired_in_all r) (slice_index r.outcome.chips.items)
 
 -- stages in order, each by its counts and the configuration after it: each begins where the one before it ended
-abbrev pub AreSittings : Multigraph → (ℕ → ℕ) → List ((ℕ → ℕ) × (ℕ → ℕ)) → Type 0
-AreSittings G x [] = Unit {0}
-AreSittings G x ((f, y) ∷ rest) = LeadsTo G x f y × AreSittings G y rest
+abbrev pub AreStages : Multigraph → (ℕ → ℕ) → List ((ℕ → ℕ) × (ℕ → ℕ)) → Type 0
+AreStages G x [] = Unit {0}
+AreStages G x ((f, y) ∷ rest) = LeadsTo G x f y × AreStages G y rest
 
 -- how often v fired in all of them
 abbrev pub counts_of_all : List ((ℕ → ℕ) × (ℕ → ℕ)) → ℕ → ℕ
@@ -53,15 +53,15 @@ left_by_all x ((f, y) ∷ rest) = left_by_all y rest
 
 -- for every number of stages: with the counts of a sequence that continues to an end, they are the counts of every
 -- sequence from the first start that ends, and all end at the same configuration
-abbrev pub SittingsAddUp : Type 0
-SittingsAddUp =
-    (G : Multigraph) → IsGraph G → (x : ℕ → ℕ) (sittings : List ((ℕ → ℕ) × (ℕ → ℕ))) → AreSittings G x sittings
-    → (ws : List ℕ) → IsFiringSequence G (left_by_all x sittings) ws → HasEnded G (left_by_all x sittings) ws
+abbrev pub StagesAddUp : Type 0
+StagesAddUp =
+    (G : Multigraph) → IsGraph G → (x : ℕ → ℕ) (stages : List ((ℕ → ℕ) × (ℕ → ℕ))) → AreStages G x stages
+    → (ws : List ℕ) → IsFiringSequence G (left_by_all x stages) ws → HasEnded G (left_by_all x stages) ws
     → (vs : List ℕ) → IsFiringSequence G x vs → HasEnded G x vs
-    → ((v : ℕ) → counts_of_all sittings v + counts ws v ≡ counts vs v)
-    × ((v : ℕ) → position_after G (left_by_all x sittings) ws v ≡ position_after G x vs v)
+    → ((v : ℕ) → counts_of_all stages v + counts ws v ≡ counts vs v)
+    × ((v : ℕ) → position_after G (left_by_all x stages) ws v ≡ position_after G x vs v)
 
 -- the outcome of a game is such a stage, whether or not the limit halted vertices
-abbrev pub PlayedIsSitting : Type 0
-PlayedIsSitting = (g : ChipGame) (o : Outcome) → IsPlayed g o
+abbrev pub PlayedIsStage : Type 0
+PlayedIsStage = (g : ChipGame) (o : Outcome) → IsPlayed g o
     → LeadsTo g.graph (slice_index g.start) (slice_index o.fired.items) (slice_index o.chips.items)

@@ -1,7 +1,7 @@
 -- What a report says of the play that led to it.
 use Rattle.std.specs.Prelude.{ℕ, List}
 use Rattle.chip_graph.specs.Multigraph.{Multigraph}
-use Rattle.chip_sequence.specs.Sittings.{IsPlayFrom}
+use Rattle.chip_sequence.specs.Stages.{IsPlayFrom}
 use Rattle.chip_sequence.specs.declared.resumed.Resumed.{Resumed}
 use Rattle.chip_report.specs.ReportTwo.{IsAnyReportOf}
 

@@ -11,7 +11,7 @@ use Rattle.chip_core.specs.Core.{Log}
 use Rattle.chip_core.specs.Positions.{chips_given}
 use Rattle.chip_command.specs.Inputs.{ReadsWithin, MeansGame}
 use Rattle.chip_command.specs.OneReport.{PlainWrote}
-use Rattle.chip_command.specs.Sitting.{TellsPlayFrom}
+use Rattle.chip_command.specs.Stage.{TellsPlayFrom}
 use Rattle.chip_engine.specs.ResumeCommand.{LeadsToTheEnd, ResumeAnswers}
 use Rattle.chip_engine.specs.SimulateCommand.{EndsClosed}
 use Rattle.chip_command.specs.declared.ended.Ended.{Ended}

@@ -13,7 +13,7 @@ const FIRST: &[u8] =
     b"{\"chips\":[2,0,3],\"closed\":false,\"fired\":[2,1,0],\"over\":[0],\"sealed\":[],\"version\":1}\n";
 
 #[test]
-fn sitting_that_went_on(rt: HostRuntime) {
+fn stage_that_went_on(rt: HostRuntime) {
     let resumed = read_any(rt.alloc(), WENT_ON).expect(&rt, "a report");
     assert!(rt; resumed.outcome.fired.as_slice() == [1, 0, 0].as_slice());
     assert!(rt; resumed.outcome.chips.as_slice() == [0, 1, 4].as_slice());
@@ -23,7 +23,7 @@ fn sitting_that_went_on(rt: HostRuntime) {
 }
 
 #[test]
-fn first_sitting(rt: HostRuntime) {
+fn first_stage(rt: HostRuntime) {
     let resumed = read_any(rt.alloc(), FIRST).expect(&rt, "a report");
     assert!(rt; resumed.outcome.fired.as_slice() == [2, 1, 0].as_slice());
     assert!(rt; resumed.outcome.over.as_slice() == [0].as_slice());
@@ -52,7 +52,7 @@ fn after_many(rt: &(impl AllocGlobal + Abort), text: &[u8]) -> Resumed {
 }
 
 #[test]
-fn the_widest_sitting(rt: HostRuntime) {
+fn the_widest_stage(rt: HostRuntime) {
     let last = wide(rt.alloc(), 4_096, "1099511627776").expect(&rt, "memory");
     let resumed = after_many(&rt, last.as_bytes());
     let text = report_two(rt.alloc(), &resumed).expect(&rt, "memory");
@@ -69,7 +69,7 @@ fn is_refused(rt: &(impl AllocGlobal + Abort), text: &[u8]) -> bool {
 
 /// Fewer numbers of earlier firings than vertices, one above 2^60, none, some in the wrong place, one with a leading
 /// zero, lists alone, none of them, and some in a first stage's report.
-const NO_SITTINGS: &[&str] = &[
+const NO_STAGES: &[&str] = &[
     "{\"chips\":[0,1,4],\"closed\":true,\"fired\":[1,0,0],\"over\":[],\"prior\":[2,1],\"sealed\":[],\"version\":2}\n",
     "{\"chips\":[0],\"closed\":true,\"fired\":[1],\"over\":[],\"prior\":[1152921504606846977],\"sealed\":[],\"version\":2}\n",
     "{\"chips\":[0],\"closed\":true,\"fired\":[1],\"over\":[],\"sealed\":[],\"version\":2}\n",
@@ -81,14 +81,14 @@ const NO_SITTINGS: &[&str] = &[
 ];
 
 #[test]
-fn no_reports_of_sittings(rt: HostRuntime) {
-    for text in NO_SITTINGS {
+fn no_reports_of_stages(rt: HostRuntime) {
+    for text in NO_STAGES {
         assert!(rt; is_refused(&rt, text.as_bytes()), "{text}");
     }
 }
 
 #[test]
-fn each_cut_of_a_sitting_is_none(rt: HostRuntime) {
+fn each_cut_of_a_stage_is_none(rt: HostRuntime) {
     for end in 0..WENT_ON.len() {
         assert!(rt; is_refused(&rt, &WENT_ON[..end]), "the first {end} bytes");
     }

@@ -28,8 +28,8 @@ OVERRIDES = """\
 # The program is the one that was proved and built, byte for byte: it keeps its symbols.
 chipfire: unstripped-binary-or-object [usr/bin/chipfire]
 # One package has the program, the library, and what is linked with it: none is there without the others.
-chipfire: package-name-doesnt-match-sonames libchipfire0
-chipfire: link-to-shared-library-in-wrong-package usr/{libraries}/libchipfire.so.0 *
+chipfire: package-name-doesnt-match-sonames {name}{number}
+chipfire: link-to-shared-library-in-wrong-package usr/{libraries}/{name}.so.{number} *
 """
 CONTROL = """\
 Package: chipfire
@@ -85,15 +85,17 @@ def files(packed):
         found[f"usr/{place}.gz"] = File(gzipped(found.pop(f"usr/{place}").data))
     found[contents.DEBIAN_CHANGES] = File(gzipped(changelog().encode()))
     found[contents.DEBIAN_COPYRIGHT] = File(COPYRIGHT.encode())
-    found[contents.DEBIAN_OVERRIDES] = File(OVERRIDES.format(libraries=libraries).encode())
+    name, number = contents.SONAME.split(".so.")
+    overrides = OVERRIDES.format(libraries=libraries, name=name, number=number)
+    found[contents.DEBIAN_OVERRIDES] = File(overrides.encode())
     sums = [
-        f"{hashlib.md5(file.data).hexdigest()}  {name}\n"
-        for name, file in sorted(found.items())
+        f"{hashlib.md5(file.data).hexdigest()}  {place}\n"
+        for place, file in sorted(found.items())
         if file.mode != LINK
     ]
     size = sum(len(file.data) for file in found.values())
     found["DEBIAN/md5sums"] = File("".join(sums).encode())
-    found["DEBIAN/shlibs"] = File(f"libchipfire 0 chipfire (>= {version()})\n".encode())
+    found["DEBIAN/shlibs"] = File(f"{name} {number} chipfire (>= {version()})\n".encode())
     found["DEBIAN/triggers"] = File(b"activate-noawait ldconfig\n")
     found["DEBIAN/control"] = File(control(packed, size).encode())
     return found

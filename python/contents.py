@@ -35,7 +35,7 @@ X86_64 = Machine("x86_64", "amd64", ("program", SHARED, STATIC))
 AARCH64 = Machine("aarch64", "arm64", ("aarch64-program", f"aarch64-{SHARED}", f"aarch64-{STATIC}"))
 MACHINES = (X86_64, AARCH64)
 #: The name under which what was linked with the library asks for it.
-SONAME = "libchipfire.so.0"
+SONAME = "libchipfire.so.1"
 #: The package for browsers and Node, a folder beside them.
 WEB = "js"
 #: The module in it, what npm installs of it, and the page that lies there too, by their words in PROVED.

@@ -10,7 +10,7 @@ import time
 import weakref
 from array import array
 from collections.abc import Callable, Sequence
-from typing import Any, TYPE_CHECKING
+from typing import Any, NamedTuple, TYPE_CHECKING
 
 from chipfire.backend import library
 from chipfire.backend.portions import PORTION
@@ -35,6 +35,19 @@ _FIRST_VISITS, _MOST_VISITS = 2**22, 2**40
 #: How many chips a drop has at most that is made in one call and not in portions, which costs passes over the graph; and
 #: how many on few vertices, times these. The first one on more vertices goes in portions, and one after a call that was long.
 _FEW_CHIPS, _LIGHT, _MANY_VERTICES = 2**8, 2**18, 2**10
+
+
+class Until(NamedTuple):
+    """The drop that ends a run: the first that loses a chip, if `loses` is true; that fires a vertex with bit 1 in its mark;
+    or that fires one with bit 2 and one with bit 4, or one with bit 8 and one with bit 16. There is one mark per vertex, or
+    none."""
+
+    loses: bool = False
+    marks: Any = _NO_NUMBERS
+
+
+#: No drop ends the run.
+NEVER = Until()
 
 
 class _Struct(ctypes.Structure):
@@ -218,24 +231,25 @@ class KeptPile:
         """The size, the extent and the loss of the last drop."""
         return self._told[0], self._told[1], self._told[2]
 
-    def drops(self, at: Any, amounts: Any, columns: list[Any]) -> tuple[int, int]:
-        """Many drops, each in one call, whose numbers go into the columns; and how many were made, if the limit has stopped
-        one."""
-        words = [word for it in (at, amounts, *columns) for word in library.slice_of("drops", it)]
-        number = self._found.chipfire_pile_drops(self._at, *words, self._words[3])
-        return int(number), self._told[3]
-
     def measure(
-        self, at: Any, amounts: Any, columns: Sequence[Any], room: Sequence[Any] = _NO_ROOM
+        self,
+        at: Any,
+        amounts: Any,
+        columns: Sequence[Any],
+        room: Sequence[Any] = _NO_ROOM,
+        until: Until = NEVER,
     ) -> tuple[int, int]:
-        """Many drops, whose numbers go into the columns: size, extent and loss, and a duration if there is a fourth. What
-        they fire goes into the room, if there is some: the ends of each drop, and vertices and counts. How many were made
-        is fewer where the limit has stopped one, or there is no more room for all vertices."""
+        """Many drops, each in one call, whose numbers go into the columns: size, extent and loss, and a duration if there is a
+        fourth. What they fire goes into the room, if there is some: the ends of each drop, and vertices and counts. How many
+        were made is fewer where the limit has stopped one, there is no more room for all vertices, or one ends the run.
+        """
         *three, duration = columns if len(columns) > 3 else (*columns, _NO_NUMBERS)
-        slices = (at, amounts, *three, duration, *room)
-        words = [word for it in slices for word in library.slice_of("drops", it)]
-        number = self._found.chipfire_pile_measure(self._at, *words, self._words[3])
-        return int(number), self._told[3]
+        drops, others = (
+            [word for it in slices for word in library.slice_of("drops", it)]
+            for slices in ((at, amounts), (until.marks, *three, duration, *room))
+        )
+        words = (*drops, until.loses, *others, self._words[3])
+        return int(self._found.chipfire_pile_measure(self._at, *words)), self._told[3]
 
     def chips(self) -> array[int]:
         """The chips of each vertex."""

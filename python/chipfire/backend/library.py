@@ -48,6 +48,7 @@ if TYPE_CHECKING:
 _VISITS = 2**26
 
 _NAME = "libchipfire.so"
+_REMEDY = "`./chipfire` in a clone of the repository puts program and library into target/, and a wheel carries both"
 _NUMBER = ctypes.c_uint64
 _SLICE = (ctypes.c_void_p, ctypes.c_size_t)
 _OUT = ctypes.POINTER(_NUMBER)
@@ -162,13 +163,23 @@ def _stated(file: str, folder: str) -> str:
             # (of another machine than x86-64 it stands before the name)
             is_meant = any(line.endswith(f"{_NAME} sha256:{checksum}") for line in lines)
             return lines[0].partition(" ")[2] if is_meant else ""
-    stamp = os.path.join(folder, "chipfire.stamp")
-    source = source_of_version(around)
-    if not os.path.isfile(stamp) or not os.path.isfile(source):
+    if not all(map(os.path.isfile, _stamp_and_source(folder))) or _has_old_stamp(folder):
         return ""
+    return version_of(around)
+
+
+def _stamp_and_source(folder: str) -> tuple[str, str]:
+    """The stamp of `./chipfire` in a folder, and the source of the version that is of this stamp unless it is newer."""
+    return os.path.join(folder, "chipfire.stamp"), source_of_version(os.path.dirname(folder))
+
+
+def _has_old_stamp(folder: str) -> bool:
+    """Whether the source has changed after the stamp."""
+    stamp, source = _stamp_and_source(folder)
+    if not os.path.isfile(stamp) or not os.path.isfile(source):
+        return False
     changed = os.stat(source)
-    is_older = os.stat(stamp).st_mtime_ns < max(changed.st_mtime_ns, changed.st_ctime_ns)
-    return "" if is_older else version_of(around)
+    return os.stat(stamp).st_mtime_ns < max(changed.st_mtime_ns, changed.st_ctime_ns)
 
 
 def _why_not(file: str, folder: str) -> str | None:
@@ -178,6 +189,9 @@ def _why_not(file: str, folder: str) -> str | None:
     if why:
         return f"{file} is not loaded, since {why}"
     stated = _stated(file, folder)
+    if not stated and _has_old_stamp(folder):
+        stamp, source = _stamp_and_source(folder)
+        return f"{file} is not loaded, since {source} has changed after {stamp}, which ./chipfire renews"
     if not stated:
         return f"{file} is not loaded, since neither PROVED nor the stamp of ./chipfire states its version"
     return (
@@ -224,8 +238,7 @@ def _declare_piles(found: ctypes.CDLL) -> None:
         (found.chipfire_pile_put, (_NUMBER, *_SLICE)),
         (found.chipfire_pile_play, (_NUMBER, number_at)),
         (found.chipfire_pile_drop, (_NUMBER, _NUMBER, number_at, number_at, number_at)),
-        (found.chipfire_pile_drops, (*5 * _SLICE, number_at)),
-        (found.chipfire_pile_measure, (*9 * _SLICE, number_at)),
+        (found.chipfire_pile_measure, (*2 * _SLICE, _NUMBER, *8 * _SLICE, number_at)),
         (found.chipfire_pile_chips, _SLICE),
         (found.chipfire_pile_fired, _SLICE),
         (found.chipfire_pile_size, ()),
@@ -259,14 +272,24 @@ def _beside(named: str | None = None) -> tuple[ctypes.CDLL | None, str]:
 
 def loaded() -> ctypes.CDLL | None:
     """The library, if CHIPFIRE does not name a program and this process was not forked beside threads."""
-    return None if _why_none() else _beside()[0]
+    return None if _why_not_asked() else _beside()[0]
 
 
-def _why_none() -> str:
+def _why_not_asked() -> str:
     """Why no library is asked for, even if there is one."""
     if os.environ.get("CHIPFIRE"):
-        return "CHIPFIRE names a program"
-    return "this process was forked beside threads" if _Fork.is_beside_threads else ""
+        return "CHIPFIRE names a program, which takes its place"
+    if _Fork.is_beside_threads:
+        return 'this process was forked beside threads: start it by multiprocessing.get_context("spawn")'
+    return ""
+
+
+def why_none() -> str:
+    """Why there is no library to call, and how one gets it; "" if there is one."""
+    if why := _why_not_asked():
+        return why
+    found, why = _beside()
+    return f"{why}; {_REMEDY}" if found is None else ""
 
 
 def find_library() -> str | None:
@@ -280,8 +303,7 @@ def books() -> ctypes.CDLL:
     named = os.environ.get("CHIPFIRE")
     found, why = _beside(named) if named else _beside()
     if found is None:
-        remedy = "`./chipfire` in a clone of the repository puts both into target/, and a wheel carries both"
-        raise ProgramNotFound(2, f"books are calls of the library, and {why}; {remedy}", _NAME)
+        raise ProgramNotFound(2, f"books are calls of the library, and {why}; {_REMEDY}", _NAME)
     return found
 
 
@@ -325,8 +347,7 @@ def _call_on(call: str, graph: Graph, limit: int, **arrays: Any) -> None:
     """Makes a call on arrays of others, which must not overlap."""
     found = loaded()
     if found is None:
-        why = _why_none() or _beside()[1]
-        raise ProgramNotFound(2, f"there is no library to call: {why}", _NAME)
+        raise ProgramNotFound(2, f"there is no library to call: {why_none()}", _NAME)
     edges = [("edges", column) for column in graph.long_columns]
     ends = sorted(slice_of(name, numbers) for name, numbers in [*edges, *arrays.items()])
     if any(start + 8 * length > other for (start, length), (other, _) in zip(ends, ends[1:])):

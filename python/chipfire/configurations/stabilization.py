@@ -5,10 +5,10 @@ from __future__ import annotations
 import itertools
 from array import array
 from collections.abc import Iterable, Iterator, Sequence
-from concurrent.futures import ThreadPoolExecutor
 from typing import Any
 
 from chipfire.backend.commands import AnyGraph, AnyProgram, known_graph, read_chips
+from chipfire.backend.interrupts import on_threads
 from chipfire.backend.portions import Portions
 from chipfire.configurations.configuration import (
     Chips,
@@ -269,13 +269,7 @@ def _on_threads(graph: Graph, start: array[int], program: AnyProgram, workers: i
             some = slice(rows.start * width, rows.stop * width)
             left[some] = stabilized_rows(graph, start[some], program, portions.go_on)[0]
 
-    with ThreadPoolExecutor(workers) as pool:
-        try:
-            for future in [pool.submit(work) for _ in range(workers)]:
-                future.result()
-        except BaseException:
-            portions.stop()
-            raise
+    on_threads([work] * workers, workers, portions.stop)
     return left
 
 

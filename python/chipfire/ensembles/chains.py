@@ -15,12 +15,13 @@ from chipfire.backend.finding import ProgramNotFound
 from chipfire.configurations.configuration import Chips, stabilized_rows
 from chipfire.ensembles import archive
 from chipfire.ensembles.checkpoint import opened
-from chipfire.ensembles.drops import COLUMNS
+from chipfire.ensembles.drops import column_of, COLUMNS, histogram_of
 from chipfire.ensembles.firings import Firings, firings, firings_of, stored
 from chipfire.ensembles.histograms import following, Histograms, joined, sums_by_name
 from chipfire.ensembles.player import places_of, Plan, spanning, table_of
 from chipfire.ensembles.power_law import sizes_figure
 from chipfire.ensembles.spread import Spread
+from chipfire.ensembles.wilson import require_undirected
 from chipfire.graphs.graph import Graph
 from chipfire.progress import AnyProgress, Progress
 from chipfire.utils import (
@@ -53,7 +54,9 @@ class Chains(WithArea):
     Attributes
     ----------
     seeds : sequence of str
-        The seed of each chain: ``random_drops(graph, drops, seeds[k])`` yields the vertices of chain k.
+        The seed of each chain: ``random_drops(graph, drops, seeds[k])`` yields the vertices of chain k. With ``on=`` these
+        are ``random.Random(seeds[k]).choices(names, weights, k=drops)``, with the names and the weights of `on` in its
+        order, and None for weights if it has only names.
     size : array of shape (n, drops)
         The number of firings of each drop, 0 for those that were not made.
     extent, area : array of shape (n, drops)
@@ -120,6 +123,12 @@ class Chains(WithArea):
     def _repr_html_(self) -> str | None:
         """What a notebook shows: how many avalanches have each size, if Matplotlib is there, and else the text."""
         return sizes_figure(self.size, f"Chains: {self._title()}")
+
+    def histogram(self, of: str = "size") -> dict[int, int]:
+        """How many drops of all chains have each size that occurs, ascending; or each `area`, `lost`, or `duration`. Drops
+        that were not made do not count."""
+        rows = zip(column_of(self, of), self.made)
+        return histogram_of(row[:made] for row, made in rows)
 
     def to_dataframe(self) -> Any:
         """The columns `size`, `extent`, `lost` and, if it is there, `duration` as a DataFrame of pandas, of 64 bits, with
@@ -271,7 +280,7 @@ def chains(
         The number of the first chain.
     chips : Chips, or array of shape (n, vertices) or (n, vertices - 1), optional
         The start of all chains, or of each of them. By default each begins with a `random_recurrent` configuration of
-        its own, from which on the drops are stationary.
+        its own, from which on the drops are stationary. Chains on a directed graph need `chips`.
     on : iterable of hashable, or mapping of names to weights, optional
         The vertices on which chips fall. By default all but the sink, alike.
     amounts : int or sequence of int, optional
@@ -288,17 +297,19 @@ def chains(
         chips fires one time after another.
     until : {"loss", "spans"}, optional
         Ends a chain with the first drop that loses a chip to the sink, or whose firings touch two opposite borders of
-        a grid. This takes NumPy. "spans" does not know which borders are joined.
+        a grid of two directions. This takes NumPy. "spans" does not know which borders are joined.
     collect : {"columns", "histogram"}, optional
         Whether to return a number for each drop, or histograms alone, which take no memory for drops but their
         amounts. Histograms go with none of `fired`, `durations`, `until` and `checkpoint`.
     progress : bool or callable, optional
-        True shows progress by tqdm or in lines. A function is called with the number of drops made and of all.
+        True shows progress by tqdm or in lines. A function is called with the number of drops made and of all. In the
+        end all are said to be made, those too that `until` has left out.
     checkpoint : path, optional
         A file to which parts are written as they are done. Another call with the same arguments, or with more chains,
         goes on from it. Its numbers are believed, so nobody else should be able to write to it.
     partial : bool, optional
-        Whether an interrupt returns what was made until then, in place of KeyboardInterrupt.
+        Whether an interrupt returns what was made until then, in place of KeyboardInterrupt. Chains that had not begun
+        have the chips of their starts, which are drawn then if need be. A second interrupt is raised.
 
     Returns
     -------
@@ -314,6 +325,8 @@ def chains(
         There is no room for the results. Nothing was played.
     ValueError
         Arguments do not fit together, or a checkpoint is that of another call.
+    FileNotFoundError
+        The folder of a checkpoint is not there.
 
     See Also
     --------
@@ -321,8 +334,8 @@ def chains(
 
     Notes
     -----
-    Proved: sizes, areas, dissipated chips, durations and counts of the drops. Not proved: that vertices are evenly
-    drawn, and which drop ends a chain.
+    Proved: sizes, areas, dissipated chips, durations and counts of the drops, and, but for drops of many chips, which
+    one ends a chain. Not proved: that vertices are evenly drawn, and which of them are at borders.
 
     Examples
     --------
@@ -352,7 +365,7 @@ def chains(
         drops=drops,
         places=places_of(known, on),
         amounts=_amounts(amounts, drops),
-        starts=None if chips is None else _starts(known, chips, n),
+        starts=_starts(known, chips, n),
         until=until,
         fired=bool(fired),
         timed=bool(durations),
@@ -389,12 +402,8 @@ def _refuse_options(
         raise TypeError(
             f"an executor is one of concurrent.futures, or has its `submit`, and this is a {kind}"
         )
-    if executor is None and library.find_library() is None:
-        raise ProgramNotFound(
-            2,
-            "chains take the library, which is not beside the program in this version",
-            "chipfire",
-        )
+    if executor is None and (why := library.why_none()):
+        raise ProgramNotFound(2, f"chains take the library: {why}", "chipfire")
 
 
 def _threads(n: int, workers: int | None) -> int:
@@ -419,8 +428,12 @@ def _amounts(amounts: Any, drops: int) -> array[int]:
     return array("Q", many)
 
 
-def _starts(graph: Graph, chips: Any, n: int) -> array[int]:
-    """The stable chips from which n chains begin, of the rows that were given, or of one form for all."""
+def _starts(graph: Graph, chips: Any, n: int) -> array[int] | None:
+    """The stable chips from which n chains begin, of the rows that were given, or of one form for all; None if each begins
+    with a random recurrent configuration, for which the graph is undirected."""
+    if chips is None:
+        require_undirected(graph.loop_free, "; chains on it take `chips=`")
+        return None
     found = read_chips(chips, graph) if isinstance(chips, FILE) else chips
     if getattr(found, "ndim", 1) > 1:
         found = in_order(found, "chips are rows, or those of all chains")
@@ -448,7 +461,7 @@ def _result(plan: Plan, table: Any) -> Chains | Histograms:
         told = (plan.seed, plan.first)
         return Histograms(plan.seeds, size, extent, lost, sums, made, chips, *told)
     size, extent, lost, *timed = (_by_rows(numpy, it, plan.n) for it in table.columns)
-    fired = firings(plan.graph, plan.n * plan.drops, table.fired) if plan.fired else None
+    fired = firings(plan.graph, plan.n * plan.drops, table.taken()) if plan.fired else None
     duration = timed[0] if timed else None
     rows = (size, extent, lost, made, chips, fired)
     return Chains(plan.seeds, *rows, plan.seed, plan.first, duration)

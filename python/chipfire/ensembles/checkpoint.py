@@ -3,6 +3,7 @@
 from __future__ import annotations
 
 import contextlib
+import errno
 import hashlib
 import json
 import os
@@ -11,7 +12,7 @@ from array import array
 from collections.abc import Iterator
 from typing import Any
 
-from chipfire.ensembles.player import Plan, Table
+from chipfire.ensembles.player import Plan, spanning, Table
 from chipfire.utils import FileName, import_optional
 
 #: How SQLite tells these files from those of other programs, and their version.
@@ -52,6 +53,8 @@ def _said(plan: Plan) -> dict[str, str]:
         "fired": plan.fired,
         "durations": plan.timed,
     }
+    if plan.until == "spans":
+        values["shape"] = _digest(spanning(graph))
     return {name: json.dumps(value) for name, value in values.items()}
 
 
@@ -61,7 +64,7 @@ class Checkpoint:
     def __init__(self, file: FileName, plan: Plan) -> None:
         self.file = os.fspath(file)
         self.plan = plan
-        self._rows = sqlite3.connect(self.file, timeout=60)
+        self._rows = _connected(self.file)
         try:
             self._open(_said(plan))
         except BaseException:
@@ -105,14 +108,19 @@ class Checkpoint:
             raise ValueError(f"{self.file} has chains of other {', '.join(others)}")
 
     def take(self, table: Table) -> list[tuple[int, int]]:
-        """Copies the parts that are there, and lie among the chains to play, into the table; the places of each."""
+        """Copies what is there of the chains to play into the table, each chain once even if several parts have it; the places
+        of all, in their order."""
         found = []
+        at = 0
         for first, n, *columns in self._rows.execute("SELECT * FROM parts ORDER BY first"):
-            start = first - self.plan.first
-            stop = start + n
-            if 0 <= start < stop <= self.plan.n:
-                table.put(start, stop, self._part(n, columns, table))
+            part_start = first - self.plan.first
+            start = max(part_start, at)
+            stop = min(part_start + n, self.plan.n)
+            if start < stop:
+                part = self._part(n, columns, table)
+                table.put(start, stop, part.cut(start - part_start, stop - part_start))
                 found.append((start, stop))
+                at = stop
         return found
 
     def _part(self, n: int, columns: list[bytes], table: Table) -> Table:
@@ -137,6 +145,17 @@ class Checkpoint:
         with self._rows:
             marks = ", ".join("?" * len(row))
             self._rows.execute(f"INSERT OR REPLACE INTO parts VALUES ({marks})", row)
+
+
+def _connected(file: str) -> sqlite3.Connection:
+    """What reads and writes a file, which is new if there is none yet."""
+    folder = os.path.dirname(os.path.abspath(file))
+    if not os.path.isdir(folder):
+        raise FileNotFoundError(errno.ENOENT, "a checkpoint is in a folder that is there", folder)
+    try:
+        return sqlite3.connect(file, timeout=60)
+    except sqlite3.OperationalError as error:
+        raise ValueError(f"{file} is no checkpoint of chains: {error}") from None
 
 
 def _joined(pieces: list[Any]) -> list[Any]:

@@ -125,7 +125,7 @@ class Drops(WithArea):
 
     def histogram(self, of: str = "size") -> dict[int, int]:
         """How many drops have each size that occurs, ascending; or each `area`, `lost`, or `duration`."""
-        return dict(sorted(Counter(column_of(self, of).tolist()).items()))
+        return histogram_of([column_of(self, of)])
 
     def to_dataframe(self) -> Any:
         """The columns `size`, `extent`, `lost` and, if it is there, `duration` as a DataFrame of pandas, of 64 bits. Its
@@ -187,6 +187,14 @@ def column_of(found: Any, of: str) -> Any:
     if column is None:
         raise ValueError(f"a drop has a 'size', an 'area' ('extent') and 'lost', and no {of!r}")
     return column
+
+
+def histogram_of(rows: Iterable[Any]) -> dict[int, int]:
+    """How many numbers of these rows are each that occurs, ascending."""
+    counts: Counter[int] = Counter()
+    for row in rows:
+        counts.update(row.tolist())
+    return dict(sorted(counts.items()))
 
 
 def names_of(vertices: Any, what: str) -> Iterable[Any]:
@@ -252,7 +260,7 @@ class Measured:
             self.number, place = fall(pile, self._room, where, many, rows)
             if self.number not in (0, kept.STOPPED):
                 raise refused(self.number, self.made + place, self._graph)
-            self.made += place if self.number else len(where)
+            self.made += place
             if self._progress:
                 self._progress.show(self.made, self.made == len(at))
             return self.number == 0

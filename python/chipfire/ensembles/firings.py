@@ -3,10 +3,11 @@
 from __future__ import annotations
 
 import time
-from collections.abc import Callable, Sequence
+from collections.abc import Sequence
 from typing import Any, NamedTuple
 
 from chipfire.backend import kept
+from chipfire.backend.portions import Stopped
 from chipfire.ensembles import archive
 from chipfire.graphs.graph import Graph
 from chipfire.utils import import_optional, numpy_in_use
@@ -60,11 +61,12 @@ class Firings(NamedTuple):
         return sparse.csr_array((self.counts, self._numbers(graph), self.offsets), shape)
 
     def radii(self, graph: Graph, vertices: Any) -> tuple[Any, Any]:
-        """Two radii of each drop on a grid, in the lengths of an edge, and 0 if nothing fired. The radius is the greatest
-        distance of a vertex that fired from that on which the drop fell; `vertices` are those. The gyration radius is the
-        root of the mean square distance of the vertices that fired from their centre."""
+        """Two radii of each drop on a square grid of two directions with open borders, or on a region of one, in the
+        lengths of an edge, and 0 if nothing fired. Other graphs are a ValueError. The radius is the greatest distance of a
+        vertex that fired from that on which the drop fell; `vertices` are those. The gyration radius is the root of the
+        mean square distance of the vertices that fired from their centre."""
         numpy = import_optional("numpy")
-        places = _places(numpy, graph)
+        places = _open_places(numpy, graph)
         origins = places[[graph.number(name) for name in vertices]]
         if len(origins) != len(self.offsets) - 1:
             raise ValueError(
@@ -91,14 +93,50 @@ class Firings(NamedTuple):
         return numpy.array([numbers[name] for name in self.vertices.tolist()], "i8")
 
 
-def _places(numpy: Any, graph: Graph) -> Any:
-    """The row and the column of each vertex of a grid, by its number."""
+def shape_of(graph: Graph, therefore: str) -> tuple[int, int]:
+    """The shape of a grid. Other graphs are refused, with what follows from that."""
     if graph.shape is None:
-        raise ValueError("the graph is no grid, so nothing in it has a radius")
+        raise ValueError(f"the graph is no grid, so {therefore}")
+    return graph.shape
+
+
+def places_on_grid(numpy: Any, graph: Graph, width: int) -> Any:
+    """The row and the column of each vertex of a grid so wide, by its number."""
     squares = numpy.array([*graph.squares], "i8")
     places = numpy.zeros((graph.vertices, 2), "i8")
-    places[: len(squares)] = numpy.stack(numpy.divmod(squares, graph.shape[1]), 1)
+    places[: len(squares)] = numpy.stack(numpy.divmod(squares, width), 1)
     return places
+
+
+def ends_inside(numpy: Any, graph: Graph) -> tuple[Any, Any]:
+    """The tails and the heads of the edges that do not lead to the sink."""
+    tails, heads, _ = (numpy.array(column, "i8") for column in graph.columns)
+    is_inside = heads != graph.sink
+    return tails[is_inside], heads[is_inside]
+
+
+def _open_places(numpy: Any, graph: Graph) -> Any:
+    """The row and the column of each vertex of an open square grid of two directions, or of a region of one."""
+    _, width = shape_of(graph, "nothing in it has a radius")
+    places = places_on_grid(numpy, graph, width)
+    tails, heads = ends_inside(numpy, graph)
+    far = abs(places[tails] - places[heads]).sum(1)
+    pairs = numpy.minimum(tails, heads) * graph.vertices + numpy.maximum(tails, heads)
+    neighbours = _neighbours(numpy, numpy.delete(places, graph.sink, 0))
+    if (far != 1).any() or len(numpy.unique(pairs)) != neighbours:
+        raise ValueError(
+            "radii are those on square grids of two directions with open borders, or on regions of them"
+        )
+    return places
+
+
+def _neighbours(numpy: Any, places: Any) -> int:
+    """How many pairs of these places are neighbours on a square grid."""
+    width = (
+        places.max(initial=0) + 2
+    )  # (so the last of a row is no neighbour of the first of the next)
+    squares = places[:, 0] * width + places[:, 1]
+    return int(sum(numpy.isin(squares + step, squares).sum() for step in (1, width)))
 
 
 class Room:
@@ -111,7 +149,12 @@ class Room:
         self._pieces: list[tuple[Any, Any]] = []
 
     def drops(
-        self, pile: kept.KeptPile, at: Any, amounts: Any, columns: Sequence[Any]
+        self,
+        pile: kept.KeptPile,
+        at: Any,
+        amounts: Any,
+        columns: Sequence[Any],
+        until: kept.Until = kept.NEVER,
     ) -> tuple[int, int]:
         """Drops as `KeptPile.measure` makes them, in as many calls as there is room for."""
         numpy = import_optional("numpy")
@@ -119,13 +162,14 @@ class Room:
         while True:
             ends = numpy.zeros(len(at) - made, "u8")
             where, many, *rest = (it[made:] for it in (at, amounts, *columns))
-            number, place = pile.measure(where, many, rest, (ends, self._vertices, self._times))
+            room = (ends, self._vertices, self._times)
+            number, place = pile.measure(where, many, rest, room, until)
             if number not in (0, kept.STOPPED):
                 return number, made + place
             if place:
                 self._take(int(ends[place - 1]))
             made += place
-            if number or made == len(at):
+            if number or made == len(at) or ends_run(until, self, columns, made):
                 return number, made
 
     def _take(self, written: int) -> None:
@@ -141,6 +185,11 @@ class Room:
         vertices = each.nonzero()[0]
         self._add(vertices, each[vertices])
 
+    def last(self, extent: int) -> Any:
+        """The vertices that the last drop fired, which are so many."""
+        vertices = self._pieces[-1][0]
+        return vertices[len(vertices) - extent :]
+
     def taken(self) -> tuple[Any, Any]:
         """What was written since it was taken the last time."""
         numpy = import_optional("numpy")
@@ -151,59 +200,90 @@ class Room:
 
 
 def fall(
-    pile: kept.KeptPile, room: Room | None, at: Any, amounts: Any, columns: Sequence[Any]
+    pile: kept.KeptPile,
+    room: Room | None,
+    at: Any,
+    amounts: Any,
+    columns: Sequence[Any],
+    until: kept.Until = kept.NEVER,
 ) -> tuple[int, int]:
     """Drops on a pile, whose numbers go into the columns, the durations too if there is a fourth, and what they fire into the
-    room, if there is one: the number of a fault, or 0, and how many were made, or the place of the fault. Between two portions
-    of a drop of many chips an interrupt is seen, but not while durations are measured.
+    room, if there is one: the number of a fault, or 0, and how many were made, or the place of the fault. Fewer are made if
+    one ends the run, or is `Stopped`. Between two portions of a drop of many chips an interrupt is seen, but not while
+    durations are measured.
     """
     if len(columns) > 3:
-        return _fall_at_once(pile, room, at, amounts, columns)
-    made = 0
-    while made < len(amounts):
-        falls, some = _next(amounts[made:], pile.light)
-        where, many, *rows = (it[made : made + some] for it in (at, amounts, *columns))
-        number, place = falls(pile, room, where, many, rows)
-        if number:
-            return number, made + place
-        made += some
-    return 0, made
+        return _fall_at_once(pile, room, at, amounts, columns, until)
+    made = number = 0
+    while made < len(amounts) and not number and not ends_run(until, room, columns, made):
+        light = _light(amounts[made:], pile.light)
+        where, many, *rows = (it[made : made + (light or 1)] for it in (at, amounts, *columns))
+        try:
+            if light:
+                number, place = _fall_at_once(pile, room, where, many, rows, until)
+            else:
+                number, place = _pour(pile, room, where, many, rows)
+        except Stopped:
+            if not pile.is_own:
+                raise
+            break
+        made += place
+    return number, made
 
 
-def _next(amounts: Any, light: int) -> tuple[Callable[..., tuple[int, int]], int]:
-    """What makes the next drops of these amounts, and how many: light ones up to one that is not, or this one alone."""
-    if amounts[0] > light:
-        return _pour, 1
+def ends_run(until: kept.Until, room: Room | None, columns: Sequence[Any], made: int) -> bool:
+    """Whether the last of the drops that were made ends the run. The room has what they fired, if there are marks."""
+    if made and until.loses and columns[2][made - 1]:
+        return True
+    if not (made and room and len(until.marks)):
+        return False
+    numpy = import_optional("numpy")
+    marks = until.marks[room.last(columns[1][made - 1])]
+    bits = int(numpy.bitwise_or.reduce(marks))
+    return any(bits & both == both for both in (1, 2 | 4, 8 | 16))
+
+
+def _light(amounts: Any, most: int) -> int:
+    """How many drops of at most so many chips come before one of more."""
+    if amounts[0] > most:
+        return 0
     numpy = numpy_in_use()
-    most = int(numpy.asarray(amounts).max()) if numpy else max(amounts)
-    if most <= light:
-        return _fall_at_once, len(amounts)
-    return _fall_at_once, next(drop for drop, amount in enumerate(amounts) if amount > light)
+    if (int(numpy.asarray(amounts).max()) if numpy else max(amounts)) <= most:
+        return len(amounts)
+    return next(drop for drop, amount in enumerate(amounts) if amount > most)
 
 
 def _fall_at_once(
-    pile: kept.KeptPile, room: Room | None, at: Any, amounts: Any, columns: Sequence[Any]
+    pile: kept.KeptPile,
+    room: Room | None,
+    at: Any,
+    amounts: Any,
+    columns: Sequence[Any],
+    until: kept.Until,
 ) -> tuple[int, int]:
     """Drops each of which is made in one call."""
     begun = time.monotonic()
-    number, made = _measured(pile, room, at, amounts, columns)
+    number, made = _measured(pile, room, at, amounts, columns, until)
     pile.note(len(at), time.monotonic() - begun)
     if number == kept.STOPPED and pile.is_before(at[made], amounts[made]):
         where, many, *rows = (it[made:] for it in (at, amounts, *columns))
-        number, more = _measured(pile, room, where, many, rows)
+        number, more = _measured(pile, room, where, many, rows, until)
         made += more
     return number, made
 
 
 def _measured(
-    pile: kept.KeptPile, room: Room | None, at: Any, amounts: Any, columns: Sequence[Any]
+    pile: kept.KeptPile,
+    room: Room | None,
+    at: Any,
+    amounts: Any,
+    columns: Sequence[Any],
+    until: kept.Until,
 ) -> tuple[int, int]:
-    """Drops by the call that tells what is asked for."""
+    """Drops by the call that measures what is asked for."""
     if room:
-        return room.drops(pile, at, amounts, columns)
-    if len(columns) == 3:
-        return pile.drops(at, amounts, [*columns])
-    return pile.measure(at, amounts, columns)
+        return room.drops(pile, at, amounts, columns, until)
+    return pile.measure(at, amounts, columns, until=until)
 
 
 def _pour(

@@ -169,11 +169,7 @@ class Pile:
         with self._alone():
             pile = self._before([amount])
             if pile:
-                self._is_stopped = self._stops(pile.drop(at, amount))
-                self._add(at, amount)
-                if self._is_stopped:
-                    raise refused(kept.STOPPED, 0, self.graph)
-                return Drop(*pile.told)
+                return self._one_by_library(pile, at, amount)
             found = self._by_program(array("Q", [at]), array("Q", [amount]))
             if not len(found):
                 raise refused(kept.STOPPED, 0, self.graph)
@@ -339,6 +335,21 @@ class Pile:
         chips = tuple(self.graph.with_loops(left))
         return Report(chips, tuple(fired), tuple(over), graph=self.graph)
 
+    def _one_by_library(self, pile: kept.KeptPile, at: int, amount: int) -> Drop:
+        """A drop on the library's pile."""
+        there, total = self._game[0][at], self._total
+        try:
+            self._is_stopped = self._stops(pile.drop(at, amount))
+            self._add(at, amount)
+        except BaseException:
+            self._game[0][at], self._total, self._is_stopped = there, total, False
+            if pile.is_own and sum(pile.chips()) != total:
+                pile.free()  # (the drop was made: all is played again without it)
+            raise
+        if self._is_stopped:
+            raise refused(kept.STOPPED, 0, self.graph)
+        return Drop(*pile.told)
+
     def _by_library(
         self,
         pile: kept.KeptPile,
@@ -350,19 +361,33 @@ class Pile:
         """Drops on the library's pile."""
         measured = Measured(self.graph, len(at), fired, durations)
         before = pile.chips(), None, pile.fired()
+        game, total = self._game, self._total
         try:
             measured.play(pile, at, amounts)
+            found = Drops(report=self._report(), **measured.told())
+            self._is_stopped = self._stops(measured.number)
+            fallen = measured.made + self._is_stopped
+            self._add_all(at[:fallen], amounts[:fallen])
+            return found
         except BaseException:
+            self._game, self._total, self._is_stopped = game, total, False
             if pile.is_own:
                 pile.put(*before)
             raise
-        self._is_stopped = self._stops(measured.number)
-        fallen = measured.made + self._is_stopped
-        self._add_all(at[:fallen], amounts[:fallen])
-        return Drops(report=self._report(), **measured.told())
 
     def _by_program(self, at: array[int], amounts: array[int]) -> Drops:
         """Drops that the program plays."""
+        start, limit = self._game
+        before = (start[:], limit), self._total, self._end
+        try:
+            return self._all_by_program(at, amounts)
+        except BaseException:
+            self._game, self._total, self._end = before
+            self._is_stopped = False
+            raise
+
+    def _all_by_program(self, at: array[int], amounts: array[int]) -> Drops:
+        """The same, of which an error may leave some."""
         assert self._end is not None
         (left, fired), (_, limit) = self._end, self._game
         names = [self._free.names[vertex] for vertex in at]

@@ -9,7 +9,7 @@ import random
 import threading
 from array import array
 from collections import Counter
-from collections.abc import Callable, Mapping, Sequence
+from collections.abc import Mapping
 from dataclasses import dataclass, field, replace
 from typing import Any, Union
 
@@ -17,7 +17,15 @@ from chipfire.backend import kept, library
 from chipfire.backend.portions import Stopped
 from chipfire.backend.process import refused
 from chipfire.ensembles.drops import COLUMNS, in_calls, names_of, PART
-from chipfire.ensembles.firings import fall, numbers_of, Room
+from chipfire.ensembles.firings import (
+    ends_inside,
+    ends_run,
+    fall,
+    numbers_of,
+    places_on_grid,
+    Room,
+    shape_of,
+)
 from chipfire.ensembles.wilson import recurrent_rows
 from chipfire.graphs.graph import Graph
 from chipfire.utils import import_optional, MAX_LIMIT
@@ -58,6 +66,8 @@ def places_of(graph: Graph, on: Any) -> Places:
     is_weighted = isinstance(on, Mapping) or hasattr(on, "items")
     names = [*on.keys()] if is_weighted else [*names_of(on, "a series")]
     vertices = array("Q", map(graph.number, names))
+    if not vertices:
+        raise ValueError("chips fall on vertices that `on` names, and it names none")
     if len({*vertices}) < len(vertices) or graph.sink in vertices:
         raise ValueError("chips fall on different vertices, of which none is the sink")
     if not is_weighted:
@@ -108,13 +118,6 @@ class Plan:
         starts = None if self.starts is None else self.starts[start * width : stop * width]
         return replace(self, first=self.first + start, n=stop - start, starts=starts)
 
-    def begun(self) -> Plan:
-        """The same chains, with the chips from which they begin."""
-        if self.starts is not None:
-            return self
-        starts = recurrent_rows(self.graph, self.seed, self.n, self.first)
-        return replace(self, starts=starts)
-
 
 @dataclass
 class Table:
@@ -124,6 +127,7 @@ class Table:
     made     how many drops each chain made
     chips    what lies on each vertex, without the chips of loops
     fired    pieces of what fired, each with three arrays: the numbers of drops, the vertices, and how often they fired
+    parts    the pieces that parts of this table have, by the numbers of their first chains
     """
 
     drops: int
@@ -132,6 +136,7 @@ class Table:
     made: Any
     chips: Any
     fired: list[Any] = field(default_factory=list)
+    parts: dict[int, list[Any]] = field(default_factory=dict)
 
     @classmethod
     def of(cls, plan: Plan) -> Table:
@@ -142,13 +147,14 @@ class Table:
         return cls(plan.drops, plan.graph.vertices, columns, made, chips)
 
     def part(self, start: int, stop: int) -> Table:
-        """The rows of these chains, in the memory of this table."""
+        """The rows of these chains, in the memory of this table, which has what they fire too."""
         return Table(
             self.drops,
             self.width,
             [memoryview(it)[start * self.drops : stop * self.drops] for it in self.columns],
             memoryview(self.made)[start:stop],
             memoryview(self.chips)[start * self.width : stop * self.width],
+            self.parts.setdefault(start, []),
         )
 
     def rows(self, chain: int, start: int, stop: int) -> list[Any]:
@@ -166,8 +172,24 @@ class Table:
         mine = [*part.columns, part.made, part.chips]
         for numbers, given in zip(mine, [*other.columns, other.made, other.chips]):
             _copy(numbers, given)
-        more = start * self.drops
-        self.fired += [(drops + more, *others) for drops, *others in other.fired]
+        self.parts[start] = other.fired
+
+    def cut(self, start: int, stop: int) -> Table:
+        """The rows of these chains, and what they fired as this table's own pieces have it."""
+        part = self.part(start, stop)
+        first, last = start * self.drops, stop * self.drops - 1
+        for drops, *others in self.fired:
+            is_in = (first <= drops) & (drops <= last)
+            part.fired.append((drops[is_in] - first, *(it[is_in] for it in others)))
+        return part
+
+    def taken(self) -> list[Any]:
+        """The pieces of what all chains fired, which are no longer in the table."""
+        found = self.fired
+        while self.parts:
+            chain, pieces = self.parts.popitem()
+            found += [(drops + chain * self.drops, *others) for drops, *others in pieces]
+        return found
 
 
 @dataclass
@@ -185,7 +207,6 @@ class Tally:
     sums: list[list[int]]
     made: Any
     chips: Any
-    fired: tuple[()] = ()
 
     @classmethod
     def of(cls, plan: Plan) -> Tally:
@@ -272,19 +293,27 @@ def table_of(plan: Plan) -> AnyTable:
     return Tally.of(plan) if plan.counted else Table.of(plan)
 
 
+def begin(plan: Plan, table: AnyTable) -> None:
+    """Puts the chips into a table from which chains begin."""
+    starts = plan.starts
+    if starts is None:
+        starts = recurrent_rows(plan.graph, plan.seed, plan.n, plan.first)
+    _copy(table.chips, starts)
+
+
 def play(plan: Plan, table: AnyTable, watch: Watch) -> AnyTable:
-    """Plays chains, which all have their starts, into a table."""
-    _copy(table.chips, plan.starts)
+    """Plays chains into a table, which has their starts."""
     _Player(plan, table, watch).play()
     return table
 
 
 def played(plan: Plan) -> AnyTable:
     """Plays chains to their ends, in a process of their own."""
-    if library.find_library() is None:
-        raise RuntimeError("a worker has no library of chipfire beside its package")
-    plan = plan.begun()
-    return play(plan, table_of(plan), Watch())
+    if why := library.why_none():
+        raise RuntimeError(f"a worker has no library of chipfire: {why}")
+    table = table_of(plan)
+    begin(plan, table)
+    return play(plan, table, Watch())
 
 
 class _Player:
@@ -300,9 +329,7 @@ class _Player:
         self.twister: Any = None
         is_asked = plan.fired or plan.until == "spans"
         self.room = Room(self.graph.vertices) if is_asked else None
-        self.ends = _ends(self.graph, plan.until)
-        #: Whether some drop has more than a chip, and may be long.
-        self.is_heavy = max(plan.amounts, default=0) > 1
+        self.until = _until(self.graph, plan.until)
         #: The number of the next drop among those of all chains, and whether the chain has ended.
         self.next = 0
         self.is_over = False
@@ -380,47 +407,24 @@ class _Player:
             return not self.is_over and not self.watch.is_stopped
 
         at = self._drawn(len(amounts))
-        first = 1 if self.plan.until else self.watch.drops_of_call
-        of_call = in_calls(call, at, amounts, rows, first)
+        of_call = in_calls(call, at, amounts, rows, self.watch.drops_of_call)
         self.watch.drops_of_call = of_call or self.watch.drops_of_call
         return made
 
     def _call(self, pile: kept.KeptPile, at: Any, amounts: Any, columns: list[Any]) -> int:
-        """Makes drops up to the one with which the chain ends; how many. If more were made, they are taken back: all, if a long
-        one is to stop."""
-        before = pile.chips() if self.plan.until or self.is_heavy else None
-        try:
-            number, told = fall(pile, self.room, at, amounts, columns)
-            if number:
-                raise refused(number, told, self.graph)
-            fired = self.room.taken() if self.room else ()
-            last = self.ends(columns, fired)
-            made = len(at) if last is None else last + 1
-            self.is_over = last is not None
-        except Stopped:
-            fired = self.room.taken() if self.room else ()
-            made = 0
-        self._note(columns, fired, made)
-        if before is not None and made < len(at):
-            self._take_back(pile, before, at[:made], amounts[:made], columns)
+        """Makes drops up to one that ends the chain, or one that is stopped; how many."""
+        number, made = fall(pile, self.room, at, amounts, columns, self.until)
+        if number:
+            raise refused(number, made, self.graph)
+        self.is_over = ends_run(self.until, self.room, columns, made)
+        self._note(columns, self.room.taken() if self.room else (), made)
         return made
 
-    def _take_back(
-        self, pile: kept.KeptPile, before: array[int], at: Any, amounts: Any, columns: list[Any]
-    ) -> None:
-        """Has only these drops made, which are the first ones of a call."""
-        self._put(pile, before)
-        made = len(at)
-        if made:
-            fall(pile, None, at, amounts, [column[:made] for column in columns[:3]])
-        for column in columns:
-            _copy(column[made:], array("Q", bytes(8 * (len(column) - made))))
-
     def _note(self, columns: list[Any], fired: Any, made: int) -> None:
-        """Takes what the first drops fired, if that is asked for."""
+        """Takes what these drops fired, if that is asked for."""
         if self.plan.fired:
             numbers = numbers_of(_numbers(columns[1])[:made], self.next)
-            self.table.fired.append((numbers, *(it[: len(numbers)] for it in fired)))
+            self.table.fired.append((numbers, *fired))
         self.next += made
 
 
@@ -430,48 +434,39 @@ def _numbers(column: Any) -> Any:
     return numpy.frombuffer(column, "i8")
 
 
-def _ends(graph: Graph, until: str | None) -> Callable[[list[Any], Any], int | None]:
-    """What tells of the columns of drops, and of what they fired, with which of them the chain ends."""
+def _until(graph: Graph, until: str | None) -> kept.Until:
+    """The drop that ends a chain, as the library is told."""
     if until is None:
-        return lambda columns, fired: None
+        return kept.NEVER
     if until == "loss":
-        return lambda columns, fired: _first(_numbers(columns[2]) > 0)
-    spans = spanning(graph)
-    return lambda columns, fired: _first(spans(_numbers(columns[1]), fired[0]))
+        return kept.Until(loses=True)
+    return kept.Until(marks=spanning(graph))
 
 
-def _first(test: Any) -> int | None:
-    """The place of the first that is true."""
-    places = test.nonzero()[0]
-    return int(places[0]) if len(places) else None
-
-
-def spanning(graph: Graph) -> Callable[[Any, Any], Any]:
-    """What tells of each drop whether the vertices that fired touch two opposite borders of the grid: of drops that fired
-    so many, and these vertices."""
-    if graph.shape is None:
-        raise ValueError("the graph is no grid, so nothing spans it")
+def spanning(graph: Graph) -> Any:
+    """The marks that end a run with a drop that fires vertices at two opposite borders of the grid (`kept.Until`)."""
+    height, width = shape_of(graph, "nothing spans it")
     numpy = import_optional("numpy")
-    height, width = graph.shape
-    places = [divmod(square, width) for square in graph.squares]
-    is_there = numpy.zeros((4, graph.vertices))
-    for row, (way, end) in zip(is_there, _ends_of(height, width)):
-        row[_border(places, graph.sink, way, end)] = 1
+    places = places_on_grid(numpy, graph, width)
+    _refuse_layers(numpy, graph, places, (height, width))
+    marks = numpy.zeros(graph.vertices, "u8")
+    for bit, (way, end) in zip((2, 4, 8, 16), _ends_of(height, width)):
+        is_there = places[:, way] == end
+        is_there[graph.sink] = False
+        marks[is_there] |= numpy.uint64(bit)
+    return marks
 
-    def by(lengths: Any, vertices: Any) -> Any:
-        drop = numbers_of(lengths)
-        touched = [numpy.bincount(drop, row[vertices], len(lengths)) > 0 for row in is_there]
-        top, bottom, left, right = touched
-        return top & bottom | left & right
 
-    return by
+def _refuse_layers(numpy: Any, graph: Graph, places: Any, shape: tuple[int, int]) -> None:
+    """Refuses a grid of more directions than two. Its picture has layers below each other, so all edges stay in a column
+    that lead farther than to a neighbour, or across joined borders."""
+    tails, heads = ends_inside(numpy, graph)
+    steps = abs(places[tails] - places[heads])
+    is_far = ((steps > 1) & (steps < numpy.array(shape) - 1)).any(1)
+    if is_far.any() and not steps[is_far, 1].any():
+        raise ValueError("the graph is no grid of two directions, so nothing spans it")
 
 
 def _ends_of(height: int, width: int) -> list[tuple[int, int]]:
     """The first and the last row, then the first and the last column."""
     return [(0, 0), (0, height - 1), (1, 0), (1, width - 1)]
-
-
-def _border(places: Sequence[tuple[int, int]], sink: int, way: int, end: int) -> list[int]:
-    """The vertices in one row or column."""
-    return [it for it, place in enumerate(places) if place[way] == end and it != sink]

@@ -2,23 +2,23 @@
 
 from __future__ import annotations
 
-from collections.abc import Iterator, Sequence
-from concurrent.futures import Executor, FIRST_COMPLETED, Future, ThreadPoolExecutor, wait
+import queue
+from collections.abc import Iterator, Mapping
+from concurrent.futures import Executor, Future, ThreadPoolExecutor
 from typing import Any
 
+from chipfire.backend.interrupts import Interrupts, WAIT
 from chipfire.ensembles.checkpoint import Checkpoint
-from chipfire.ensembles.player import AnyTable, Plan, play, played, Table, Watch
+from chipfire.ensembles.player import AnyTable, begin, Plan, play, played, Table, Watch
 from chipfire.progress import Progress
 
 #: How many parts an executor gets, and each thread.
 _OF_EXECUTOR = 64
 _OF_THREAD = 4
 
-#: How many seconds pass at most until progress is shown.
-_WAIT = 0.1
-
 Place = tuple[int, int]
-Futures = dict["Future[AnyTable]", Place]
+#: The function that plays each part, and what it takes.
+Calls = Mapping[Place, tuple[Any, ...]]
 
 
 class Spread:
@@ -45,84 +45,124 @@ class Spread:
         self.watch = Watch()
         #: How many drops are made of parts that are done, by an executor or before.
         self.made = 0
+        #: The chains whose chips lie in the table, at their starts or later.
+        self.there: list[Place] = []
+        #: The parts that are not taken yet, and those of them that are done, which other threads tell.
+        self.futures: dict[Place, Future[AnyTable]] = {}
+        self.done: queue.SimpleQueue[Place] = queue.SimpleQueue()
 
     def play(self, progress: Progress, partial: bool) -> None:
         """Plays what is left. After an interrupt all stops soon: that is an error, unless it is `partial`."""
-        there: list[Place] = []
         if self.checkpoint and isinstance(self.table, Table):
-            there = self.checkpoint.take(self.table)
-        self.made = int(sum(sum(self.table.made[start:stop]) for start, stop in there))
-        gaps = [*_gaps(there, self.plan.n)]
+            self.there += self.checkpoint.take(self.table)
+        self.made = int(sum(sum(self.table.made[start:stop]) for start, stop in self.there))
         try:
-            if self.executor is None:
-                self._by_threads(gaps, progress)
-            else:
-                self._by_executor(self.executor, gaps, progress)
-            progress.show(self.made + self.watch.made, is_last=True)
+            calls = self._calls_of_threads() if self.executor is None else self._calls_of_workers()
+            with Interrupts() as interrupts:
+                if self.executor is None:
+                    self._by_threads(calls, progress, interrupts)
+                else:
+                    self._by_executor(self.executor, calls, progress, interrupts)
+            progress.show(self.plan.n * self.plan.drops, is_last=True)
         except KeyboardInterrupt:
-            if not partial:
+            # (after a second one threads may still write into the table)
+            if not partial or self.futures:
                 raise
+            self._begin_others()
 
-    def _by_threads(self, gaps: Sequence[Place], progress: Progress) -> None:
-        futures: Futures = {}
-        with ThreadPoolExecutor(self.workers) as pool:
-            try:
-                for start, stop in gaps:
-                    plan = self.plan.part(start, stop).begun()
-                    for place in _parts(start, stop, _OF_THREAD * self.workers):
-                        part = plan.part(place[0] - start, place[1] - start)
-                        rows = self.table.part(*place)
-                        futures[pool.submit(play, part, rows, self.watch)] = place
-            except BaseException:
-                # (or the pool waits for the ends of all that have begun)
-                self._stop(futures)
-                raise
-            self._take_all(futures, progress)
+    def _gaps(self) -> Iterator[Place]:
+        """The places of the chains whose chips are not in the table."""
+        at = 0
+        for start, stop in sorted(self.there):
+            if at < start:
+                yield at, start
+            at = stop
+        if at < self.plan.n:
+            yield at, self.plan.n
 
-    def _by_executor(self, executor: Executor, gaps: Sequence[Place], progress: Progress) -> None:
-        places = [it for gap in gaps for it in _parts(*gap, _OF_EXECUTOR)]
-        futures = {executor.submit(played, self.plan.part(*place)): place for place in places}
-        self._take_all(futures, progress)
+    def _calls_of_threads(self) -> Calls:
+        """What plays each part into the table, which gets the starts of all of them before."""
+        calls = {}
+        for gap in [*self._gaps()]:
+            self._begin(gap)
+            for place in _parts(*gap, _OF_THREAD * self.workers):
+                calls[place] = (play, self.plan.part(*place), self.table.part(*place), self.watch)
+        return calls
 
-    def _take_all(self, futures: Futures, progress: Progress) -> None:
-        """Takes the numbers of all parts, as they are done."""
+    def _calls_of_workers(self) -> Calls:
+        """What plays each part into a table of its own."""
+        places = [it for gap in self._gaps() for it in _parts(*gap, _OF_EXECUTOR)]
+        return {place: (played, self.plan.part(*place)) for place in places}
+
+    def _begin(self, place: Place) -> None:
+        """Puts the starts of these chains into the table."""
+        begin(self.plan.part(*place), self.table.part(*place))
+        self.there.append(place)
+
+    def _begin_others(self) -> None:
+        """Puts the starts of all other chains into the table."""
+        for gap in [*self._gaps()]:
+            self._begin(gap)
+
+    def _by_threads(self, calls: Calls, progress: Progress, interrupts: Interrupts) -> None:
+        pool = ThreadPoolExecutor(self.workers)
         try:
-            while futures:
-                done, _ = wait(futures, _WAIT, FIRST_COMPLETED)
-                for future in done:
-                    self._take(futures.pop(future), future.result())
+            self._by_executor(pool, calls, progress, interrupts)
+        finally:
+            # (after a second interrupt threads may still play)
+            pool.shutdown(wait=not self.futures)
+
+    def _by_executor(
+        self, executor: Executor, calls: Calls, progress: Progress, interrupts: Interrupts
+    ) -> None:
+        """Has an executor make calls, and takes what they return, as they are done."""
+        try:
+            for place, call in calls.items():
+                self._submit(executor, place, call)
+                interrupts.handle()
+            while self.futures:
+                if done := self._next_done():
+                    self._take(done, self.futures.pop(done).result())
                 progress.show(self.made + self.watch.made)
+                interrupts.handle()
         except BaseException:
-            self._stop(futures)
+            self._stop(interrupts)
             raise
 
+    def _submit(self, executor: Executor, place: Place, call: tuple[Any, ...]) -> None:
+        self.futures[place] = future = executor.submit(*call)
+        future.add_done_callback(lambda _: self.done.put(place))
+
+    def _next_done(self) -> Place | None:
+        """A part that is done, of which this was not said before; None if there is none for a while."""
+        try:
+            return self.done.get(timeout=WAIT)
+        except queue.Empty:
+            return None
+
     def _take(self, place: Place, part: Any) -> None:
-        self.table.put(*place, part)
-        if self.executor is not None:  # (what threads of this process make, the watch counts)
+        """Takes a part that is done. (What threads of this process make is in the table, and the watch counts it.)"""
+        if self.executor is not None:
+            self.table.put(*place, part)
+            self.there.append(place)
             self.made += int(sum(part.made))
         if self.checkpoint and not self.watch.is_stopped:
             self.checkpoint.put(*place, part)
 
-    def _stop(self, futures: Futures) -> None:
-        """Has all that plays stop soon, and takes what it has done until then."""
-        is_left = [future for future in futures if not future.cancel()]
+    def _stop(self, interrupts: Interrupts) -> None:
+        """Has threads stop soon, and waits for them; or takes what an executor has done until now."""
         if self.executor is None:
             self.watch.is_stopped = True
-            wait(is_left)
-        for future in is_left:
+        is_left = {place: it for place, it in self.futures.items() if not it.cancel()}
+        self.futures = is_left
+        while is_left and self.executor is None:
+            if done := self._next_done():
+                is_left.pop(done, None)
+            interrupts.handle()
+        self.futures = {}
+        for place, future in is_left.items():
             if future.done() and not future.exception():
-                self._take(futures[future], future.result())
-
-
-def _gaps(there: Sequence[Place], n: int) -> Iterator[Place]:
-    """The places below n that are in none of these, which are in their order."""
-    at = 0
-    for start, stop in there:
-        if at < start:
-            yield at, start
-        at = max(at, stop)
-    if at < n:
-        yield at, n
+                self._take(place, future.result())
 
 
 def _parts(start: int, stop: int, count: int) -> Iterator[Place]:

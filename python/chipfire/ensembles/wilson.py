@@ -108,7 +108,7 @@ def recurrent_rows(
     """The chips of n random recurrent configurations of a seed, from the one with number `first` on, one after another,
     without those of the graph's loops."""
     plain = graph.loop_free
-    _require_undirected(plain)
+    require_undirected(plain)
     base = random_generator(seed).getrandbits(64)
     rows = array("Q")
     for some in Portions(n):
@@ -128,8 +128,9 @@ def _drawn(graph: Graph, base: int, first: int, count: int) -> array[int]:
     return array("Q", itertools.chain.from_iterable(rows))
 
 
-def _require_undirected(graph: Graph) -> None:
-    """Refuses a graph with an edge that has none back, but for those to the sink, by the names of its ends."""
+def require_undirected(graph: Graph, remedy: str = "") -> None:
+    """Refuses a graph with an edge that has none back, but for those to the sink, by the names of its ends, and says what
+    helps."""
     if _is_surely_undirected(graph):
         return
     graph.require()
@@ -139,7 +140,7 @@ def _require_undirected(graph: Graph) -> None:
     for (tail, head), mult in mults.items():
         if head != graph.sink and mults[head, tail] != mult:
             told = f"sends {mult} to {graph.names[head]!r} and gets {mults[head, tail]} back"
-            raise ValueError(f"the graph is directed: vertex {graph.names[tail]!r} {told}")
+            raise ValueError(f"the graph is directed: vertex {graph.names[tail]!r} {told}{remedy}")
 
 
 def _is_surely_undirected(graph: Graph) -> bool:

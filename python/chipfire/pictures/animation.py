@@ -2,15 +2,16 @@
 
 from __future__ import annotations
 
+import functools
 import html
 import json
 import os
 import string
 from collections.abc import Hashable, Iterable
-from concurrent.futures import ThreadPoolExecutor
 from dataclasses import dataclass, field, replace
 
 from chipfire.backend.commands import AnyGraph, AnyProgram, known_chips, known_graph, plain
+from chipfire.backend.interrupts import on_threads
 from chipfire.backend.report import Report
 from chipfire.configurations.configuration import Chips
 from chipfire.pictures import raster as rasters
@@ -163,12 +164,12 @@ def frames(
         limits = sorted({most * step // (COUNT - 1) for step in range(COUNT)})
     limits = tuple(limits)
     # (side by side, the plays of large graphs would take too much memory)
-    with ThreadPoolExecutor(1 if graph.vertices > 200_000 else processors()) as pool:
-        reports = tuple(
-            pool.map(
-                lambda it: known.get(it) or plain(graph, chips, limit=it, program=program), limits
-            )
-        )
+    threads = 1 if graph.vertices > 200_000 else processors()
+
+    def play(limit: int) -> Report:
+        return known.get(limit) or plain(graph, chips, limit=limit, program=program)
+
+    reports = tuple(on_threads([functools.partial(play, it) for it in limits], threads))
     return Frames(limits, reports, tuple(report.picture(columns, palette) for report in reports))
 
 

@@ -13,7 +13,7 @@ from links import PATH, files, text_of
 from paths import ROOT
 
 CITED = re.compile(r"`([^`\n]+)`")
-#: A name of the sources, with what it is in: `laws::sittings`, `Root::poll`, `Cursor.Take`.
+#: A name of the sources, with what it is in: `laws::stages`, `Root::poll`, `Cursor.Take`.
 NAME = re.compile(r"[A-Za-z_]\w*(?:(?:::|\.)[A-Za-z_]\w*)*!?")
 SOURCES = (".rt", ".antt", ".py", ".js", ".ts", ".edit", ".cases", ".txt", ".json", ".csv", ".cpp", ".c", ".toml")
 #: What stands for any name in a path, as in `crates/NAME/src`.
@@ -25,7 +25,7 @@ MADE = ("target", "dist", "out", "release")
 #: Where it is said what threads cost.
 THREADS = ("docs/BENCHMARKS.md", "docs/NET.md", "crates/chip_arguments/src/commands.rt")
 #: What a page of examples/ says that goes into packages, where docs/ does not.
-NOT_PACKED = "are there, and not in packages"
+NOT_PACKED = "Packages do not have the pages of"
 
 
 @functools.cache

@@ -374,21 +374,43 @@ static void try_measures_on_piles(void)
     const uint64_t at[3] = {0, 2, 0}, amounts[3] = {1, 1, 5};
     for (int i = 0; i < 7; i++) vertices[i] = times[i] = GUARD;
     EXPECT(chipfire_pile_put(&kept, UINT64_C(1) << 40, NUMBERS(1, 1, 0), N) == 0);
-    EXPECT(chipfire_pile_measure(&kept, at, 3, amounts, 3, sizes, 3, extents, 3, losts, 3, durations, 3, ends, 3, vertices, 7,
-                                 times, 7, &place) == 0 && place == 3);
+    EXPECT(chipfire_pile_measure(&kept, at, 3, amounts, 3, 0, NULL, 0, sizes, 3, extents, 3, losts, 3, durations, 3, ends, 3,
+                                 vertices, 7, times, 7, &place) == 0 && place == 3);
     EXPECT(are(sizes, 3, NUMBERS(2, 0, 4)) && are(extents, 3, NUMBERS(2, 0, 2)) && are(losts, 3, NUMBERS(2, 0, 4)));
     EXPECT(are(durations, 3, NUMBERS(2, 0, 3)) && are(ends, 3, NUMBERS(2, 2, 4)));
     EXPECT(are(vertices, 7, NUMBERS(0, 1, 0, 1, GUARD, GUARD, GUARD)));
     EXPECT(are(times, 7, NUMBERS(1, 1, 3, 1, GUARD, GUARD, GUARD)));
     EXPECT_PILE(&kept, NUMBERS(1, 1, 7), NUMBERS(4, 2, 0));
-    EXPECT(chipfire_pile_measure(&kept, at, 3, amounts, 3, sizes, 3, extents, 3, losts, 3, NULL, 0, ends, 3, vertices, 4, times,
-                                 4, &place) == 0 && place == 1);
+    EXPECT(chipfire_pile_measure(&kept, at, 3, amounts, 3, 0, NULL, 0, sizes, 3, extents, 3, losts, 3, NULL, 0, ends, 3,
+                                 vertices, 4, times, 4, &place) == 0 && place == 1);
     EXPECT_PILE(&kept, NUMBERS(1, 0, 9), NUMBERS(5, 3, 0));
-    EXPECT(chipfire_pile_measure(&kept, at, 3, amounts, 3, sizes, 3, extents, 3, losts, 3, NULL, 0, ends, 3, vertices, 4, times,
-                                 3, &place) == 12 && place == 0);
+    EXPECT(chipfire_pile_measure(&kept, at, 3, amounts, 3, 0, NULL, 0, sizes, 3, extents, 3, losts, 3, NULL, 0, ends, 3,
+                                 vertices, 4, times, 3, &place) == 12 && place == 0);
     EXPECT(chipfire_pile_put(&kept, UINT64_C(1) << 40, NUMBERS(4, 0, 0), N) == 0);
-    EXPECT(chipfire_pile_measure(&kept, NULL, 0, NULL, 0, NULL, 0, NULL, 0, NULL, 0, NULL, 0, NULL, 0, NULL, 0, NULL, 0,
-                                 &place) == 0 && place == 0);
+    EXPECT(chipfire_pile_measure(&kept, NULL, 0, NULL, 0, 1, NULL, 0, NULL, 0, NULL, 0, NULL, 0, NULL, 0, NULL, 0, NULL, 0,
+                                 NULL, 0, &place) == 0 && place == 0);
+}
+
+/* How many of three drops are made, if these end a run: the first fires nothing, the second 0 and 1 once, which loses 2
+ * chips, and the third nothing. */
+static uint64_t made_until(uint64_t loses, const uint64_t *marks, size_t marks_len)
+{
+    uint64_t sizes[3], extents[3], losts[3], place = GUARD;
+    const uint64_t at[3] = {2, 0, 2}, amounts[3] = {1, 1, 1};
+    EXPECT(chipfire_pile_put(&kept, UINT64_C(1) << 40, NUMBERS(1, 1, 0), N) == 0);
+    const uint64_t fault = chipfire_pile_measure(&kept, at, 3, amounts, 3, loses, marks, marks_len, sizes, 3, extents, 3, losts,
+                                                 3, NULL, 0, NULL, 0, NULL, 0, NULL, 0, &place);
+    return fault == 0 ? place : 100 + fault;
+}
+
+static void try_ends_of_runs(void)
+{
+    EXPECT(made_until(0, NULL, 0) == 3 && made_until(1, NULL, 0) == 2 && made_until(7, NUMBERS(0, 0, 31), N) == 2);
+    EXPECT(made_until(0, NUMBERS(0, 1, 0), N) == 2 && made_until(0, NUMBERS(32, 33, 0), N) == 2);
+    EXPECT(made_until(0, NUMBERS(2, 4, 0), N) == 2 && made_until(0, NUMBERS(0, 24, 0), N) == 2);
+    EXPECT(made_until(0, NUMBERS(2, 0, 4), N) == 3 && made_until(0, NUMBERS(2, 8, 0), N) == 3);
+    EXPECT(made_until(0, NUMBERS(4, 16, 31), N) == 3 && made_until(0, NUMBERS(32, 64, 31), N) == 3);
+    EXPECT(made_until(0, NUMBERS(1, 1, 1, 1), 4) == 112 && made_until(0, NUMBERS(1, 1), 2) == 112);
 }
 
 /* Faults leave the pile as it was. */
@@ -609,6 +631,7 @@ int main(void)
     try_piles();
     try_plays_of_piles();
     try_drops_on_piles();
+    try_ends_of_runs();
     try_measures_on_piles();
     try_faults_of_piles();
     try_stopped_piles();

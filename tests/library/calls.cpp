@@ -77,6 +77,7 @@ static void play_drops()
     EXPECT(fault_of([&] { chipfire::avalanches(graph, chips, {3}, {1}); }) == at(CHIPFIRE_FAULT_VERTEX, 0));
     chipfire::Pile first(graph, {4, 0, 0}), pile = std::move(first);
     EXPECT(fault_of([&] { first.chips(); }) == at(CHIPFIRE_FAULT_NO_PILE, 0));
+    EXPECT(fault_of([&] { first.measure({1}, {}); }) == at(CHIPFIRE_FAULT_NO_PILE, 0));
     EXPECT((pile.chips() == Row{4, 0, 0} && pile.size() == 76 * 3 + 48 * 4));
     EXPECT(pile.play(0) && !pile.play());
     EXPECT((pile.chips() == Row{1, 0, 3}));
@@ -98,6 +99,13 @@ static void play_drops()
     EXPECT((found.sizes == Row{2, 0, 4, 0, 0} && found.durations == Row{2, 0, 3, 0, 0}));
     EXPECT((found.ends == Row{2, 2, 4, 4, 4} && found.vertices == Row{0, 1, 0, 1} && found.times == Row{1, 1, 3, 1}));
     EXPECT((pile.measure({0}, {0}).durations.empty() && pile.measure({}, {}).ends.empty()));
+    pile.put({1, 1, 0});
+    EXPECT((pile.measure({2, 0, 2}, {1, 1, 1}, true, true).durations == Row{0, 2}));
+    pile.put({1, 1, 0});
+    EXPECT((pile.measure({2, 0, 2}, {1, 1, 1}, false, false, {2, 4, 0}).ends == Row{0, 2}));
+    pile.put({1, 1, 0});
+    EXPECT((pile.measure({2, 0, 2}, {1, 1, 1}, false, false, {2, 0, 5}).ends == Row{0, 2, 2}));
+    EXPECT(fault_of([&] { pile.measure({0}, {1}, false, false, {1, 1}); }) == at(CHIPFIRE_FAULT_LENGTHS, 0));
     EXPECT(fault_of([&] { pile.measure({0, 3}, {1, 1}); }) == at(CHIPFIRE_FAULT_VERTEX, 1));
     EXPECT(fault_of([&] { pile.measure({0, 1}, {1}); }) == at(CHIPFIRE_FAULT_LENGTHS, 0));
 }

@@ -69,14 +69,14 @@ class Pile:
         status = LIBRARY.chipfire_pile_drops(self.at, *words, place.words()[0])
         return status, place.now()[0], list(zip(*(it.now() for it in rows)))
 
-    def measure(self, drops, timed=False, room=None):
+    def measure(self, drops, timed=False, room=None, loses=0, marks=()):
         """Returns the status, the place, and what is written: all rows, durations, ends, and what fired. There is room for
-        `room` vertices; None leaves them out."""
+        `room` vertices; None leaves them out. A drop that loses chips, or fires vertices with such marks, ends the run."""
         columns = [Slice(it) for it in zip(*drops)] if drops else [Slice([]), Slice([])]
         many = [len(drops)] * 3 + [len(drops) * timed, 0 if room is None else len(drops)] + 2 * [room or 0]
-        written, place = [Slice([GUARD] * it) for it in many], Slice([7])
-        words = [word for it in (*columns, *written) for word in it.words()]
-        status = LIBRARY.chipfire_pile_measure(self.at, *words, place.words()[0])
+        written, place, marks = [Slice([GUARD] * it) for it in many], Slice([7]), Slice(marks)
+        drops, others = ([word for it in slices for word in it.words()] for slices in (columns, [marks, *written]))
+        status = LIBRARY.chipfire_pile_measure(self.at, *drops, loses, *others, place.words()[0])
         rows, others = [it.now() for it in written[:3]], [it.now() for it in written[3:]]
         return status, place.now()[0], list(zip(*rows)), *others
 
@@ -112,6 +112,12 @@ def rounds(graph, chips):
                 chips[head] += mult
         count += 1
     return count
+
+
+def ends_run(lost, fired, loses, marks):
+    """Whether a drop that loses so many chips and fires these vertices ends the run, by sets."""
+    sets = [{v for v, mark in enumerate(marks) if mark >> bit & 1} & {*fired} for bit in range(5)]
+    return bool(loses and lost or sets[0] or sets[1] and sets[2] or sets[3] and sets[4])
 
 
 class Piles(unittest.TestCase):
@@ -153,13 +159,14 @@ class Piles(unittest.TestCase):
         self.assertEqual(pile.drops(drops), wanted)
         self.assertEqual(pile.now(), [chips, fired])
 
-    def expect_measures(self, pile, chips, drops, limit, timed=False, room=None):
-        """Checks that drops on a pile that was just begun are measured as firing one by one, and round by round, does it."""
+    def expect_measures(self, pile, chips, drops, limit, timed=False, room=None, loses=0, marks=()):
+        """Checks that drops on a pile that was just begun are measured as firing one by one, and round by round, does it,
+        up to one that ends the run. Returns whether one does, and is not the last drop."""
         graph = pile.graph
         chips, fired, stopped, _ = stepped(graph, chips, limit)
-        rows, lengths, ends, where, times = [], [], [], [], []
+        rows, lengths, ends, where, times, is_over = [], [], [], [], [], False
         for vertex, amount in drops:
-            if stopped or room is not None and room - len(where) < graph.vertices:
+            if stopped or is_over or room is not None and room - len(where) < graph.vertices:
                 break
             chips[vertex] += amount
             lasts = rounds(graph, chips) if timed else 0
@@ -171,7 +178,8 @@ class Piles(unittest.TestCase):
                 where += [v for v, count in enumerate(many) if count]
                 times += filter(None, many)
                 ends.append(len(where))
-        status, place, *found, found_ends, found_where, found_times = pile.measure(drops, timed, room)
+                is_over = ends_run(lost, [v for v, count in enumerate(many) if count], loses, marks)
+        status, place, *found, found_ends, found_where, found_times = pile.measure(drops, timed, room, loses, marks)
         self.assertEqual((status, place), (13 if stopped else 0, len(rows)))
         left = len(drops) - len(rows)
         self.assertEqual(found, [rows + [(GUARD,) * 3] * left, (lengths + [GUARD] * left) * timed])
@@ -185,6 +193,7 @@ class Piles(unittest.TestCase):
             self.assertEqual(found_ends, ends + [GUARD] * left)
             self.assertEqual(pairs, [*zip(where, times)] + [(GUARD, GUARD)] * (room - len(where)))
         self.assertEqual(pile.now(), [chips, fired])
+        return is_over and left > 0
 
     def expect_portions(self, pile, visits, ends, stopped):
         """Plays a pile that was just begun by `visits` visits a call: counts rise in each until all is as at the end."""
@@ -249,18 +258,49 @@ class Small(Piles):
                     self.assertEqual(pile.new(chips, limit), (0, 0))
                     self.expect_measures(pile, chips, drops, limit, timed, room)
 
+    def test_all_ends_of_runs_of_drops_on_the_triangle(self):
+        pile = self.pile(TRIANGLE)
+        pile.new([0, 0, 0])
+        marks = [(), *itertools.product((0, 1, 2, 4, 6, 10, 24, 32), (0, 2, 4, 9, 16), (0, 31))]
+        drops = [*itertools.product(itertools.product(range(3), (1, 3)), repeat=3)]
+        over = 0
+        for chips in ([0, 0, 0], [1, 1, 0], [1, 0, 3]):
+            for number, (loses, its) in enumerate(itertools.product((0, 1, 2**64 - 1), marks)):
+                room = (None, 9, 4)[number % 3]
+                for limit, some in [(LARGEST, drops[number % 7::7]), (3, drops[number % 40::40])]:
+                    for three in some:
+                        self.assertEqual(pile.put(chips, limit), 0)
+                        over += self.expect_measures(pile, list(chips), three, limit, number % 2 == 0, room, loses, its)
+        self.assertGreater(over, 5000)
+
+    def test_ends_of_runs_on_a_grid_and_on_drawn_graphs(self):
+        draw = random.Random(21)
+        over = 0
+        for graph in [grid(3), *(drawn(draw) for _ in range(60))]:
+            pile = self.pile(graph)
+            for _ in range(12):
+                chips = [draw.randrange(3) for _ in range(graph.vertices)]
+                drops = [(draw.randrange(graph.vertices), draw.randrange(5)) for _ in range(12)]
+                marks = [draw.choice((0, 0, 0, 1, 2, 4, 6, 8, 16, 24, 2**63)) for _ in range(graph.vertices)]
+                room = draw.choice((None, graph.vertices, 2 * graph.vertices, 1000))
+                self.assertEqual(pile.new(chips), (0, 0))
+                more = (draw.choice((False, True)), room, draw.choice((0, 0, 1)), draw.choice((marks, [])))
+                over += self.expect_measures(pile, chips, drops, LARGEST, *more)
+        self.assertGreater(over, 100)
+
     def test_what_is_no_measure(self):
         pile = self.pile(TRIANGLE)
         pile.new([1, 1, 0])
         drops = [(0, 1), (1, 1)]
-        lengths = [2, 2, 2, 2, 2, 2, 2, 9, 9]
-        wrong = [{1: 1}, {2: 3}, {3: 1}, {4: 0}, {5: 1}, {5: 3}, {6: 1}, {6: 0}, {6: 0, 7: 0}, {7: 8}, {8: 10}]
+        lengths = [2, 2, 2, 2, 2, 2, 2, 9, 9, 3]
+        wrong = [{1: 1}, {2: 3}, {3: 1}, {4: 0}, {5: 1}, {5: 3}, {6: 1}, {6: 0}, {6: 0, 7: 0}, {7: 8}, {8: 10}, {9: 2}, {9: 4}]
         for changes in wrong:
-            slices = [Slice(([0, 1], [1, 1])[it] * 2 if it < 2 else [GUARD] * 9) for it in range(9)]
+            slices = [Slice(([0, 1], [1, 1])[it] * 2 if it < 2 else [GUARD] * 9) for it in range(10)]
             before = [it.now() for it in slices]
             place = Slice([7])
-            words = [w for it, s in enumerate(slices) for w in (s.words()[0], changes.get(it, lengths[it]))]
-            status = LIBRARY.chipfire_pile_measure(pile.at, *words, place.words()[0])
+            words = [(s.words()[0], changes.get(it, lengths[it])) for it, s in enumerate(slices)]
+            drops, others = ([word for pair in pairs for word in pair] for pairs in (words[:2], [words[9], *words[2:9]]))
+            status = LIBRARY.chipfire_pile_measure(pile.at, *drops, 1, *others, place.words()[0])
             self.assertEqual((status, place.now(), [it.now() for it in slices]), (12, [0], before), changes)
             self.assertEqual(pile.now(), [[1, 1, 0], [0, 0, 0]])
         for drops, fault, place in ([(2, 0), (3, 1)], 26, 1), ([(2, LARGEST - 2), (0, 1)], 10, 1):
@@ -308,6 +348,20 @@ class Small(Piles):
                 self.assertEqual(pile.now(), before)
             for wrong, fault in (Graph(3, 2, []), 8), (Graph(3, 3, TRIANGLE.edges), 2), (Graph(3, 2, [(0, 0, 1)]), 6):
                 self.expect_nothing_new(pile, fault, pile.new_on, wrong, [4, 0, 0])
+
+    def test_all_drops_are_checked_before_the_limit_stops_one(self):
+        """A limit of 0 stops the game, or that of the first drop. One call for all drops of a game reports that first."""
+        pile = self.pile(TRIANGLE)
+        pile.new([0, 0, 0])
+        for chips, (drop, fault) in itertools.product([[4, 0, 0], [1, 1, 0]], [((3, 1), 26), ((2, LARGEST), 10)]):
+            drops, unwritten = [(0, 1), drop], [(GUARD,) * 3] * 2
+            self.assertEqual(avalanches(TRIANGLE, chips, drops, 0)[:2], (13, 0))
+            self.assertEqual(pile.put(chips, 0), 0)
+            for _ in range(2):  # (the second time the limit has stopped the pile)
+                self.assertEqual(pile.drops(drops), (fault, 1, unwritten))
+                self.assertEqual(pile.measure(drops)[:3], (fault, 1, unwritten))
+                self.assertEqual(pile.drop(*drop), (fault, None))
+                self.assertEqual(pile.drop(0, 1), (13, None))
 
     def test_no_pile(self):
         pile = self.pile(TRIANGLE)

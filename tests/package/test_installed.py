@@ -115,7 +115,7 @@ target_link_libraries(static-grid chipfire::static)
         self.assertEqual(shown, other)
         for name, is_asked in (("shared", True), ("static", False)):
             asked = made.run("readelf", "--dynamic", f"{room}/{name}", check=True).stdout
-            self.assertEqual("[libchipfire.so.0]" in asked, is_asked, name)
+            self.assertEqual("[libchipfire.so.1]" in asked, is_asked, name)
 
     def is_found(self, prefix, version):
         """Builds examples in C and C++ by CMake, and starts them."""
@@ -252,7 +252,7 @@ class Wheel(Tried):
             asked = made.run(sys.executable, *ask, PYTHONPATH=room, PATH=f"{top}/bin")
             self.assertEqual((asked.stdout, asked.stderr), (f"{top}/{libraries}/libchipfire.so (1, 0)\n", ""))
             shutil.copytree(top, f"{room}/copy-{len(libraries)}", symlinks=True)
-            with open(f"{room}/copy-{len(libraries)}/{libraries}/libchipfire.so.0", "ab") as file:
+            with open(f"{room}/copy-{len(libraries)}/{libraries}/libchipfire.so.1", "ab") as file:
                 file.write(b"\0")
             asked = made.run(sys.executable, *ask, PYTHONPATH=room, PATH=f"{room}/copy-{len(libraries)}/bin")
             self.assertEqual(asked.stdout, "None (1, 0)\n")

@@ -184,7 +184,7 @@ class ProgramChanged(Checked):
 class LibraryChanged(Checked):
     """A byte of a library is another."""
 
-    PLACES = {made.SHARED: "libchipfire.so.0", made.STATIC: "libchipfire.a"}
+    PLACES = {made.SHARED: "libchipfire.so.1", made.STATIC: "libchipfire.a"}
 
     def each(self, path, word):
         for top in (made.home(), bare()):

@@ -83,8 +83,8 @@ class Carried(made.Test):
         self.assertTrue(made.read(f"{top}/target/chipfire") == made.read(made.PROGRAM))
         for name in made.LIBRARIES:
             self.assertTrue(made.read(f"{top}/target/{name}") == made.read(made.library(name)))
-        self.assertFalse(os.path.islink(f"{top}/target/libchipfire.so.0"))
-        self.assertTrue(made.read(f"{top}/target/libchipfire.so.0") == made.read(made.library(made.SHARED)))
+        self.assertFalse(os.path.islink(f"{top}/target/libchipfire.so.1"))
+        self.assertTrue(made.read(f"{top}/target/libchipfire.so.1") == made.read(made.library(made.SHARED)))
         self.assertEqual(made.run(f"{top}/chipfire", "check", f"{triangle}/graph.json").stderr, "")
 
     def test_it_is_not_made_of_sources_that_are_not_committed(self):
@@ -248,7 +248,7 @@ class Packed(made.Test):
         shown = made.run("dpkg-deb", "-f", f"{top}/dist/chipfire_{version}_arm64.deb", "Architecture").stdout
         self.assertEqual(shown, "arm64\n")
         listed = made.run("dpkg-deb", "-c", f"{top}/dist/chipfire_{version}_arm64.deb").stdout
-        self.assertIn("./usr/lib/aarch64-linux-gnu/libchipfire.so.0\n", listed)
+        self.assertIn("./usr/lib/aarch64-linux-gnu/libchipfire.so.1\n", listed)
 
     def test_one_for_aarch64_is_refused_if_a_byte_is_another(self):
         top = clone()

@@ -5,6 +5,7 @@ Chains take the library: with CHIPFIRE, which names a program, they are refused.
 import contextlib
 import copy
 import itertools
+import math
 import os
 import pickle
 import random
@@ -91,7 +92,7 @@ class Recurrent(unittest.TestCase):
             self.assertRegex(said, f"^MemoryError: .* take {count:,} bytes, and there are 2,147,483,648$")
 
     def test_what_is_refused(self):
-        with self.assertRaisesRegex(ValueError, "'a' sends 2 to 'b' and gets 1 back"):
+        with self.assertRaisesRegex(ValueError, "'a' sends 2 to 'b' and gets 1 back$"):
             chipfire.random_recurrent(chipfire.Graph(3, 2, [(0, 1, 2), (1, 0), (0, 2)], ["a", "b", "s"]), 1)
         with self.assertRaisesRegex(ValueError, "no walk leads to the sink"):
             chipfire.random_recurrent(chipfire.Graph(3, 2, [(0, 1), (1, 0)]), 1)
@@ -154,7 +155,7 @@ class Chains(unittest.TestCase):
                 with mock.patch(threads, wraps=ThreadPoolExecutor) as pool:
                     chipfire.chains(grid, 9, 5, 1)
                 self.assertEqual(pool.call_args[0][0], len(given))
-                with mock.patch("chipfire.pictures.animation.ThreadPoolExecutor", wraps=ThreadPoolExecutor) as pool:
+                with mock.patch("chipfire.backend.interrupts.ThreadPoolExecutor", wraps=ThreadPoolExecutor) as pool:
                     chipfire.frames(grid, 5)
                 self.assertEqual(pool.call_args[0][0], len(given))
         with mock.patch("os.sched_getaffinity"), mock.patch("os.cpu_count", return_value=3):
@@ -240,26 +241,45 @@ class Chains(unittest.TestCase):
 
     @unittest.skipUnless(has("numpy"), "NumPy is not here")
     def test_a_chain_stops_after_the_first_drop_that_dissipates_a_chip_or_spans(self):
-        def spans(fired):
-            places = [divmod(vertex, 4) for vertex, count in enumerate(fired[:12]) if count]
+        def spans(width, height, fired):
+            places = [divmod(vertex, width) for vertex, count in enumerate(fired[:-1]) if count]
             rows, columns = ({*it} for it in zip(*places)) if places else ({}, {})
-            return {0, 2} <= {*rows} or {0, 3} <= {*columns}
+            return {0, height - 1} <= {*rows} or {0, width - 1} <= {*columns}
 
+        for width, height in [(4, 3), (1, 4), (5, 2), (3, 3)]:
+            grid, sink = chipfire.grid(width, height), width * height
+            for until in ("loss", "spans"):
+                found = chipfire.chains(grid, 6, 60, 4, chips=0, until=until, fired=until == "spans", workers=2)
+                for chain, seed in enumerate(found.seeds):
+                    left, made = [0] * (sink + 1), 0
+                    for vertex in chipfire.random_drops(grid, 60, seed):
+                        left[vertex] += 1
+                        report, made = slow_report(grid, left), made + 1
+                        lost, left = report.chips[sink] - left[sink], list(report.chips)
+                        if lost if until == "loss" else spans(width, height, report.fired):
+                            break
+                    self.assertEqual((found.made[chain], found.chips[chain].tolist()), (made, left))
+                    self.assertEqual(found.size[chain, made:].sum(), 0)
+                    self.assertEqual((found.size[chain, made - 1], found.lost[chain, made - 1]), (sum(report.fired), lost))
+                self.assertTrue(1 < min(found.made) and max(found.made) < 60)
+
+    @unittest.skipUnless(has("numpy"), "NumPy is not here")
+    def test_a_chain_stops_where_it_does_however_many_calls_play_it(self):
+        """With little room for what fires, and where each drop goes in portions, calls stop before the chain does."""
         grid = chipfire.grid(4, 3)
-        for until, is_last in [("loss", lambda lost, fired: lost > 0), ("spans", lambda lost, fired: spans(fired))]:
-            found = chipfire.chains(grid, 6, 60, 4, chips=0, until=until, fired=until == "spans", workers=2)
-            for chain, seed in enumerate(found.seeds):
-                left, made = [0] * 13, 0
-                for vertex in chipfire.random_drops(grid, 60, seed):
-                    left[vertex] += 1
-                    report, made = slow_report(grid, left), made + 1
-                    lost, left = report.chips[12] - left[12], list(report.chips)
-                    if is_last(lost, report.fired):
-                        break
-                self.assertEqual((found.made[chain], found.chips[chain].tolist()), (made, left))
-                self.assertEqual(found.size[chain, made:].sum(), 0)
-                self.assertEqual((found.size[chain, made - 1], found.lost[chain, made - 1]), (sum(report.fired), lost))
-            self.assertTrue(1 < min(found.made) and max(found.made) < 60)
+        for until, amounts in itertools.product(("loss", "spans", None), (1, 3)):
+            more = {"chips": 1, "until": until, "amounts": amounts}
+            one = chipfire.chains(grid, 5, 80, 2, fired=True, **more)
+            with mock.patch("chipfire.ensembles.firings._ROOM", 1):
+                others = [chipfire.chains(grid, 5, 80, 2, **more, **some)
+                          for some in ({"fired": True}, {"durations": True}, {"fired": True, "durations": True}, {})]
+            with mock.patch.multiple("chipfire.backend.kept", _FEW_CHIPS=0, _LIGHT=0):
+                others += [chipfire.chains(grid, 5, 80, 2, **more, **some) for some in ({"fired": True}, {})]
+            for other in others:
+                for name in ("size", "extent", "lost", "made", "chips"):
+                    self.assertEqual(getattr(one, name).tolist(), getattr(other, name).tolist())
+                if other.fired:
+                    self.assertEqual(*([it.tolist() for it in found.fired] for found in (one, other)))
 
     @unittest.skipUnless(has("numpy"), "NumPy is not here")
     def test_the_mean_size_from_a_recurrent_start_is_that_of_dhar(self):
@@ -277,13 +297,24 @@ class Chains(unittest.TestCase):
                                ("for 2 chains", {"chips": [[1] * 3] * 2})]:
             with self.assertRaisesRegex(ValueError, words):
                 chipfire.chains(TRIANGLE, 3, 1, 1, **options)
-        with self.assertRaisesRegex(ValueError, "directed"):
-            chipfire.chains(chipfire.Graph(3, 2, [(0, 1, 2), (1, 0), (0, 2)]), 1, 1, 1)
+        directed = chipfire.Graph(3, 2, [(0, 1, 2), (1, 0), (0, 2)])
+        with self.assertRaisesRegex(ValueError, "directed: vertex 0 sends 2 to 1 and gets 1 back; chains on it take `chips=`$"):
+            chipfire.chains(directed, 1, 1, 1)
+        self.assertEqual(list(chipfire.chains(directed, 1, 1, 1, chips=0).made), [1])
         with self.assertRaisesRegex(ValueError, "only its sink"):
             chipfire.chains(chipfire.Graph(1, 0, []), 1, 1, 1)
         if has("numpy"):
             with self.assertRaisesRegex(ValueError, "no grid"):
                 chipfire.chains(chipfire.complete(4), 1, 1, 1, until="spans")
+            for sizes, periodic in [((5, 3, 3), False), ((2, 2, 2), False), ((1, 3, 2), False), ((4, 2, 1, 2), False),
+                                    ((5, 3, 3), (True, True, False)), ((4, 3, 3), (False, False, True))]:
+                with self.assertRaisesRegex(ValueError, "no grid of two directions"):
+                    chipfire.chains(chipfire.grid(*sizes, periodic=periodic), 1, 1, 1, until="spans")
+            reshaped = chipfire.Graph(37, 36, chipfire.grid(9, 4).edges, shape=(6, 6))
+            for graph in (chipfire.grid(4, 3, periodic=True, loss=1), chipfire.grid(4, 3, lattice="triangular", periodic=(True, False)),
+                          chipfire.grid(4, 4, lattice="hexagonal"), chipfire.grid(3, 2, 1), chipfire.region([[1, 1], [0, 1]]),
+                          reshaped):
+                self.assertEqual(chipfire.chains(graph, 1, 9, 1, until="spans").size.shape, (1, 9))
         with mock.patch("chipfire.ensembles.chains.import_optional", side_effect=ImportError("which is not installed")):
             with self.assertRaises(ImportError):
                 chipfire.chains(TRIANGLE, 1, 1, 1, chips=0, fired=True)
@@ -292,6 +323,21 @@ class Chains(unittest.TestCase):
         one, other = (chipfire.chains(chipfire.grid(9, 9), 2, 50, None, chips=0) for _ in range(2))
         self.assertEqual(len({*one.seeds, *other.seeds}), 4)
         self.assertNotEqual([it.tolist() for it in one.chips], [it.tolist() for it in other.chips])
+
+    def test_a_histogram_counts_the_drops_that_were_made(self):
+        grid = chipfire.grid(4, 3)
+        for options in [{}, {"chips": 0, "until": "loss"}][: 1 + has("numpy")]:
+            found = chipfire.chains(grid, 3, 60, 2, durations=True, **options)
+            for name in ("size", "area", "extent", "lost", "duration"):
+                rows = zip(getattr(found, name), found.made)
+                counts = Counter(count for row, made in rows for count in row.tolist()[:made])
+                self.assertEqual([*found.histogram(name).items()], sorted(counts.items()))
+            self.assertEqual(sum(found.histogram().values()), sum(found.made))
+        self.assertEqual(chipfire.chains(grid, 2, 0, 1).histogram(), {})
+        with self.assertRaisesRegex(ValueError, "no 'radius'"):
+            found.histogram("radius")
+        with self.assertRaisesRegex(ValueError, "no 'duration'"):
+            chipfire.chains(grid, 2, 9, 1).histogram("duration")
 
     def test_few_drops_and_none(self):
         found = chipfire.chains(TRIANGLE, 2, 0, 1, chips=[4, 0, 0])
@@ -386,6 +432,33 @@ class Measured(unittest.TestCase):
         with self.assertRaisesRegex(ValueError, "2 drops, and 1"):
             found.fired.radii(grid, [1])
 
+    def test_radii_are_those_of_the_places_of_squares(self):
+        mask = [[1, 1, 0, 1], [0, 1, 1, 1], [1, 0, 0, 1]]
+        downward = chipfire.Graph(5, 4, [(0, 1), (0, 2), (1, 3), (1, 4), (2, 3), (2, 4), (3, 4, 2)], shape=(2, 2))
+        inner_sink = chipfire.Graph(4, 0, [(1, 0), (1, 3), (2, 0), (2, 3), (3, 1), (3, 2)], shape=(2, 2))
+        for graph, rows in [(chipfire.grid(5, 4), [[1] * 5] * 4), (chipfire.grid(3, 4, 1), [[1] * 3] * 4),
+                            (chipfire.grid(3, 3, loss=2), [[1] * 3] * 3), (chipfire.path(5), [[1] * 5]), (chipfire.region(mask), mask),
+                            (downward, [[1] * 2] * 2), (inner_sink, [[1] * 2] * 2)]:
+            places = [(y, x) for y, row in enumerate(rows) for x, is_there in enumerate(row) if is_there]
+            on = [it for it in range(graph.vertices) if it != graph.sink]
+            found = chipfire.drops(graph, graph.max_stable(), on, fired=True)
+            for drop, (radius, gyration) in enumerate(zip(*found.fired.radii(graph, on))):
+                begin, end = found.fired.offsets[drop : drop + 2]
+                fired = [places[it] for it in found.fired.vertices[begin:end].tolist()]
+                self.assertAlmostEqual(radius, max((math.dist(places[on[drop]], it) for it in fired), default=0))
+                centre = [sum(way) / len(fired) for way in zip(*fired)]
+                squares = sum(math.dist(centre, it) ** 2 for it in fired)
+                self.assertAlmostEqual(gyration, (squares / max(len(fired), 1)) ** 0.5)
+
+    def test_other_graphs_have_no_radii(self):
+        on = [0, 1]
+        for graph in (chipfire.grid(8, 8, periodic=(True, False)), chipfire.torus(4, 4), chipfire.grid(5, 3, 3),
+                      chipfire.grid(2, 2, 2), chipfire.grid(4, 4, lattice="triangular"), chipfire.grid(4, 4, lattice="hexagonal"),
+                      chipfire.region([[1, 1], [1, 1]], "triangular"), chipfire.Graph(4, 3, [(0, 2), (1, 3), (2, 3)], shape=(1, 3))):
+            found = chipfire.drops(graph, 0, on, fired=True)
+            with self.assertRaisesRegex(ValueError, "no grid|square grids of two directions with open borders"):
+                found.fired.radii(graph, on)
+
     def test_what_is_measured_is_saved(self):
         for graph in (chipfire.grid(3, 3), MULTIGRAPH):
             on = [*chipfire.random_drops(graph, 9, 1)]
@@ -410,7 +483,7 @@ class Measured(unittest.TestCase):
 class WithoutTheLibrary(unittest.TestCase):
     @unittest.skipIf(IS_HERE, "the library is here")
     def test_chains_say_that_the_library_is_missing(self):
-        with self.assertRaisesRegex(chipfire.ProgramNotFound, "take the library"):
+        with self.assertRaisesRegex(chipfire.ProgramNotFound, "chains take the library: CHIPFIRE names a program"):
             chipfire.chains(TRIANGLE, 1, 1, 1, chips=0)
 
 

@@ -158,6 +158,20 @@ class Clones(Places):
             self.assertEqual((found["library"], found["fired"]), (f"{top}/target/libchipfire.so", [1, 0]), found)
             self.assertEqual(found["warned"], [])
 
+    def test_a_library_whose_stamp_is_older_than_the_sources_is_not_loaded_and_it_says_so(self):
+        top = self.clone()
+        shutil.copy(LIBRARY, f"{top}/target")
+        script(f"{top}/chipfire", "exit 1")
+        os.utime(f"{top}/target/chipfire.stamp", (1, 1))
+        why = f"{top}/target/libchipfire.so is not loaded, since {top}/{SOURCE} has changed after {top}/target/chipfire.stamp"
+        found = self.asked(f"{top}/python")
+        self.assertEqual((found["library"], found["fired"], len(found["warned"])), (None, [1, 0], 1), found)
+        self.assertIn(f"{why}, which ./chipfire renews", found["warned"][0])
+        chains = "import chipfire; chipfire.chains(chipfire.path(1), 1, 1, 1, chips=0)"
+        environment = without.environment(f"{top}/python", PATH="/nowhere")
+        ran = subprocess.run([sys.executable, "-W", "ignore", "-c", chains], env=environment, capture_output=True, encoding="utf-8")
+        self.assertIn(f"chains take the library: {why}", ran.stderr)
+
     def test_one_that_others_may_change_is_not_used_and_its_library_not_loaded(self):
         spoiled_ones = [("", False), ("", True), ("target", False), ("target/chipfire", False)]
         for number, (place, sticky) in enumerate(spoiled_ones):

@@ -1,5 +1,6 @@
 """Piles that are kept: against the slow player, by the library and by the program, on threads, in forked children, and
 collected by any thread."""
+import contextlib
 import copy
 import gc
 import itertools
@@ -18,6 +19,7 @@ from test_counts import slow_report
 from test_drops import game_with_drops, rows_of
 from test_library import IS_HERE
 from test_package import CHIPS_FILE, TRIANGLE, TRIANGLE_FILE
+from test_sandpiles import has
 
 
 def stepped(graph, chips, drops, limit=2**40):
@@ -168,6 +170,41 @@ class Rows(unittest.TestCase):
                 drop(pile), drop(other)
                 self.assertEqual(pile.report, other.report)
                 self.assertEqual(copy.copy(pile).report, other.report)
+
+    @unittest.skipUnless(IS_HERE, "the library is not called")
+    def test_a_drop_that_is_interrupted_when_it_is_made_is_taken_back(self):
+        """The interrupt comes after the library's call, or while what was made is noted or put in order."""
+        grid, limits = chipfire.grid(6, 6), (2**40, 3)
+        one, many = (lambda pile: pile.drop(8, 2)), (lambda pile: pile.drops([8, 3, 8], fired=has("numpy")))
+        places = [(one, "backend.kept.KeptPile.note"), (one, "ensembles.pile.Pile._add"),
+                  (many, "backend.kept.KeptPile.note"), (many, "ensembles.pile.Pile._add_all"), (many, "ensembles.pile.Drops")]
+        places += [(many, "ensembles.drops.firings")] * has("numpy")
+        for (drop, place), limit in itertools.product(places, limits):
+            pile, other = chipfire.Pile(grid, 3, limit), chipfire.Pile(grid, 3, limit)
+            pile.drop(7), other.drop(7)
+            with mock.patch(f"chipfire.{place}", side_effect=KeyboardInterrupt), self.assertRaises(KeyboardInterrupt):
+                drop(pile)
+            for it in (pile, copy.copy(pile)):
+                self.assertEqual((it.report, it.is_stopped, repr(it)), (other.report, False, repr(other)))
+            said = []
+            for it in (pile, other):
+                with contextlib.suppress(chipfire.Fault):
+                    drop(it)
+                said.append((it.report, it.is_stopped))
+            self.assertEqual(said[0], said[1])
+
+    @unittest.skipIf(IS_HERE, "the library plays")
+    def test_drops_of_the_program_are_taken_back(self):
+        """The limit stops a drop, so they are played one by one, and the second play is interrupted, or the report."""
+        grid = chipfire.grid(4, 4)
+        pile, other = chipfire.Pile(grid, 3, 4), chipfire.Pile(grid, 3, 4)
+        for place, fails in [("plain", [chipfire.plain(grid, 0), KeyboardInterrupt]), ("Drops", [KeyboardInterrupt] * 2)]:
+            with mock.patch(f"chipfire.ensembles.pile.{place}", side_effect=fails), self.assertRaises(KeyboardInterrupt):
+                pile.drops([5, 6, 9], amounts=[1, 9, 9])
+            for it in (pile, copy.copy(pile)):
+                self.assertEqual((it.report, it.is_stopped, repr(it)), (other.report, False, repr(other)))
+        found, wanted = (it.drops([5, 6, 9], amounts=[1, 9, 9]) for it in (pile, other))
+        self.assertEqual((rows_of(found), pile.report, pile.is_stopped), (rows_of(wanted), other.report, True))
 
 
 class Threads(unittest.TestCase):

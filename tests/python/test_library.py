@@ -371,7 +371,7 @@ class Ways(WithFolder):
             ("apart", "apart/libchipfire.so", beside, True), ("apart", "lib/libchipfire.so", beside, False),
             ("bin", "lib/libchipfire.so", installed, True),
             ("bin", "lib/x86_64-linux-gnu/libchipfire.so", installed, True),
-            ("bin", "loaded/libchipfire.so.0", installed, False),
+            ("bin", "loaded/libchipfire.so.1", installed, False),
         ]:
             with self.subTest(place=place, at=library_at), tempfile.TemporaryDirectory() as folder:
                 for name, source in ((f"{place}/chipfire", program), (library_at, file), (stated_at, proved)):

@@ -1,4 +1,9 @@
-"""Published figures that come back: exact means, and exponents that are known exactly."""
+"""Figures that come back: exact means, exponents that are known exactly, and what a C program measures."""
+import math
+import os
+import shutil
+import subprocess
+import tempfile
 import unittest
 
 import chipfire
@@ -29,6 +34,24 @@ def stable_rows(n, vertices, seed):
     return rows
 
 
+def by_chains(rows):
+    """Returns the mean of rows, one for each chain, and its error."""
+    means = rows.mean(1)
+    return means.mean(), means.std(ddof=1) / math.sqrt(len(means))
+
+
+def spans(found, side):
+    """Returns for each drop of chains on a square grid whether it fired squares on two opposite borders."""
+    import numpy
+
+    fired, drops = found.fired, found.size.size
+    row, column = fired.vertices // side, fired.vertices % side
+    drop = numpy.repeat(numpy.arange(drops), numpy.diff(fired.offsets))
+    borders = row == 0, row == side - 1, column == 0, column == side - 1
+    top, bottom, left, right = (numpy.bincount(drop[it], minlength=drops) > 0 for it in borders)
+    return (top & bottom | left & right).reshape(found.size.shape)
+
+
 @unittest.skipUnless(has("numpy") and chipfire.library.find_library(), "NumPy or the library is not here")
 class Published(unittest.TestCase):
     def near(self, found, wanted, error):
@@ -50,6 +73,24 @@ class Published(unittest.TestCase):
         self.near(moments.means[0], height / 2, moments.errors[0])
         law = chipfire.power_law(found.size.ravel(), 16, 512)
         self.near(law.exponent, 4 / 3, law.error)
+
+    @unittest.skipUnless(shutil.which("gcc"), "gcc is not here")
+    def test_moments_durations_and_spanning_beside_c(self):
+        source = f"{os.path.dirname(os.path.abspath(__file__))}/ensemble.c"
+        with tempfile.TemporaryDirectory() as room:
+            program = f"{room}/ensemble"
+            subprocess.run(["gcc", "-std=c11", "-O2", source, "-o", program, "-lm"], check=True)
+            said = subprocess.check_output([program, "64", "40000", "1"], text=True)
+        wanted = [tuple(map(float, line.split())) for line in said.splitlines()]
+        found = chipfire.chains(
+            chipfire.grid(64, 64), 16, 1500, seed=1, fired=True, durations=True
+        )
+        size = found.size.astype(float)
+        measured = [size, size**2, found.duration, spans(found, 64)]
+        self.assertEqual(len(wanted), len(measured))
+        for (mean, error), rows in zip(wanted, measured):
+            own, own_error = by_chains(rows)
+            self.near(own, mean, math.hypot(error, own_error))
 
 
 if __name__ == "__main__":

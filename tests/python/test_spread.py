@@ -16,11 +16,15 @@ import sqlite3
 import subprocess
 import sys
 import tempfile
+import threading
+import time
 import unittest
 from collections import Counter
 from unittest import mock
 
 import chipfire
+from chipfire.backend import interrupts
+from chipfire.backend.interrupts import Interrupts
 from chipfire.ensembles import player, spread
 from chipfire.ensembles.checkpoint import Checkpoint
 from chipfire.progress import Progress
@@ -50,6 +54,161 @@ def plays(**options):
 ASKED = [{}, {"chips": 2}, {"amounts": 3, "on": [0, 7]}, {"durations": True}]
 if has("numpy"):
     ASKED += [{"fired": True}, {"fired": True, "durations": True}, {"until": "loss", "chips": 0}, {"until": "spans", "fired": True, "chips": 1}]
+
+
+#: Interrupts a call of chains where it enters or leaves one function after another of those that play parts, and of the
+#: standard library's pools and locks. What it returns must be what was made; else it is an interrupt.
+INTERRUPTED = """
+import concurrent.futures, contextlib, faulthandler, importlib.util, signal, sys
+import chipfire
+
+faulthandler.dump_traceback_later(100, exit=True)  # (if it hangs)
+signal.signal(signal.SIGINT, signal.default_int_handler)
+ROOMS = {"threading", "concurrent.futures._base", "concurrent.futures.thread"}
+ROOMS |= {"chipfire." + it for it in ("backend.interrupts", "ensembles.spread", "ensembles.player")}
+GRID, N, DROPS = chipfire.grid(5, 4), 4, 40
+has_numpy = importlib.util.find_spec("numpy") is not None
+whole = chipfire.chains(GRID, N, DROPS, 5)
+starts = chipfire.random_recurrent(GRID, 5, N)
+fallen = {}
+
+
+def left_by(chain, made):
+    if (chain, made) not in fallen:
+        on = [*chipfire.random_drops(GRID, DROPS, whole.seeds[chain])][:made]
+        fallen[chain, made] = [*chipfire.drops(GRID, starts[chain], on).report.chips]
+    return fallen[chain, made]
+
+
+def check(found):
+    for chain, made in enumerate(map(int, found.made)):
+        assert [*found.size[chain]] == [*whole.size[chain]][:made] + [0] * (DROPS - made)
+        assert [*found.chips[chain]] == left_by(chain, made)
+    if has_numpy:
+        lengths = found.fired.offsets[1:] - found.fired.offsets[:-1]
+        assert (lengths == found.extent.ravel()).all()
+
+
+def interrupted(number):
+    left = [number]
+
+    def trace(frame, event, _):
+        if frame.f_globals.get("__name__") in ROOMS and event in ("call", "return"):
+            left[0] -= 1
+            if not left[0]:
+                signal.raise_signal(signal.SIGINT)
+            return trace
+
+    pool = concurrent.futures.ThreadPoolExecutor(2) if "executor" in sys.argv else None
+    workers = {"workers": 2} if pool is None else {"executor": pool}
+    with pool or contextlib.nullcontext():
+        sys.settrace(trace)
+        try:
+            return chipfire.chains(GRID, N, DROPS, 5, partial=True, fired=has_numpy, **workers)
+        finally:
+            sys.settrace(None)
+            assert signal.getsignal(signal.SIGINT) == signal.default_int_handler
+            interrupted.is_over = left[0] > 0
+
+
+number = results = parts = 0
+interrupted.is_over = False
+while not interrupted.is_over:
+    number += 1
+    try:
+        found = interrupted(number)
+        check(found)
+        results += 1
+        parts += sum(found.made) < N * DROPS
+    except KeyboardInterrupt:
+        pass
+print(number > 100, results > number // 2, parts > number // 4)
+"""
+
+
+class Stops(player.Watch):
+    """A watch that has all stop when it was asked so many times."""
+
+    def __init__(self, left):
+        self.left = left
+        super().__init__()
+
+    @property
+    def is_stopped(self):
+        self.left -= 1
+        return self.left < 0
+
+    @is_stopped.setter
+    def is_stopped(self, _):
+        pass
+
+
+def interrupted_once(function):
+    """One that raises KeyboardInterrupt when it is called the first time."""
+    times = []
+
+    def call(*arguments):
+        times.append(arguments)
+        if len(times) == 1:
+            raise KeyboardInterrupt
+        return function(*arguments)
+
+    return call
+
+
+class Signals(unittest.TestCase):
+    def setUp(self):
+        self.addCleanup(signal.signal, signal.SIGINT, signal.signal(signal.SIGINT, signal.default_int_handler))
+
+    def test_they_wait_until_they_are_handled(self):
+        with Interrupts() as waiting:
+            for _ in range(3):
+                signal.raise_signal(signal.SIGINT)
+            self.assertRaises(KeyboardInterrupt, waiting.handle)
+            waiting.handle()
+            signal.raise_signal(signal.SIGINT)
+            self.assertRaises(KeyboardInterrupt, waiting.__exit__)
+        self.assertEqual(signal.getsignal(signal.SIGINT), signal.default_int_handler)
+        self.assertRaises(KeyboardInterrupt, signal.raise_signal, signal.SIGINT)
+
+    def test_one_after_a_second_waits_no_more(self):
+        with Interrupts(), mock.patch.object(interrupts, "_PATIENCE", 0.1):
+            signal.raise_signal(signal.SIGINT)
+            time.sleep(0.2)
+            self.assertRaises(KeyboardInterrupt, signal.raise_signal, signal.SIGINT)
+
+    def test_all_that_python_handles_wait(self):
+        seen = []
+        self.addCleanup(signal.signal, signal.SIGUSR1, signal.signal(signal.SIGUSR1, lambda *it: seen.append(it)))
+        with Interrupts() as waiting:
+            signal.raise_signal(signal.SIGUSR1)
+            self.assertEqual(seen, [])
+            waiting.handle()
+            self.assertEqual([it for it, _ in seen], [signal.SIGUSR1])
+
+    def test_threads_end_after_an_error_or_an_interrupt(self):
+        may_end, stops = threading.Event(), []
+
+        def stop():
+            stops.append(1)
+            may_end.set()
+
+        def interrupt():
+            signal.raise_signal(signal.SIGINT)
+            may_end.wait(60)
+
+        for work, error in [(lambda: 1 // 0, ZeroDivisionError), (interrupt, KeyboardInterrupt)]:
+            may_end.clear()
+            self.assertRaises(error, interrupts.on_threads, [work] + [may_end.wait] * 5, 2, stop)
+            self.assertEqual(signal.getsignal(signal.SIGINT), signal.default_int_handler)
+        self.assertEqual(len(stops), 2)
+        self.assertEqual(interrupts.on_threads([lambda: 3, lambda: 4], 1), [3, 4])
+
+    def test_other_threads_change_nothing(self):
+        with concurrent.futures.ThreadPoolExecutor(1) as executor:
+            waiting = executor.submit(Interrupts().__enter__).result()
+        self.assertEqual(signal.getsignal(signal.SIGINT), signal.default_int_handler)
+        waiting.handle()
 
 
 @unittest.skipUnless(IS_HERE, "chains take the library")
@@ -86,6 +245,7 @@ class Where(unittest.TestCase):
         for error, words, options in [
             (ValueError, "different vertices", {"on": ["a", "a"]}), (ValueError, "none is the sink", {"on": ["a", "s"]}),
             (ValueError, "from 0 on", {"on": {"a": -1}}), (ValueError, "not all are 0", {"on": {"a": 0}}),
+            (ValueError, "it names none", {"on": []}), (ValueError, "it names none", {"on": {}}),
             (ValueError, "from 0 on", {"on": {"a": float("nan")}}), (TypeError, "one for each drop", {"on": {"a", "b"}}),
             (ValueError, "4 drops, and 2 amounts", {"amounts": [1, 2]}), (ValueError, "below 0: -1", {"amounts": -1}),
             (ValueError, "chips of drop 2", {"amounts": [1, 1, -4, 1]}), (TypeError, "no whole number", {"amounts": 1.5}),
@@ -142,8 +302,20 @@ class Parts(unittest.TestCase):
         failing = concurrent.futures.ThreadPoolExecutor(1)
         with failing, mock.patch.object(spread, "played", side_effect=OSError("lost")):
             self.assertRaisesRegex(OSError, "lost", plays, executor=failing)
-        with mock.patch.object(player.library, "find_library", return_value=None):
-            self.assertRaisesRegex(RuntimeError, "a worker has no library", player.played, None)
+
+    def test_a_worker_says_why_it_has_no_library(self):
+        with mock.patch.dict(os.environ, {"CHIPFIRE": "another"}):
+            self.assertRaisesRegex(RuntimeError, "a worker has no library of chipfire: CHIPFIRE names", player.played, None)
+        may_end = threading.Event()
+        thread = threading.Thread(target=may_end.wait)
+        thread.start()
+        try:
+            with concurrent.futures.ProcessPoolExecutor(1, multiprocessing.get_context("fork")) as executor:
+                why = r'a worker has no library.* forked beside threads.* multiprocessing.get_context\("spawn"\)'
+                self.assertRaisesRegex(RuntimeError, why, plays, executor=executor)
+        finally:
+            may_end.set()
+            thread.join()
 
     @unittest.skipUnless(importlib.util.find_spec("distributed"), "Dask's distributed is not here")
     def test_dask_plays_what_threads_do(self):
@@ -218,6 +390,28 @@ class Checkpoints(unittest.TestCase):
         chipfire.chains(GRID, 2, 40, 5, first=5, checkpoint=self.file)
         self.assertEqual(numbers(plays(checkpoint=self.file)), numbers(plays()))
 
+    def test_each_chain_counts_once_whatever_parts_there_are(self):
+        def played(n, first, **options):
+            return numbers(chipfire.chains(GRID, n, 40, 5, first=first, **options))
+
+        for place, options in enumerate(ASKED):
+            file = {"checkpoint": f"{self.file}{place}", **options}
+            for n, first, parts in [(7, 0, 4), (3, 2, 4), (2, 4, 1)]:
+                # (as if each call began before the others had ended)
+                with mock.patch.object(Checkpoint, "take", return_value=[]), mock.patch.object(spread, "_OF_THREAD", parts):
+                    played(n, first, workers=1, **file)
+            with contextlib.closing(sqlite3.connect(file["checkpoint"])) as rows, rows:
+                there = rows.execute("SELECT first, n FROM parts ORDER BY first").fetchall()
+                self.assertEqual(there, [(0, 1), (1, 2), (2, 1), (3, 1), (4, 2), (5, 2)])
+                rows.execute("DELETE FROM parts WHERE first = 0")
+            reports = []
+            found = played(7, 0, progress=lambda done, total: reports.append(done), **file)
+            self.assertEqual((found, max(reports)), (played(7, 0, **options), 280))
+            for n, first in [(7, 0), (3, 2), (1, 6), (2, 4), (1, 3)]:
+                whole = played(n, first, **options)
+                with mock.patch.object(spread, "play", side_effect=AssertionError("it is done")):
+                    self.assertEqual(played(n, first, **file), whole)
+
     def test_a_file_of_other_chains_is_refused(self):
         plays(checkpoint=self.file)
         for words, arguments, options in [
@@ -228,6 +422,20 @@ class Checkpoints(unittest.TestCase):
         ]:
             file = {"checkpoint": self.file}
             self.assertRaisesRegex(ValueError, words, chipfire.chains, *arguments, **file, **options)
+
+    @unittest.skipUnless(has("numpy"), "NumPy is not here")
+    def test_borders_are_those_of_the_grid(self):
+        """The same graph has another shape, and so other borders, which alone `until` asks for."""
+        one = chipfire.grid(9, 4)
+        other = chipfire.Graph(one.vertices, one.sink, one.edges, shape=(6, 6), squares=[*range(36)])
+        for until, words in [("spans", "other shape"), ("loss", None)]:
+            file = {"checkpoint": f"{self.file}{until}", "until": until}
+            whole = chipfire.chains(one, 4, 60, 1, **file)
+            self.assertEqual(numbers(chipfire.chains(one, 4, 60, 1, **file)), numbers(whole))
+            if words:
+                self.assertRaisesRegex(ValueError, words, chipfire.chains, other, 4, 60, 1, **file)
+            else:
+                self.assertEqual(numbers(chipfire.chains(other, 4, 60, 1, **file)), numbers(whole))
 
     def test_what_is_no_checkpoint_is_refused(self):
         with open(self.file, "w", encoding="utf-8") as out:
@@ -244,6 +452,17 @@ class Checkpoints(unittest.TestCase):
             with contextlib.closing(sqlite3.connect(self.file)) as rows, rows:
                 rows.execute(change)
             self.assertRaisesRegex(ValueError, words, plays, checkpoint=self.file)
+
+    def test_a_file_that_cannot_be_there_is_refused(self):
+        folder = os.path.dirname(self.file)
+        with self.assertRaisesRegex(FileNotFoundError, "a folder that is there: .*/none'"):
+            plays(checkpoint=f"{folder}/none/chains.sqlite")
+        self.assertRaisesRegex(ValueError, "is no checkpoint of chains: unable to open", plays, checkpoint=folder)
+        before = os.getcwd()
+        self.addCleanup(os.chdir, before)
+        os.chdir(folder)
+        self.assertEqual(numbers(plays(checkpoint="here")), numbers(plays()))
+        self.assertTrue(os.path.exists("here"))
 
     def test_a_part_is_written_whole_or_not_at_all(self):
         with mock.patch.object(Checkpoint, "put", side_effect=OSError("full")):
@@ -269,15 +488,78 @@ class Long(unittest.TestCase):
             with self.assertRaises(KeyboardInterrupt):
                 plays(progress=stop, **options)
 
-    def test_an_interrupt_while_parts_are_handed_out_stops_those_that_have_begun(self):
-        parts = spread._parts
+    def test_a_long_drop_that_is_stopped_leaves_those_before_it(self):
+        """Each drop goes in portions, the first of them of one visit, and a call has some drops."""
+        grid, options = chipfire.grid(20, 20), {"chips": 2, "amounts": 500}
+        whole = chipfire.chains(grid, 1, 8, 3, **options)
+        on, counts = [*chipfire.random_drops(grid, 8, whole.seeds[0])], set()
+        for left in range(40):
+            with mock.patch.multiple("chipfire.backend.kept", _FEW_CHIPS=0, _LIGHT=0, _FIRST_VISITS=1):
+                with mock.patch.object(spread, "Watch", lambda: Stops(left)):
+                    found = chipfire.chains(grid, 1, 8, 3, workers=1, **options)
+            made = int(found.made[0])
+            self.assertEqual([*found.size[0]], [*whole.size[0]][:made] + [0] * (8 - made))
+            fallen = chipfire.drops(grid, 2, on[:made], amounts=[500] * made)
+            self.assertEqual([*found.chips[0]], [*fallen.report.chips])
+            counts.add(made)
+        self.assertGreater(len(counts), 5)
 
-        def interrupted(start, stop, count):
-            yield next(parts(start, stop, count))
+    def test_an_interrupt_while_parts_are_handed_out_stops_those_that_have_begun(self):
+        submit, begun = spread.ThreadPoolExecutor.submit, []
+
+        def interrupted(pool, *call):
+            if begun:
+                raise KeyboardInterrupt
+            begun.append(call)
+            return submit(pool, *call)
+
+        with mock.patch.object(spread.ThreadPoolExecutor, "submit", interrupted), self.assertRaises(KeyboardInterrupt):
+            chipfire.chains(chipfire.grid(60, 60), 2, 10**7, 1)
+
+    def test_an_interrupt_anywhere_leaves_no_lock_and_loses_nothing(self):
+        for words in ([], ["executor"]):
+            ran = subprocess.run([sys.executable, "-c", INTERRUPTED, *words], capture_output=True, encoding="utf-8", timeout=150)
+            self.assertEqual((ran.stdout, ran.returncode), ("True True True\n", 0), ran.stderr)
+
+    def test_a_second_interrupt_waits_for_no_long_drop(self):
+        signal.signal(signal.SIGINT, signal.default_int_handler)
+        has_begun, is_stopped, may_end = threading.Event(), threading.Event(), threading.Event()
+
+        def endless(plan, table, watch):
+            has_begun.set()
+            while not watch.is_stopped:
+                time.sleep(0.01)
+            is_stopped.set()
+            may_end.wait(60)
+
+        def interrupt():
+            for event in (has_begun, is_stopped):
+                event.wait(60)
+                os.kill(os.getpid(), signal.SIGINT)
+
+        sender = threading.Thread(target=interrupt)
+        with mock.patch.object(spread, "play", endless), self.assertRaises(KeyboardInterrupt):
+            sender.start()
+            plays(workers=1, partial=True)
+        sender.join()
+        may_end.set()
+
+    def test_chains_that_had_not_begun_have_their_starts(self):
+        def stop(done, total):
             raise KeyboardInterrupt
 
-        with mock.patch.object(spread, "_parts", interrupted), self.assertRaises(KeyboardInterrupt):
-            chipfire.chains(chipfire.grid(60, 60), 2, 10**7, 1)
+        starts = [[*GRID.chips(it)] for it in chipfire.random_recurrent(GRID, 5, 7)]
+        for options, rows in [({}, starts), ({"chips": 2}, [[*GRID.chips(2)]] * 7)]:
+            with mock.patch.object(player._Player, "play", lambda player: None):
+                found = plays(workers=1, progress=stop, partial=True, **options)
+                self.assertEqual(([*map(int, found.made)], [it.tolist() for it in found.chips]), ([0] * 7, rows))
+            with mock.patch.object(spread, "begin", interrupted_once(spread.begin)):
+                found = plays(workers=1, partial=True, **options)
+                self.assertEqual([it.tolist() for it in found.chips], rows)
+            with concurrent.futures.ThreadPoolExecutor(1) as executor, mock.patch.object(spread, "_OF_EXECUTOR", 2):
+                found = plays(executor=executor, progress=stop, partial=True, **options)
+                for made, chips, start in zip(found.made, found.chips, rows):
+                    self.assertTrue(made or chips.tolist() == start)
 
     def test_a_signal_stops_a_long_call_and_keeps_what_was_made(self):
         script = [
@@ -302,6 +584,15 @@ class Long(unittest.TestCase):
             plays(executor=executor, progress=lambda done, total: reports.append((done, total)))
             self.assertEqual((reports[-1], sorted(reports)), ((280, 280), reports))
         self.assertEqual(sum(found.made), 280)
+
+    @unittest.skipUnless(has("numpy"), "NumPy is not here")
+    def test_progress_ends_at_all_where_chains_ended_before(self):
+        with concurrent.futures.ThreadPoolExecutor(1) as executor:
+            for options in ({}, {"workers": 1}, {"executor": executor}):
+                reports = []
+                found = plays(until="loss", progress=lambda done, total: reports.append((done, total)), **options)
+                self.assertLess(sum(found.made), 280)
+                self.assertEqual((reports[-1], sorted(reports)), ((280, 280), reports))
 
     def test_lines_where_there_is_no_tqdm(self):
         with mock.patch("chipfire.progress.import_optional", return_value=None):

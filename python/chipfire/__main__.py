@@ -264,7 +264,7 @@ def _add_choose(commands: Any) -> None:
 def _add_explore(commands: Any) -> None:
     says = (
         "tries all schedules of a small game: status 0 right in this game, 2 too early, "
-        "3 can miss the end, 4 too many states, 5 looks at others"
+        "3 can miss the end, 4 too many states, 5 reads other vertices"
     )
     command = _add(commands, "explore", says, make=_explore)
     _add_detector(command)

@@ -36,7 +36,7 @@ HELP = {
     "2": ("too early", "closes the root too early"),
     "3": ("can miss the end", "can miss the end"),
     "4": ("too many states", "there are more than `--most`"),
-    "5": ("looks at others", "looks at others"),
+    "5": ("reads other vertices", "reads other vertices"),
 }
 #: Refused classes of which a whole search shows it, on a small game here.
 WHOLE = ("OpensAgain", "WithoutTells", "InItsClass", "BySmallChance", "Lies")

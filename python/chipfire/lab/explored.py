@@ -84,7 +84,7 @@ class Explored:
         if status == NOT_LOCAL:
             return f"not local: {after} the root is closed, and no message told it that {self.unknown} ({among})"
         right = "never too early in any schedule of this game, and the root can always be closed"
-        return f"{right}; no look at others was found ({among})"
+        return f"{right}; the detector was not found to read other vertices ({among})"
 
     def _missed(self, after: str) -> str:
         """How the end is missed."""

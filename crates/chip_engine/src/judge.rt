@@ -12,8 +12,8 @@ use chip_command::{Answer, Ended, Fault, Status, deliver};
 use chip_file::read_log_within;
 use chip_graph::Limits;
 use chip_log::{
-    ClaimVerdict, ClaimWatch, JudgedLog, LogEnd, LogRow, PastRows, Sizes, Verdict, first_absent,
-    first_early, judge_log,
+    ClaimVerdict, ClaimWatch, JudgedLog, LogEnd, LogRow, PastRows, Sizes, Verdict, beginners,
+    first_absent, first_early, judge_log,
 };
 use std::alloc::{AllocError, Global};
 use std::io::{Read, Write};
@@ -72,18 +72,19 @@ fn judge_rows<P: ClaimWatch>(
     requires few { length rows.now < 2 ^ 32 }
     ensures { GivesAnswer (judging options rows.now) result }
 {
-    if let Some(process) = first_absent(alloc, sizes, rows, options.processes)? {
+    let beginners = beginners(alloc, sizes, rows)?;
+    if let Some(process) = first_absent(&beginners, options.processes) {
         return Err(Fault::Absent(process));
     }
     if options.first {
-        if let Some(claim) = first_early(alloc, sizes, rows, options.past, watch)? {
+        if let Some(claim) = first_early(alloc, sizes, rows, &beginners, options.past, watch)? {
             return Ok(Answer {
                 text: text_of_early(alloc, &claim)?.into_bytes(),
                 status: Status::Halted,
             });
         }
     }
-    let judged = judge_log(alloc, sizes, rows, options.past, watch)?;
+    let judged = judge_log(alloc, sizes, rows, &beginners, options.past, watch)?;
     let text = text_of(alloc, &judged)?;
     Ok(Answer {
         text: text.into_bytes(),

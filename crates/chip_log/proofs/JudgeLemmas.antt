@@ -41,6 +41,14 @@ more_beginners sizes pre x beginners was within = record {
       grind (arith, nat_tests);
 }
 
+-- the same rows, mixed in another way
+pub beginners_as : (sizes : Sizes) (log other : List LogRow) → ((q : ℕ) → steps_of q other ≡ steps_of q log)
+    → (beginners : List (Option Bool)) → AreBeginners sizes log beginners → AreBeginners sizes other beginners
+beginners_as sizes log other same beginners are = record {
+  each = are.each;
+  begins = λ q. rw (same q) (are.begins q);
+}
+
 begun : (b : Bool) (steps : List Step) → begins_with (Some b) steps ≡ Some b
 begun b [] = refl
 begun b (step ∷ steps) = begun b steps

@@ -1,32 +1,22 @@
 //! Processes that have no row.
 
-ghost use Rattle.std.specs.Prelude.{◌≡◌, IfOk};
-ghost use Rattle.chip_log.specs.Past.{Fits};
-ghost use Rattle.chip_log.specs.Judge.{has_row_at};
+ghost use Rattle.std.specs.Prelude.{◌≡◌, List};
+ghost use Rattle.chip_log.specs.declared.past.Sizes.{Sizes};
+ghost use Rattle.chip_log.specs.declared.row.LogRow.{LogRow};
+ghost use Rattle.chip_log.specs.Judge.{AreBeginners, has_row_at};
 ghost use Rattle.chip_log.specs.First.{IsFirstAbsent};
 
-use crate::judge::beginners;
-use crate::past::Sizes;
-use crate::row::LogRow;
-use std::alloc::{AllocError, Global};
-
-/// The least of the first `expected` processes without a row, if there is one.
-pub fn first_absent(
-    alloc: Global,
-    sizes: Sizes,
-    rows: &[LogRow],
-    expected: u64,
-) -> Result<Option<u64>, AllocError>
-    requires { Fits sizes rows.now }
-    ensures { IfOk result (IsFirstAbsent rows.now expected) }
+/// The least of the first `expected` processes without a row, if there is one, by the beginners of a log.
+pub fn first_absent(beginners: &[Option<bool>], expected: u64) -> Option<u64>
+    ensures { (sizes : Sizes) (log : List LogRow) → AreBeginners sizes log beginners.now
+        → IsFirstAbsent log expected result }
 {
-    let beginners = beginners(alloc, sizes, rows)?;
     for process in 0..expected {
-        if !has_row(&beginners, process) {
-            return Ok(Some(process));
+        if !has_row(beginners, process) {
+            return Some(process);
         }
     }
-    Ok(None)
+    None
 }
 
 /// Whether a process has a row, by the first rows of the processes.

@@ -4,10 +4,11 @@ ghost use Rattle.std.specs.Prelude.{◌^◌, ◌<◌, length, IfOk, MatchResult}
 ghost use Rattle.chip_log.specs.Past.{IsInOrder};
 ghost use Rattle.chip_log.specs.Order.{IsWellFormed, IsOrderFault};
 ghost use Rattle.chip_log.specs.First.{IsFirstEarly};
+ghost use Rattle.chip_log.specs.Judge.{AreBeginners};
 
 use crate::claims::claims_of;
 use crate::fault::OrderFault;
-use crate::judge::{beginners, judge_next};
+use crate::judge::judge_next;
 use crate::judged::ClaimVerdict;
 use crate::order::ordered;
 use crate::past::Sizes;
@@ -25,15 +26,17 @@ pub fn first_early<W: ClaimWatch>(
     alloc: Global,
     sizes: Sizes,
     rows: &[LogRow],
+    beginners: &[Option<bool>],
     with_past: bool,
     watch: &mut W,
 ) -> Result<Option<ClaimVerdict>, OrderFault>
     requires well_formed { IsWellFormed sizes rows.now }
     requires few { length rows.now < 2 ^ 32 }
+    requires beginners { AreBeginners sizes rows.now beginners.now }
     ensures { MatchResult result (IsFirstEarly with_past rows.now) (IsOrderFault rows.now) }
 {
     let order = ordered(alloc, sizes, rows, watch)?;
-    Ok(first_in_order(alloc, sizes, &order, with_past, watch)?)
+    Ok(first_in_order(alloc, sizes, &order, beginners, with_past, watch)?)
 }
 
 /// The first early claim of an ordered log, if there is one.
@@ -41,20 +44,21 @@ fn first_in_order<W: ClaimWatch>(
     alloc: Global,
     sizes: Sizes,
     rows: &[LogRow],
+    beginners: &[Option<bool>],
     with_past: bool,
     watch: &mut W,
 ) -> Result<Option<ClaimVerdict>, AllocError>
     requires order { IsInOrder sizes rows.now }
+    requires beginners { AreBeginners sizes rows.now beginners.now }
     ensures { IfOk result (IsFirstEarly with_past rows.now) }
 {
-    let beginners = beginners(alloc, sizes, rows)?;
     let places = claims_of(alloc, sizes, rows)?;
     let mut right = None;
     let mut next = 0;
     while next < places.len() {
         watch.judges(next, places.len());
         let place = places[next];
-        let claim = judge_next(alloc, sizes, rows, &beginners, place, right, with_past)?;
+        let claim = judge_next(alloc, sizes, rows, beginners, place, right, with_past)?;
         if claim.verdict.is_early() {
             return Ok(Some(claim));
         }

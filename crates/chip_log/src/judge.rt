@@ -30,15 +30,17 @@ pub fn judge_log<W: ClaimWatch>(
     alloc: Global,
     sizes: Sizes,
     rows: &[LogRow],
+    beginners: &[Option<bool>],
     with_past: bool,
     watch: &mut W,
 ) -> Result<JudgedLog, OrderFault>
     requires well_formed { IsWellFormed sizes rows.now }
     requires few { length rows.now < 2 ^ 32 }
+    requires beginners { AreBeginners sizes rows.now beginners.now }
     ensures { MatchResult result (IsJudgedLog with_past rows.now) (IsOrderFault rows.now) }
 {
     let order = ordered(alloc, sizes, rows, watch)?;
-    Ok(judge_ordered(alloc, sizes, &order, with_past, watch)?)
+    Ok(judge_ordered(alloc, sizes, &order, beginners, with_past, watch)?)
 }
 
 /// The verdicts on all claims of an ordered log, and its end.
@@ -46,19 +48,20 @@ fn judge_ordered<W: ClaimWatch>(
     alloc: Global,
     sizes: Sizes,
     rows: &[LogRow],
+    beginners: &[Option<bool>],
     with_past: bool,
     watch: &mut W,
 ) -> Result<JudgedLog, AllocError>
     requires order { IsInOrder sizes rows.now }
+    requires beginners { AreBeginners sizes rows.now beginners.now }
     ensures { IfOk result (IsJudgedLog with_past rows.now) }
 {
-    let beginners = beginners(alloc, sizes, rows)?;
-    let claims = judge_all(alloc, sizes, rows, &beginners, with_past, watch)?;
+    let claims = judge_all(alloc, sizes, rows, beginners, with_past, watch)?;
     if is_one_right(&claims) {
         let end = LogEnd::Claimed;
         return Ok(JudgedLog { claims, end });
     }
-    let end = open_end(alloc, sizes, rows, &beginners)?;
+    let end = open_end(alloc, sizes, rows, beginners)?;
     Ok(JudgedLog { claims, end })
 }
 
@@ -262,8 +265,8 @@ fn is_busy(said: Said, begins: Option<bool>) -> bool
     }
 }
 
-/// Of each process whether it begins active; `None` if it has no row.
-pub(crate) fn beginners(
+/// Of each process whether it begins active; `None` if it has no row. All judgments of a log take this list.
+pub fn beginners(
     alloc: Global,
     sizes: Sizes,
     rows: &[LogRow],

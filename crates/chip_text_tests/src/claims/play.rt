@@ -5,7 +5,7 @@ ghost use Rattle.chip_text_tests.specs.Checks.{may_order};
 
 use chip_log::{
     ClaimVerdict, ClaimWatch, JudgedLog, LogEnd, LogRow, OrderFault, Sizes, Step, Stream,
-    Unwatched, Verdict, first_absent, first_early, judge_log,
+    Unwatched, Verdict, beginners, first_absent, first_early, judge_log,
 };
 use std::process::Abort;
 
@@ -76,7 +76,8 @@ pub(crate) fn judged<W: ClaimWatch>(
     requires well_formed { IsTrue (may_order sizes rows.now) }
     requires few { length rows.now < 2 ^ 32 }
 {
-    judge_log(rt.alloc(), sizes, rows, true, watch)
+    let beginners = beginners(rt.alloc(), sizes, rows)?;
+    judge_log(rt.alloc(), sizes, rows, &beginners, true, watch)
 }
 
 /// The first early claim of a log, with its causal past, if there is one.
@@ -88,7 +89,8 @@ pub(crate) fn first(
     requires well_formed { IsTrue (may_order sizes rows.now) }
     requires few { length rows.now < 2 ^ 32 }
 {
-    first_early(rt.alloc(), sizes, rows, true, &mut Unwatched)
+    let beginners = beginners(rt.alloc(), sizes, rows)?;
+    first_early(rt.alloc(), sizes, rows, &beginners, true, &mut Unwatched)
 }
 
 /// The least of the first `expected` processes without a row, if there is one.
@@ -100,9 +102,8 @@ pub(crate) fn absent(
 ) -> Option<u64>
     requires well_formed { IsTrue (may_order sizes rows.now) }
 {
-    first_absent(rt.alloc(), sizes, rows, expected)
-        .ok()
-        .expect(rt, "memory")
+    let beginners = beginners(rt.alloc(), sizes, rows).ok().expect(rt, "memory");
+    first_absent(&beginners, expected)
 }
 
 /// The verdict on the last claim of a log, if there is a claim.

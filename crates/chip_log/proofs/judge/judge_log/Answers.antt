@@ -1,4 +1,5 @@
 use Rattle.chip_log.proofs.Names.{sym, IsInterleaving}
+use Rattle.chip_log.proofs.JudgeLemmas.{beginners_as}
 use Rattle.chip_log.proofs.SameLemmas.{ends_as, judged_log_as, is_log}
 use Rattle.chip_log.proofs.judge.judge_log.Goals as goal
 
@@ -11,6 +12,8 @@ judge_ordered-requires g c =
         fits = rw c.deref.ensures.value c.in_ok-order.ensures.fits;
         few = rw c.deref.ensures.value c.in_ok-order.ensures.few;
       };
+      beginners = beginners_as c.args.sizes c.args.rows.now c.deref.result.now is.whole c.args.beginners.now
+          c.requires.beginners;
     }
 
 pub returns : goal.returns

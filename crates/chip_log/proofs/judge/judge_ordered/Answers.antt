@@ -5,7 +5,7 @@ pub returns-then-is_one_right : goal.returns-then-is_one_right
 returns-then-is_one_right g c = record {
   claims = c.in_ok-claims.ensures;
   end = one_right c.args.rows.now c.requires.order.log.ends c.args.with_past c.in_ok-claims.claims.items c.in_ok-claims.ensures
-      (let a = c.deref-2.ensures.value in let b = c.is_one_right.ensures in let d = c.if-is_one_right.true in cc);
+      (let a = c.deref.ensures.value in let b = c.is_one_right.ensures in let d = c.if-is_one_right.true in cc);
 }
 
 pub returns : goal.returns
@@ -13,6 +13,6 @@ returns g c = record {
   claims = c.in_ok-claims.ensures;
   end = open_is_end c.args.rows.now c.in_ok-end.end
       (none_right c.args.rows.now c.requires.order.log.ends c.args.with_past c.in_ok-claims.claims.items c.in_ok-claims.ensures
-      (let a = c.deref-2.ensures.value in let b = c.is_one_right.ensures in let d = c.if-is_one_right.false in cc))
+      (let a = c.deref.ensures.value in let b = c.is_one_right.ensures in let d = c.if-is_one_right.false in cc))
       c.in_ok-end.ensures;
 }

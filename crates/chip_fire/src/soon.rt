@@ -8,8 +8,8 @@ ghost use Rattle.chip_fire.specs.Course.{IsCourse};
 use crate::course::{Course, Doubling};
 use crate::play::Play;
 use crate::tuning::{
-    FEW_VISITS, FIRST_VISITS, LIST_STRETCH, STRETCH, VERTICES_PER_CHIP, VISITS_OF_FEW,
-    VISITS_OF_LIST,
+    FEW_VISITS, FIRST_VISITS, LIST_STRETCH, PLACES_IN_CACHE, STRETCH, VERTICES_PER_CHIP,
+    VERTICES_PER_HELD, VISITS_OF_FEW, VISITS_OF_LIST,
 };
 use crate::watch::Watch;
 use crate::work_list::is_legal;
@@ -17,12 +17,15 @@ use chip_graph::Graph;
 use std::alloc::Global;
 
 impl Play<'_> {
-    /// A play begins by a work list if few chips wait to move.
+    /// A play begins by a work list if few chips wait to move, or if all chips stay in few places of a large graph.
     pub(crate) fn begin(&self) -> Course
         ensures { IsCourse self.now.game self.now.fired result }
     {
         let waits = self.waiting_chips();
-        if waits == 0 || waits > self.few_chips() {
+        if waits == 0 {
+            return self.soon();
+        }
+        if waits > self.few_chips() && !self.stays_in_cache() {
             return self.soon();
         }
         let all = visits_at_all(self.game.graph());
@@ -48,6 +51,21 @@ impl Play<'_> {
         self.game.graph().vertices() / VERTICES_PER_CHIP
     }
 
+    /// Whether no cache holds the graph, but the few places to which its chips can come.
+    fn stays_in_cache(&self) -> bool {
+        let graph = self.game.graph();
+        if visits_at_all(graph) <= PLACES_IN_CACHE {
+            return false;
+        }
+        let mut chips = 0u64;
+        for vertex in 0..graph.vertices() {
+            if vertex != graph.sink() {
+                chips = chips.saturating_add(self.chips[vertex as usize]);
+            }
+        }
+        chips <= graph.vertices() / VERTICES_PER_HELD
+    }
+
     /// Goes on by a work list for a part of the `left` visits, and then by rounds, if many chips wait by then.
     pub(crate) fn work_off_part(&mut self, alloc: Global, left: u64, visits: &mut u64) -> Course
         ensures same { self.new.game ≡ self.old.game }
@@ -64,7 +82,7 @@ impl Play<'_> {
         if waits == 0 {
             return Course::Rounds;
         }
-        if waits > self.few_chips() {
+        if waits > self.few_chips() && !self.stays_in_cache() {
             return Course::FewChips(all.saturating_mul(VISITS_OF_FEW));
         }
         self.soon()
@@ -115,8 +133,7 @@ impl Play<'_> {
             if waits > next.waited / 2
                 && !leaves_little(self.game.limit(), &self.fired, next.visits, few)
             {
-                let ratio = waits / next.waited.saturating_sub(waits).max(1);
-                let needed = next.visits.saturating_mul(ratio);
+                let needed = needed_by(next, waits);
                 return self.begin_search(alloc, next.visits, needed, visits, watch);
             }
             next.waited = waits;
@@ -170,6 +187,14 @@ pub(crate) fn visits_at_all(graph: &Graph) -> u64
     ensures { result ≡ graph.now.vertices + length graph.now.edges }
 {
     graph.vertices().saturating_add(graph.edges().len() as u64)
+}
+
+/// How many visits the chips that wait need before none waits, if those that wait no more grow as the square root of the
+/// visits.
+fn needed_by(doubling: Doubling, waits: u64) -> u64 {
+    let less = doubling.waited.saturating_sub(waits).max(1);
+    let times = (waits / less).saturating_add(1);
+    doubling.visits.saturating_mul(times).saturating_mul(times)
 }
 
 /// Whether a play in which each vertex fires as often as the limit allows takes no more work than `few`, if the firings

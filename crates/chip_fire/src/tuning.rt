@@ -31,6 +31,10 @@ pub(crate) const STRETCH: u64 = 1 << 20;
 /// Few chips wait if there is at most one for this number of vertices.
 pub(crate) const VERTICES_PER_CHIP: u64 = 64;
 
+/// Chips stay in few places if there is at most one for this number of vertices: a work list of `VISITS_OF_LIST` plays as
+/// large a heap on a grid to its end (2^16 chips in the middle of 1,000 by 1,000).
+pub(crate) const VERTICES_PER_HELD: u64 = 14;
+
 /// How many visits to each vertex and edge are made by a work list before its turn may end: each beginning passes over all
 /// vertices.
 pub(crate) const LIST_STRETCH: u64 = 16;

@@ -15,5 +15,6 @@ pub mod Avalanches
 pub mod Pile
 pub mod Worked
 pub mod BegunPile
+pub mod Lent
 pub mod Measured
 pub mod Timed

@@ -8,7 +8,7 @@ pub use chip_sequence::{
     AfterFault, NotLegal, Outcome, ResumeFault, Resumed, after, after_into, enough, fire,
 };
 pub use course::Course;
-pub use pile::{BegunDrop, Pile};
+pub use pile::{BegunDrop, Lent, Pile};
 pub use play::Play;
 pub use player::{plain, plain_given, plain_watched};
 pub use rounds::make_rounds;

@@ -1,6 +1,7 @@
 //! A pile: a game that has ended, on which chips are dropped.
 
-ghost use Rattle.std.specs.Prelude.{◌≡◌, ◌↔◌, ℕ, ◌+◌, ◌<◌, ◌≤◌, true, List, [], ◌∷◌, sum, slice_index, is_none, IfOk, IfSome};
+ghost use Rattle.std.specs.Prelude.{◌≡◌, ◌↔◌, ℕ, ◌+◌, ◌<◌, ◌≤◌, true, List, [], ◌∷◌, sum, slice_index, is_none};
+ghost use Rattle.std.specs.Prelude.{IfOk, IfSome, MatchResult};
 ghost use Rattle.chip_graph.specs.Limits.{max_total};
 ghost use Rattle.chip_graph.specs.ChipGame.{ChipGame, IsGame};
 ghost use Rattle.chip_graph.specs.More.{HasMore};
@@ -8,6 +9,7 @@ ghost use Rattle.chip_sequence.specs.Play.{IsPlayed};
 ghost use Rattle.chip_fire.specs.Player.{PlaysOut};
 ghost use Rattle.chip_fire.specs.Avalanches.{dropped, TellsAvalanche};
 ghost use Rattle.chip_fire.specs.Pile.{IsPile, IsBegunDrop};
+ghost use Rattle.chip_fire.specs.Lent.{pile_on};
 ghost use Rattle.chip_sequence.specs.Firing.{IsStable};
 ghost use Rattle.chip_fire.specs.BegunPile.{IsBegunPile, IsAtStart, PlaysOn};
 ghost use Rattle.chip_fire.specs.Measured.{HasRow, TellsMeasured, row_vertices, row_times};
@@ -100,6 +102,32 @@ impl Pile {
             room,
             course: Course::Begins,
         }
+    }
+
+    /// Takes the graph out, until `Lent::back`; or returns the unchanged pile if memory ran out.
+    pub fn lend(self, alloc: Global) -> Result<(Graph, Lent), Pile>
+        ensures { MatchResult result (λ lent. self ≡ pile_on lent.0 lent.1) (λ pile. pile ≡ self) }
+    {
+        let Ok(start) = Vec::from_slice(alloc, self.game.start()) else {
+            return Err(self);
+        };
+        let Pile {
+            game,
+            chips,
+            fired,
+            room,
+            course,
+        } = self;
+        let limit = game.limit();
+        let lent = Lent {
+            start,
+            limit,
+            chips,
+            fired,
+            room,
+            course,
+        };
+        Ok((game.into_graph(), lent))
     }
 
     /// Whether no vertex is legal.
@@ -292,6 +320,41 @@ impl Pile {
             fired,
         };
         play.outcome(alloc)
+    }
+}
+
+/// A pile whose graph is lent.
+#[derive(Drop)]
+pub struct Lent {
+    start: Vec<u64>,
+    limit: u64,
+    chips: Vec<u64>,
+    fired: Vec<u64>,
+    room: Room,
+    course: Course,
+}
+
+impl Lent {
+    /// The pile, with the graph back in its place.
+    pub fn back(self, graph: Graph) -> Pile
+        requires { IsGame (pile_on graph self).game }
+        ensures { result ≡ pile_on graph self }
+    {
+        let Lent {
+            start,
+            limit,
+            chips,
+            fired,
+            room,
+            course,
+        } = self;
+        Pile {
+            game: game_on(graph, start, limit),
+            chips,
+            fired,
+            room,
+            course,
+        }
     }
 }
 

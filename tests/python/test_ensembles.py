@@ -6,6 +6,7 @@ import contextlib
 import copy
 import itertools
 import math
+import operator
 import os
 import pickle
 import random
@@ -403,6 +404,30 @@ class Measured(unittest.TestCase):
             found = chipfire.drops(grid, 3, on, fired=True)
         self.assertEqual(rows_of(found), rows_of(whole))
         self.assertEqual([it.tolist() for it in found.fired], [it.tolist() for it in whole.fired])
+
+    def test_what_fired_is_in_order_whatever_is_put_in_order_at_a_time(self):
+        """On few vertices, and on so many that their numbers and those of drops go beyond 16 bits."""
+        for width, height, count in [(6, 6, 200), (300, 300, 30)]:
+            grid = chipfire.grid(width, height)
+            at, middle = [*chipfire.random_drops(grid, count, 2)], width * (height // 2)
+            whole = chipfire.drops(grid, 3, [middle, *at], fired=True)
+            offsets, vertices, counts = whole.fired
+            self.assertEqual(offsets.tolist(), [0, *itertools.accumulate(whole.extent.tolist())])
+            total = [0] * grid.vertices
+            for begin, end in zip(offsets, offsets[1:]):
+                row = vertices[begin:end].tolist()
+                self.assertEqual(row, sorted({*row}))
+                for vertex, times in zip(row, counts[begin:end].tolist()):
+                    total[vertex] += times
+            self.assertEqual(sum(total), sum(whole.size.tolist()))
+            with chipfire.Pile(grid, 3) as pile:
+                before = pile.fired
+                pile.drops([middle, *at])
+                self.assertEqual(total, [*map(operator.sub, pile.fired, before)])
+            for near in (1, 2, 50, 10**6):
+                with mock.patch("chipfire.ensembles.firings._NEAR", near):
+                    found = chipfire.drops(grid, 3, [middle, *at], fired=True)
+                self.assertEqual([it.tolist() for it in found.fired], [it.tolist() for it in whole.fired])
 
     def test_the_limit_ends_what_is_measured(self):
         with chipfire.Pile(TRIANGLE, [1, 1, 0], 1) as pile:

@@ -19,6 +19,7 @@ import tempfile
 import threading
 import time
 import unittest
+from array import array
 from collections import Counter
 from unittest import mock
 
@@ -411,6 +412,25 @@ class Checkpoints(unittest.TestCase):
                 whole = played(n, first, **options)
                 with mock.patch.object(spread, "play", side_effect=AssertionError("it is done")):
                     self.assertEqual(played(n, first, **file), whole)
+
+    @unittest.skipUnless(has("numpy"), "NumPy is not here")
+    def test_what_fired_is_in_order_if_it_is_not_in_the_file(self):
+        """Files of 0.11.0 have the vertices of a drop in the order in which they fired first."""
+        whole = numbers(plays(checkpoint=self.file, fired=True))
+        with contextlib.closing(sqlite3.connect(self.file)) as rows, rows:
+            there = rows.execute("SELECT first, drops, vertices, counts FROM parts").fetchall()
+            for first, drops, vertices, counts in there:
+                drops, vertices, counts = array("q", drops), array("i", vertices), array("q", counts)
+                order = sorted(range(len(drops)), key=lambda at: (drops[at], -vertices[at]))
+                turned = [array(it.typecode, [it[at] for at in order]).tobytes() for it in (vertices, counts)]
+                rows.execute("UPDATE parts SET vertices = ?, counts = ? WHERE first = ?", (*turned, first))
+        self.assertEqual(numbers(plays(checkpoint=self.file, fired=True)), whole)
+        for place, change in enumerate(("drops = counts", "vertices = x''", "counts = x''")):
+            file = f"{self.file}{place}"
+            plays(checkpoint=file, fired=True)
+            with contextlib.closing(sqlite3.connect(file)) as rows, rows:
+                rows.execute(f"UPDATE parts SET {change}")
+            self.assertRaisesRegex(ValueError, "not that of these drops", plays, checkpoint=file, fired=True)
 
     def test_a_file_of_other_chains_is_refused(self):
         plays(checkpoint=self.file)

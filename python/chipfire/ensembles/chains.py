@@ -461,7 +461,7 @@ def _result(plan: Plan, table: Any) -> Chains | Histograms:
         told = (plan.seed, plan.first)
         return Histograms(plan.seeds, size, extent, lost, sums, made, chips, *told)
     size, extent, lost, *timed = (_by_rows(numpy, it, plan.n) for it in table.columns)
-    fired = firings(plan.graph, plan.n * plan.drops, table.taken()) if plan.fired else None
+    fired = firings(plan.graph, table.columns[1], table.taken()) if plan.fired else None
     duration = timed[0] if timed else None
     rows = (size, extent, lost, made, chips, fired)
     return Chains(plan.seeds, *rows, plan.seed, plan.first, duration)

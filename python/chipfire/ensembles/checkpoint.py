@@ -12,6 +12,7 @@ from array import array
 from collections.abc import Iterator
 from typing import Any
 
+from chipfire.ensembles.firings import drops_of, joined, ordered
 from chipfire.ensembles.player import Plan, spanning, Table
 from chipfire.utils import FileName, import_optional
 
@@ -132,12 +133,14 @@ class Checkpoint:
         wanted = [n, n * table.width] + [n * table.drops] * len(table.columns)
         if shapes != wanted or max(made) > table.drops:
             raise ValueError(f"{self.file} has a part that is none of these chains")
-        fired = [_piece(columns[2:5])] if self.plan.fired else []
+        fired = [(0, [_fired(rows[1], columns[2:5])])] if self.plan.fired else []
         return Table(table.drops, table.width, rows, made, chips, fired)
 
     def put(self, start: int, stop: int, part: Table) -> None:
         """Writes the part in these places, which is done."""
-        fired = _joined(part.fired) if self.plan.fired else [b""] * 3
+        fired: list[Any] = [b""] * 3
+        if self.plan.fired:
+            fired = [drops_of(part.columns[1]), *joined(part.fired)]
         numbers = [part.made, part.chips, *fired, *part.columns]
         if not self.plan.timed:
             numbers.append(b"")
@@ -158,22 +161,15 @@ def _connected(file: str) -> sqlite3.Connection:
         raise ValueError(f"{file} is no checkpoint of chains: {error}") from None
 
 
-def _joined(pieces: list[Any]) -> list[Any]:
-    """The arrays of pieces of what fired, in one."""
+def _fired(extents: array[int], columns: list[bytes]) -> tuple[Any, Any]:
+    """What drops with these extents fired, by the columns of a file: the number of the drop of each vertex, the vertices, in
+    any order in each drop, and how often each fired."""
     numpy = import_optional("numpy")
-    empty = [(numpy.zeros(0, "i8"), numpy.zeros(0, "i4"), numpy.zeros(0, "i8"))]
-    return [numpy.concatenate(it) for it in zip(*empty, *pieces)]
-
-
-def _piece(columns: list[bytes]) -> tuple[Any, Any, Any]:
-    """A piece of what fired."""
-    numpy = import_optional("numpy")
-    drops = numpy.frombuffer(columns[0], "i8")
-    vertices = numpy.frombuffer(columns[1], "i4")
-    counts = numpy.frombuffer(columns[2], "i8")
-    if not len(drops) == len(vertices) == len(counts):
+    drops, vertices, counts = map(numpy.frombuffer, columns, ("i8", "i4", "i8"))
+    is_one_each = len(drops) == len(vertices) == len(counts)
+    if not is_one_each or not numpy.array_equal(drops, drops_of(extents)):
         raise ValueError("what fired is not that of these drops")
-    return drops, vertices, counts
+    return ordered(numpy.frombuffer(extents, "i8"), vertices, counts)
 
 
 @contextlib.contextmanager

@@ -15,7 +15,7 @@ from chipfire.backend.process import refused
 from chipfire.backend.report import Report
 from chipfire.configurations.configuration import CHIPS_HEADER, Configuration, in_words
 from chipfire.ensembles import archive
-from chipfire.ensembles.firings import fall, Firings, firings, firings_of, numbers_of, Room, stored
+from chipfire.ensembles.firings import fall, Firings, firings, firings_of, Room, stored
 from chipfire.ensembles.power_law import sizes_figure
 from chipfire.graphs.graph import Graph
 from chipfire.progress import Progress
@@ -274,8 +274,7 @@ class Measured:
         if duration:
             found["duration"] = duration[0]
         if self._room:
-            piece = (numbers_of(extent), *self._room.taken())
-            found["fired"] = firings(self._graph, self.made, [piece])
+            found["fired"] = firings(self._graph, extent, [(0, self._room.taken())])
         return found
 
 

@@ -13,7 +13,15 @@ from chipfire.graphs.graph import Graph
 from chipfire.utils import import_optional, numpy_in_use
 
 #: How many vertices that fire a call has room for at least.
-_ROOM = 2**17
+_ROOM = 2**18
+
+#: How many of them are put in order at a time, about: so many as a processor's cache holds with all that this takes.
+_NEAR = 2**14
+
+#: What drops fire, in parts: the vertices, those of each drop in their order, and how often each fired.
+Parts = list[tuple[Any, Any]]
+#: The number of the first of some drops, and what they fire.
+Piece = tuple[int, Parts]
 
 
 class Firings(NamedTuple):
@@ -38,7 +46,7 @@ class Firings(NamedTuple):
 
     Notes
     -----
-    A vertex that fires takes 12 bytes, or 16 in a graph with names, and up to 60 before all are in order.
+    A vertex that fires takes 12 bytes, or 16 in a graph with names, and up to 24 or 32 before all are in one array.
 
     Proved: which vertices fired, and the counts. Not proved: that Python passes them on, and puts them in order.
 
@@ -140,13 +148,17 @@ def _neighbours(numpy: Any, places: Any) -> int:
 
 
 class Room:
-    """Memory in which the library writes what drops fire, and what it wrote: vertices, and how often each fired."""
+    """Memory in which the library writes what drops fire, and what it wrote, if that is kept: of each drop the vertices that
+    fired, in the order of their numbers, and how often each did."""
 
-    def __init__(self, vertices: int) -> None:
+    def __init__(self, vertices: int, is_kept: bool = True) -> None:
         numpy = import_optional("numpy", "what fired is told by NumPy")
         size = max(_ROOM, 2 * vertices)
         self._vertices, self._times = numpy.empty(size, "u8"), numpy.empty(size, "u8")
-        self._pieces: list[tuple[Any, Any]] = []
+        self._is_kept = is_kept
+        self._parts: Parts = []
+        #: The vertices that the last drop fired, in any order, until the next one is made.
+        self.last: Any = self._vertices[:0]
 
     def drops(
         self,
@@ -158,45 +170,85 @@ class Room:
     ) -> tuple[int, int]:
         """Drops as `KeptPile.measure` makes them, in as many calls as there is room for."""
         numpy = import_optional("numpy")
+        ends = numpy.empty(len(at), "u8")
         made = 0
         while True:
-            ends = numpy.zeros(len(at) - made, "u8")
             where, many, *rest = (it[made:] for it in (at, amounts, *columns))
-            room = (ends, self._vertices, self._times)
+            room = (ends[made:], self._vertices, self._times)
             number, place = pile.measure(where, many, rest, room, until)
             if number not in (0, kept.STOPPED):
                 return number, made + place
             if place:
-                self._take(int(ends[place - 1]))
+                self._take(ends[made : made + place])
             made += place
             if number or made == len(at) or ends_run(until, self, columns, made):
                 return number, made
 
-    def _take(self, written: int) -> None:
-        self._add(self._vertices[:written], self._times[:written])
-
-    def _add(self, vertices: Any, times: Any) -> None:
-        self._pieces.append((vertices.astype("i4"), times.astype("i8")))
+    def _take(self, ends: Any) -> None:
+        """Takes the rows that were written last, of drops whose rows end there."""
+        numpy = import_optional("numpy")
+        ends, vertices, times = (it.view("i8") for it in (ends, self._vertices, self._times))
+        self.last = vertices[ends[-2] if len(ends) > 1 else 0 : ends[-1]]
+        if not self._is_kept:
+            return
+        lengths = numpy.diff(ends, prepend=0)
+        at = start = 0
+        for cut in _cuts(numpy, ends, lengths):
+            stop = int(ends[cut - 1])
+            if start < stop:
+                part = slice(start, stop)
+                self._parts.append(ordered(lengths[at:cut], vertices[part], times[part]))
+            at, start = cut, stop
 
     def add_counts(self, counts: Sequence[int]) -> None:
         """Takes what one drop fires, as the count of each vertex."""
         numpy = import_optional("numpy")
-        each = numpy.frombuffer(counts, "u8")
-        vertices = each.nonzero()[0]
-        self._add(vertices, each[vertices])
+        each = numpy.frombuffer(counts, "i8")
+        self.last = each.nonzero()[0]
+        if self._is_kept:
+            self._parts.append((self.last.astype("i4"), each[self.last]))
 
-    def last(self, extent: int) -> Any:
-        """The vertices that the last drop fired, which are so many."""
-        vertices = self._pieces[-1][0]
-        return vertices[len(vertices) - extent :]
-
-    def taken(self) -> tuple[Any, Any]:
+    def taken(self) -> Parts:
         """What was written since it was taken the last time."""
-        numpy = import_optional("numpy")
-        empty = (numpy.zeros(0, "i4"), numpy.zeros(0, "i8"))
-        vertices, times = map(numpy.concatenate, zip(empty, *self._pieces))
-        self._pieces.clear()
-        return vertices, times
+        found, self._parts = self._parts, []
+        return found
+
+
+def joined(pieces: Sequence[Piece]) -> tuple[Any, Any]:
+    """What the drops of all pieces fire, which may be in any order."""
+    numpy = import_optional("numpy")
+    parts = [(numpy.zeros(0, "i4"), numpy.zeros(0, "i8"))]
+    for _, more in sorted(pieces, key=lambda piece: piece[0]):
+        parts += more
+    vertices, counts = map(numpy.concatenate, zip(*parts))
+    return vertices, counts
+
+
+def _cuts(numpy: Any, ends: Any, lengths: Any) -> Any:
+    """How many drops come before the end of each part that is put in order at a time. A drop that fires many vertices is a part
+    of its own, since alone they are in order sooner."""
+    is_last = numpy.diff((ends - lengths) // _NEAR, append=-1) != 0
+    is_last[:-1] |= lengths[1:] >= _NEAR
+    return (numpy.flatnonzero(is_last) + 1).tolist()
+
+
+def ordered(extents: Any, vertices: Any, times: Any) -> tuple[Any, Any]:
+    """What drops with these extents fire: the vertices of each drop in the order of their numbers, and how often they do."""
+    numpy = import_optional("numpy")
+    width = int(vertices.max(initial=0)) + 1
+    places = numpy.repeat(numpy.arange(len(extents)) * width, extents)
+    places += vertices
+    order = _order(numpy, places, len(extents) * width)
+    return vertices.astype("i4")[order], times[order]
+
+
+def _order(numpy: Any, numbers: Any, most: int) -> Any:
+    """The order of numbers from 0 on that are below `most`: by 16 bits at a time, of which NumPy makes no comparisons."""
+    order = numpy.argsort(numbers.astype("u2"), kind="stable")
+    for shift in range(16, (most - 1).bit_length(), 16):
+        digits = (numbers >> shift).astype("u2")[order]
+        order = order[numpy.argsort(digits, kind="stable")]
+    return order
 
 
 def fall(
@@ -238,8 +290,7 @@ def ends_run(until: kept.Until, room: Room | None, columns: Sequence[Any], made:
     if not (made and room and len(until.marks)):
         return False
     numpy = import_optional("numpy")
-    marks = until.marks[room.last(columns[1][made - 1])]
-    bits = int(numpy.bitwise_or.reduce(marks))
+    bits = int(numpy.bitwise_or.reduce(until.marks[room.last]))
     return any(bits & both == both for both in (1, 2 | 4, 8 | 16))
 
 
@@ -300,24 +351,27 @@ def _pour(
     return 0, 1
 
 
-def numbers_of(lengths: Any, first: int = 0) -> Any:
-    """The number of its drop beside each vertex that fires, of drops that fire so many, by their numbers from `first` on."""
+def drops_of(extents: Any) -> Any:
+    """The number of its drop for each vertex that drops with these extents fire."""
     numpy = import_optional("numpy")
-    return numpy.repeat(numpy.arange(first, first + len(lengths)), lengths)
+    return numpy.repeat(numpy.arange(len(extents)), numpy.frombuffer(extents, "i8"))
 
 
-def firings(graph: Graph, count: int, pieces: Sequence[Any]) -> Firings:
-    """What `count` drops fire, of pieces with the numbers of drops, vertices, and how often each fired, in any order."""
+def offsets_of(extents: Any) -> Any:
+    """Where what each drop fired begins, of drops with these extents, and where the last one ends."""
     numpy = import_optional("numpy")
-    drops, vertices, counts = map(numpy.concatenate, zip(*(pieces or [[numpy.zeros(0, "i8")] * 3])))
-    order = numpy.lexsort((vertices, drops))
-    fired_by_drop = numpy.bincount(drops, minlength=count)
-    offsets = numpy.concatenate([[0], numpy.cumsum(fired_by_drop)])
-    return Firings(offsets, _named(numpy, graph, vertices[order]), counts[order])
+    return numpy.concatenate([[0], numpy.cumsum(numpy.frombuffer(extents, "i8"))])
 
 
-def _named(numpy: Any, graph: Graph, vertices: Any) -> Any:
+def firings(graph: Graph, extents: Any, pieces: Sequence[Piece]) -> Firings:
+    """What drops with these extents fire, by pieces."""
+    vertices, counts = joined(pieces)
+    return Firings(offsets_of(extents), _named(graph, vertices), counts)
+
+
+def _named(graph: Graph, vertices: Any) -> Any:
     """The names of vertices that fired."""
+    numpy = import_optional("numpy")
     if isinstance(graph.names, range):
         return vertices
     names = numpy.empty(graph.vertices, object)

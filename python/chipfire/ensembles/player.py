@@ -21,7 +21,8 @@ from chipfire.ensembles.firings import (
     ends_inside,
     ends_run,
     fall,
-    numbers_of,
+    offsets_of,
+    Piece,
     places_on_grid,
     Room,
     shape_of,
@@ -126,7 +127,7 @@ class Table:
     columns  the size, extent and loss of each drop, and its duration if that is asked for
     made     how many drops each chain made
     chips    what lies on each vertex, without the chips of loops
-    fired    pieces of what fired, each with three arrays: the numbers of drops, the vertices, and how often they fired
+    fired    pieces of what fired
     parts    the pieces that parts of this table have, by the numbers of their first chains
     """
 
@@ -135,8 +136,8 @@ class Table:
     columns: list[Any]
     made: Any
     chips: Any
-    fired: list[Any] = field(default_factory=list)
-    parts: dict[int, list[Any]] = field(default_factory=dict)
+    fired: list[Piece] = field(default_factory=list)
+    parts: dict[int, list[Piece]] = field(default_factory=dict)
 
     @classmethod
     def of(cls, plan: Plan) -> Table:
@@ -175,20 +176,19 @@ class Table:
         self.parts[start] = other.fired
 
     def cut(self, start: int, stop: int) -> Table:
-        """The rows of these chains, and what they fired as this table's own pieces have it."""
+        """The rows of these chains, and what they fired, if this table has what all its chains fired, in one part."""
         part = self.part(start, stop)
-        first, last = start * self.drops, stop * self.drops - 1
-        for drops, *others in self.fired:
-            is_in = (first <= drops) & (drops <= last)
-            part.fired.append((drops[is_in] - first, *(it[is_in] for it in others)))
+        for _, ((vertices, counts),) in self.fired:
+            first, last = offsets_of(self.columns[1])[[start * self.drops, stop * self.drops]]
+            part.fired.append((0, [(vertices[first:last], counts[first:last])]))
         return part
 
-    def taken(self) -> list[Any]:
+    def taken(self) -> list[Piece]:
         """The pieces of what all chains fired, which are no longer in the table."""
         found = self.fired
         while self.parts:
             chain, pieces = self.parts.popitem()
-            found += [(drops + chain * self.drops, *others) for drops, *others in pieces]
+            found += [(first + chain * self.drops, parts) for first, parts in pieces]
         return found
 
 
@@ -328,7 +328,7 @@ class _Player:
         self.draw = random.Random(0)
         self.twister: Any = None
         is_asked = plan.fired or plan.until == "spans"
-        self.room = Room(self.graph.vertices) if is_asked else None
+        self.room = Room(self.graph.vertices, plan.fired) if is_asked else None
         self.until = _until(self.graph, plan.until)
         #: The number of the next drop among those of all chains, and whether the chain has ended.
         self.next = 0
@@ -417,21 +417,10 @@ class _Player:
         if number:
             raise refused(number, made, self.graph)
         self.is_over = ends_run(self.until, self.room, columns, made)
-        self._note(columns, self.room.taken() if self.room else (), made)
-        return made
-
-    def _note(self, columns: list[Any], fired: Any, made: int) -> None:
-        """Takes what these drops fired, if that is asked for."""
-        if self.plan.fired:
-            numbers = numbers_of(_numbers(columns[1])[:made], self.next)
-            self.table.fired.append((numbers, *fired))
+        if self.room and self.plan.fired:
+            self.table.fired.append((self.next, self.room.taken()))
         self.next += made
-
-
-def _numbers(column: Any) -> Any:
-    """A column as NumPy has it."""
-    numpy = import_optional("numpy")
-    return numpy.frombuffer(column, "i8")
+        return made
 
 
 def _until(graph: Graph, until: str | None) -> kept.Until:

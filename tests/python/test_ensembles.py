@@ -276,6 +276,9 @@ class Chains(unittest.TestCase):
                           for some in ({"fired": True}, {"durations": True}, {"fired": True, "durations": True}, {})]
             with mock.patch.multiple("chipfire.backend.kept", _FEW_CHIPS=0, _LIGHT=0):
                 others += [chipfire.chains(grid, 5, 80, 2, **more, **some) for some in ({"fired": True}, {})]
+            for few in (1, 7):
+                with mock.patch("chipfire.ensembles.player._FEW", few):
+                    others += [chipfire.chains(grid, 5, 80, 2, **more, **some) for some in ({"fired": True}, {})]
             for other in others:
                 for name in ("size", "extent", "lost", "made", "chips"):
                     self.assertEqual(getattr(one, name).tolist(), getattr(other, name).tolist())

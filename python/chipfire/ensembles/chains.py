@@ -437,12 +437,16 @@ def _starts(graph: Graph, chips: Any, n: int) -> array[int] | None:
     found = read_chips(chips, graph) if isinstance(chips, FILE) else chips
     if getattr(found, "ndim", 1) > 1:
         found = in_order(found, "chips are rows, or those of all chains")
-    if _are_rows(graph, found):
-        rows = [graph.chips(row) for row in found]
-    else:
-        rows = [graph.chips(found)] * n
+    if not _are_rows(graph, found):
+        return _stable(graph, [graph.chips(found)]) * n
+    rows = [graph.chips(row) for row in found]
     if len(rows) != n:
         raise ValueError(f"there are chips for {len(rows)} chains, and {n} chains")
+    return _stable(graph, rows)
+
+
+def _stable(graph: Graph, rows: Sequence[Sequence[int]]) -> array[int]:
+    """These chips, one row behind another, when all are stable."""
     begun = array("Q", graph.without_loops([*itertools.chain.from_iterable(rows)]))
     return stabilized_rows(graph.loop_free, begun, None)[0]
 

@@ -9,7 +9,7 @@ import random
 import threading
 from array import array
 from collections import Counter
-from collections.abc import Mapping
+from collections.abc import Iterator, Mapping
 from dataclasses import dataclass, field, replace
 from typing import Any, Union
 
@@ -30,6 +30,10 @@ from chipfire.ensembles.firings import (
 from chipfire.ensembles.wilson import recurrent_rows
 from chipfire.graphs.graph import Graph
 from chipfire.utils import import_optional, MAX_LIMIT
+
+
+#: How many drops are drawn first of a chain that may end with any of them.
+_FEW = 2**10
 
 
 @dataclass(frozen=True)
@@ -360,8 +364,11 @@ class _Player:
             raise Stopped
 
     def _put(self, pile: kept.KeptPile, chips: array[int]) -> None:
+        """The start of the next chain, whose drops are as long as those of the one before."""
+        light = pile.light
         if number := pile.put(chips, MAX_LIMIT):
             raise refused(number, 0, self.graph)
+        pile.light = light
 
     def _begin(self, chain: int) -> None:
         """Has `_drawn` begin with the first drop of a chain, by NumPy's twister, which is Python's."""
@@ -383,9 +390,7 @@ class _Player:
     def _play_on(self, pile: kept.KeptPile, chain: int) -> None:
         """Plays a chain, some drops at a time."""
         self._begin(chain)
-        drops = self.plan.drops
-        for start in range(0, drops, PART):
-            stop = min(start + PART, drops)
+        for start, stop in _stretches(self.plan):
             rows = self.table.rows(chain, start, stop)
             made = self._drops(pile, self.plan.amounts[start:stop], rows)
             self.table.add(chain, rows, made)
@@ -421,6 +426,16 @@ class _Player:
             self.table.fired.append((self.next, self.room.taken()))
         self.next += made
         return made
+
+
+def _stretches(plan: Plan) -> Iterator[tuple[int, int]]:
+    """The drops that are drawn at a time: of a chain that may end before the last, a few at first, and then as many as all
+    before."""
+    stop, size = 0, _FEW if plan.until else PART
+    while stop < plan.drops:
+        start, stop = stop, min(stop + size, plan.drops)
+        yield start, stop
+        size = min(max(size, stop), PART)
 
 
 def _until(graph: Graph, until: str | None) -> kept.Until:

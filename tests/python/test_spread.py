@@ -342,8 +342,13 @@ class Parts(unittest.TestCase):
             with open(file, "w", encoding="utf-8") as out:
                 out.write("\n".join(script))
             words = ["mpiexec", "--oversubscribe", "-n", "2", sys.executable, "-m", "mpi4py.futures", file]
-            ran = subprocess.run(words, stdin=subprocess.DEVNULL, capture_output=True, encoding="utf-8", env={**os.environ, **allowed})
-        self.assertEqual((ran.returncode, ran.stdout.strip()), (0, str([row.tolist() for row in plays().size])), ran.stderr)
+            # (Open MPI itself may fail at its end on a machine that has much else to do)
+            for _ in range(3):
+                ran = subprocess.run(words, stdin=subprocess.DEVNULL, capture_output=True, encoding="utf-8", env={**os.environ, **allowed})
+                self.assertEqual(ran.stdout.strip(), str([row.tolist() for row in plays().size]), ran.stderr)
+                if ran.returncode == 0:
+                    break
+        self.assertEqual(ran.returncode, 0, ran.stderr)
 
 
 @unittest.skipUnless(IS_HERE, "chains take the library")

@@ -6,7 +6,11 @@ use Rattle.chip_recurrent.proofs.Names.{ℕ_discrete, max_total, max_limit, Mult
 use Rattle.chip_recurrent.proofs.Names.{sum_by_place, sum_below_le, sum_below_term, sum_small, tested_none, game_from, IsLegal, IsPlayed}
 use Rattle.chip_recurrent.proofs.Names.{position_after, counts, IsWithin, IsWholePlay, Outcome, legal_vertices_law}
 use Rattle.chip_recurrent.proofs.Names.{eqb-true, AgreeOffSink, FiresTo, StabilizesTo, then_fires, then_counts, IsStable, stable_below}
-use Rattle.chip_recurrent.specs.Stabilizations.{chips_off_sink, StabilizesWithin, IsStart, IsStabilized}
+use Rattle.std.specs.Prelude.{◌⊎◌}
+use Rattle.std.proofs.Common.{inl, inr}
+use Rattle.chip_recurrent.specs.Stabilizations.{chips_off_sink, StabilizesWithin, IsStart, IsStabilized, IsFaultOfRow}
+use Rattle.chip_recurrent.specs.declared.fault.RowFault.{RowFault}
+use Rattle.chip_recurrent.specs.declared.fault.RowFault.TheVariants.{Total, NoMemory}
 use Rattle.std.proofs.lemmas.List.{nil_from_length, get_or-set_other, get_or-set_same, length-set}
 
 module _ (G : Multigraph) (x : ℕ → ℕ) (start : List ℕ) (is : IsStart G x start) where
@@ -22,6 +26,12 @@ module _ (G : Multigraph) (x : ℕ → ℕ) (start : List ℕ) (is : IsStart G x
       (λ same. rw same (omega (arith, is.none_on_sink)))
       (λ other. let a = is.off_sink v l other in grind (arith, nat_tests))) in
       omega (arith, in_all)
+
+  -- and a play without an outcome has a fault of its row
+  pub fault_of_play : (row : ℕ) (fault : RowFault)
+      → (fault ≡ NoMemory) ⊎ ((fault ≡ Total row) × (max_total < sum start)) → IsFaultOfRow G x row fault
+  fault_of_play row fault (inl none) = rw none tt
+  fault_of_play row fault (inr (total, above)) = rw total (refl, many above)
 
   module _ (few : sum start ≤ max_total) where
     pub start_is : AgreeOffSink G (slice_index start) x

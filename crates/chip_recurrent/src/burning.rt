@@ -8,14 +8,13 @@ ghost use Rattle.chip_recurrent.specs.Stabilizations.{IsFaultOfRow};
 ghost use Rattle.chip_recurrent.specs.Burning.{burning_start, IsBurning};
 
 use crate::fault::RowFault;
-use crate::stabilization::stabilized_sum;
+use crate::stabilization::stabilize_on;
 use chip_graph::Graph;
 use std::alloc::{AllocError, Global};
 
-/// A graph with its least burning script and the script's chips.
+/// The least burning script of a graph and its chips.
 #[derive(Drop)]
 pub struct Burning {
-    pub graph: Graph,
     /// How often each vertex fires.
     pub script: Vec<u64>,
     /// How many chips each vertex loses on balance by these firings.
@@ -23,20 +22,18 @@ pub struct Burning {
 }
 
 /// The burning script in which each vertex fires least often (Speer, Asymmetric abelian sandpile models, 1993). It is
-/// one more than the odometer of a stabilization: of one chip less on each vertex than edges lead in.
-pub fn burning_script(alloc: Global, graph: Graph) -> Result<Burning, RowFault>
-    ensures { MatchResult result (λ b. (b.graph ≡ graph) × IsBurning graph b.script.items b.chips.items)
-        (IsFaultOfRow graph (burning_start graph) 0) }
+/// one more than the odometer of a stabilization: of one chip less on each vertex than edges lead in. The graph is
+/// unchanged at the end.
+pub fn burning_script(alloc: Global, graph: &mut Graph) -> Result<Burning, RowFault>
+    ensures graph { graph.new ≡ graph.old }
+    ensures burning { MatchResult result (λ b. IsBurning graph.old b.script.items b.chips.items)
+        (IsFaultOfRow graph.old (burning_start graph.old) 0) }
 {
-    let start = start_to_burn(alloc, &graph)?;
-    let end = stabilized_sum(alloc, graph, &start, &[], 0)?;
-    let script = one_more(alloc, &end.graph, &end.fired)?;
-    let chips = burning_chips(alloc, &end.graph, &end.chips)?;
-    Ok(Burning {
-        graph: end.graph,
-        script,
-        chips,
-    })
+    let start = start_to_burn(alloc, graph)?;
+    let end = stabilize_on(alloc, graph, &start, &[], 0)?;
+    let script = one_more(alloc, graph, &end.fired)?;
+    let chips = burning_chips(alloc, graph, &end.chips)?;
+    Ok(Burning { script, chips })
 }
 
 /// One chip less on each vertex than edges lead in, or no chips.

@@ -1,6 +1,6 @@
 //! Burning scripts, recurrent and superstable configurations, and the sandpile group's identity, by stabilizations.
 //!
-//! Each call takes a graph and returns it, so no play checks it again. Chips on the sink do not count, and results have
+//! A graph goes from play to play, so none checks it again. Chips on the sink do not count, and results have
 //! none there.
 #![tactic(auto)]
 

@@ -9,7 +9,7 @@ ghost use Rattle.chip_recurrent.specs.Recurrents.{AreTestedBy, IsFirstFaultOfTes
 use crate::burning::burning_script;
 use crate::fault::RowFault;
 use crate::rows::{agree_off_sink, is_stable};
-use crate::stabilization::stabilized_sum;
+use crate::stabilization::stabilize_on;
 use chip_graph::Graph;
 use std::alloc::Global;
 
@@ -17,7 +17,7 @@ use std::alloc::Global;
 /// configuration after configuration.
 pub fn are_recurrent(
     alloc: Global,
-    graph: Graph,
+    mut graph: Graph,
     chips: &[u64],
     rows: usize,
 ) -> Result<Vec<u64>, RowFault>
@@ -25,8 +25,8 @@ pub fn are_recurrent(
     ensures { MatchResult result (λ flags. AreTested graph chips.now rows flags.items)
         (IsFaultOfTests graph chips.now rows) }
 {
-    let burning = burning_script(alloc, graph)?;
-    each_test(alloc, burning.graph, &burning.chips, chips, rows)
+    let burning = burning_script(alloc, &mut graph)?;
+    each_test(alloc, graph, &burning.chips, chips, rows)
 }
 
 /// The same, by the chips of a burning script.
@@ -48,44 +48,32 @@ fn each_test(
     let mut rest = chips;
     for number in 0..rows {
         let (these, later) = rest.split_at(vertices);
-        let test = burning_test(alloc, graph, burning, these, number as u64)?;
-        flags.push(test.flag)?;
-        graph = test.graph;
+        let flag = burning_test(alloc, &mut graph, burning, these, number as u64)?;
+        flags.push(flag)?;
         rest = later;
     }
     Ok(flags)
 }
 
-/// A graph, and whether a configuration on it is recurrent.
-#[derive(Drop)]
-pub(crate) struct Tested {
-    pub graph: Graph,
-    /// 1 if it is, else 0.
-    pub flag: u64,
-}
-
-/// Whether this row is recurrent: stable, and the stabilization of its sum with the chips of a burning script.
+/// 1 if this row is recurrent, else 0: stable, and the stabilization of its sum with the chips of a burning script. The
+/// graph is unchanged at the end.
 pub(crate) fn burning_test(
     alloc: Global,
-    graph: Graph,
+    graph: &mut Graph,
     burning: &[u64],
     chips: &[u64],
     row: u64,
-) -> Result<Tested, RowFault>
-    requires graph { IsGraph graph }
-    requires chips_each { length chips.now ≡ graph.vertices }
-    requires script { (s : ℕ → ℕ) × IsBurningScript graph s (slice_index burning.now) }
-    ensures { MatchResult result
-        (λ test. (test.graph ≡ graph) × IsTested graph (slice_index burning.now) (slice_index chips.now) test.flag)
-        (IsFaultOfTest graph (slice_index burning.now) (slice_index chips.now) row) }
+) -> Result<u64, RowFault>
+    requires graph { IsGraph graph.old }
+    requires chips_each { length chips.now ≡ graph.old.vertices }
+    requires script { (s : ℕ → ℕ) × IsBurningScript graph.old s (slice_index burning.now) }
+    ensures graph { graph.new ≡ graph.old }
+    ensures flag { MatchResult result (IsTested graph.old (slice_index burning.now) (slice_index chips.now))
+        (IsFaultOfTest graph.old (slice_index burning.now) (slice_index chips.now) row) }
 {
-    if !is_stable(&graph, chips) {
-        return Ok(Tested { graph, flag: 0 });
+    if !is_stable(graph, chips) {
+        return Ok(0);
     }
-    let end = stabilized_sum(alloc, graph, chips, burning, row)?;
-    let flag = u64::from(agree_off_sink(&end.graph, &end.chips, chips));
-    Ok(Tested {
-        graph: end.graph,
-        flag,
-    })
+    let end = stabilize_on(alloc, graph, chips, burning, row)?;
+    Ok(u64::from(agree_off_sink(graph, &end.chips, chips)))
 }

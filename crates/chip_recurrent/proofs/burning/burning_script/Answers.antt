@@ -7,55 +7,52 @@ use Rattle.chip_recurrent.proofs.BurningLemmas.{least_script}
 use Rattle.chip_recurrent.proofs.StabilizationLemmas.{few_fired, few_left, sink_degree}
 use Rattle.chip_recurrent.proofs.burning.burning_script.Goals as goal
 
-pub returns-in_err-end : goal.returns-in_err-end
-returns-in_err-end c =
+pub returns-in_err-end-clause-burning : goal.returns-in_err-end-clause-burning
+returns-in_err-end-clause-burning c =
     let p = err_from_is_err_and c.from_residual-in_err-end.result c.from_residual-in_err-end.ensures.1 in
-    let fault = c.in_err-end.ensures (burning_start c.args.graph)
+    let fault = c.in_err-end.ensures.end (burning_start c.args.graph.now)
     (λ v l ns. rw c.deref.ensures.value (omega (arith, c.in_ok-start.ensures.start v l))) in
     rw (p.1, p.2) fault
 
 pub one_more-requires-clause-few : goal.one_more-requires-clause-few
 one_more-requires-clause-few c =
-    let end = c.in_ok-end.ensures (burning_start c.args.graph)
+    let end = c.in_ok-end.ensures.end (burning_start c.args.graph.now)
     (λ v l ns. rw c.deref.ensures.value (omega (arith, c.in_ok-start.ensures.start v l))) in
-    λ v. rw c.deref-2.ensures.value (omega (arith, few_fired c.args.graph end.1.is_graph end.1 v))
+    λ v. rw c.deref-2.ensures.value (omega (arith, few_fired c.args.graph.now end.is_graph end v))
 
 pub one_more-requires-clause-each : goal.one_more-requires-clause-each
 one_more-requires-clause-each c =
-    let end = c.in_ok-end.ensures (burning_start c.args.graph)
+    let end = c.in_ok-end.ensures.end (burning_start c.args.graph.now)
     (λ v l ns. rw c.deref.ensures.value (omega (arith, c.in_ok-start.ensures.start v l))) in
-    rw (c.deref-2.ensures.value, end.0) end.1.fired_each
+    rw (c.deref-2.ensures.value, c.in_ok-end.ensures.graph) end.fired_each
 
 pub burning_chips-requires-clause-each : goal.burning_chips-requires-clause-each
 burning_chips-requires-clause-each c =
-    let end = c.in_ok-end.ensures (burning_start c.args.graph)
+    let end = c.in_ok-end.ensures.end (burning_start c.args.graph.now)
     (λ v l ns. rw c.deref.ensures.value (omega (arith, c.in_ok-start.ensures.start v l))) in
-    rw (c.deref-3.ensures.value, end.0) end.1.chips_each
+    rw (c.deref-3.ensures.value, c.in_ok-end.ensures.graph) end.chips_each
 
 pub burning_chips-requires-clause-few : goal.burning_chips-requires-clause-few
 burning_chips-requires-clause-few c =
-    let end = c.in_ok-end.ensures (burning_start c.args.graph)
+    let end = c.in_ok-end.ensures.end (burning_start c.args.graph.now)
     (λ v l ns. rw c.deref.ensures.value (omega (arith, c.in_ok-start.ensures.start v l))) in
-    rw (c.deref-3.ensures.value, end.0)
-    (λ v l. omega (arith, few_left c.args.graph end.1.is_graph end.1 v l))
+    rw (c.deref-3.ensures.value, c.in_ok-end.ensures.graph)
+    (λ v l. omega (arith, few_left c.args.graph.now end.is_graph end v l))
 
-pub returns : goal.returns
-returns c =
-    let G : Multigraph = c.args.graph in
-    let end = c.in_ok-end.ensures (burning_start G)
+pub returns-clause-burning : goal.returns-clause-burning
+returns-clause-burning c =
+    let G : Multigraph = c.args.graph.now in
+    let end = c.in_ok-end.ensures.end (burning_start G)
     (λ v l ns. rw c.deref.ensures.value (omega (arith, c.in_ok-start.ensures.start v l))) in
-    let is : IsStabilized G (burning_start G) c.in_ok-end.end.chips.items c.in_ok-end.end.fired.items = end.1 in
-    let script = rw (c.deref-2.ensures.value, end.0) at c.in_ok-script.ensures.script in
-    let chips = rw (c.deref-3.ensures.value, end.0) at c.in_ok-chips.ensures.chips in (
-      end.0,
-      record {
-        is_graph = is.is_graph;
-        script_each = rw end.0 at c.in_ok-script.ensures.each;
-        chips_each = rw end.0 at c.in_ok-chips.ensures.each;
-        least = least_script G is.is_graph is.stabilizes.end (λ v l ns. omega (arith, script v l ns, is.odometer v))
-            (λ v l ns. chips v l);
-        script_at_sink = rw end.0 at c.in_ok-script.ensures.sink;
-        none_on_sink = omega (arith, chips G.sink is.is_graph.sink_is_vertex, sink_degree G is.is_graph);
-        within = (slice_index c.in_ok-end.end.chips.items, is.stabilizes);
-      },
-    )
+    let is : IsStabilized G (burning_start G) c.in_ok-end.end.chips.items c.in_ok-end.end.fired.items = end in
+    let script = rw (c.deref-2.ensures.value, c.in_ok-end.ensures.graph) at c.in_ok-script.ensures.script in
+    let chips = rw (c.deref-3.ensures.value, c.in_ok-end.ensures.graph) at c.in_ok-chips.ensures.chips in record {
+      is_graph = is.is_graph;
+      script_each = rw c.in_ok-end.ensures.graph at c.in_ok-script.ensures.each;
+      chips_each = rw c.in_ok-end.ensures.graph at c.in_ok-chips.ensures.each;
+      least = least_script G is.is_graph is.stabilizes.end (λ v l ns. omega (arith, script v l ns, is.odometer v))
+          (λ v l ns. chips v l);
+      script_at_sink = rw c.in_ok-end.ensures.graph at c.in_ok-script.ensures.sink;
+      none_on_sink = omega (arith, chips G.sink is.is_graph.sink_is_vertex, sink_degree G is.is_graph);
+      within = (slice_index c.in_ok-end.end.chips.items, is.stabilizes);
+    }

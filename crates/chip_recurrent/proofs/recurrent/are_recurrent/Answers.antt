@@ -6,7 +6,7 @@ pub returns : goal.returns
 returns c =
     let script : ℕ → ℕ = slice_index c.in_ok-burning.burning.script.items in
     let chips : ℕ → ℕ = slice_index c.in_ok-burning.burning.chips.items in
-    let found = c.in_ok-burning.ensures.1 in
+    let found = c.in_ok-burning.ensures.burning in
     widened _ _ _ _
     (λ flags done. record {
       is_graph = found.is_graph;
@@ -14,4 +14,4 @@ returns c =
       tested = (script, chips, found.least, done);
     })
     (λ fault is. inr (script, chips, found.least, is)) c.each_test.result
-    (rw (c.in_ok-burning.ensures.0, c.deref.ensures.value) at c.each_test.ensures)
+    (rw (c.in_ok-burning.ensures.graph, c.deref.ensures.value) at c.each_test.ensures)

@@ -23,20 +23,20 @@ split_at-requires c =
     let all = c.requires.chips_each in
     let is = c.vertices-vertices.ensures.value in omega arith
 
-pub returns-in_err-test : goal.returns-in_err-test
-returns-in_err-test c =
+pub returns-in_err-flag : goal.returns-in_err-flag
+returns-in_err-flag c =
     let is = c.loop-number.invariant in
     let i : ℕ = c.loop-number.number in
     let G : Multigraph = c.args.graph in
     let n : c.vertices-vertices.result ≡ G.vertices = c.vertices-vertices.ensures.value in
     let start : c.split_at.result.0.now ≡ row G.vertices c.args.chips.now i = c.split_at.ensures.front
     ∙ rw (is.rest, n) refl in
-    let p = err_from_is_err_and c.from_residual-in_err-test.result c.from_residual-in_err-test.ensures.1 in
+    let p = err_from_is_err_and c.from_residual-in_err-flag.result c.from_residual-in_err-flag.ensures.1 in
     rw (p.1, p.2) (inr (
       i,
       c.loop-number-test.true,
       (λ j l. (slice_index c.loop-number.flags.items j, is.done.each j l)),
-      rw (is.same_graph, start) at c.in_err-test.ensures,
+      rw (is.same_graph, start) at c.in_err-flag.ensures.flag,
     ))
 
 pub loop-number-preserved : goal.loop-number-preserved
@@ -49,12 +49,12 @@ loop-number-preserved c =
     ∙ rw (is.rest, n) refl in
     let next : c.split_at.result.1.now ≡ drop ((i + 1) * G.vertices) c.args.chips.now = c.split_at.ensures.back
     ∙ rw (is.rest, n, drop-drop) (ap (λ (k : ℕ). drop k c.args.chips.now) (omega arith)) in
-    let test = rw (is.same_graph, start) at c.in_ok-test.ensures in record {
-      same_graph = test.0;
+    let test = rw (is.same_graph, start) at c.in_ok-flag.ensures.flag in record {
+      same_graph = c.in_ok-flag.ensures.graph ∙ is.same_graph;
       rest = next;
       done = rw c.in_ok-push.ensures.items
           (tested_more G (slice_index c.args.burning.now) c.args.chips.now i c.loop-number.flags.items
-          c.in_ok-test.test.flag is.done test.1);
+          c.in_ok-flag.flag is.done test);
     }
 
 pub returns : goal.returns

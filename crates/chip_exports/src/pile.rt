@@ -5,15 +5,16 @@ ghost use Rattle.chip_fire.specs.declared.avalanche.Avalanche.{Avalanche};
 ghost use Rattle.chip_library.specs.declared.fault.CallFault.{CallFault};
 ghost use Rattle.chip_library.specs.KeptGames.{PutsChips, PlaysSome, Drops};
 ghost use Rattle.chip_library.specs.Measures.{measures_of};
-ghost use Rattle.chip_handle.specs.Handles.{MakesNew, OnPile, DropsOn, MeasuresOn, CopiesOf, chips_on, firings_on, bytes_held};
+ghost use Rattle.chip_handle.specs.Handles.{MakesNew, OnPile, DropsOn, MeasuresOn, CopiesOf, DrawsOf, chips_on, firings_on};
+ghost use Rattle.chip_handle.specs.Handles.{bytes_held};
 ghost use Rattle.chip_exports.specs.Answers.{Answers, answer_of};
 ghost use Rattle.chip_exports.specs.Status.{is_true};
 ghost use Rattle.chip_exports.specs.Piles.{CallStatus, call_status_of, left_of, written_of, TellsMade};
 
 use crate::answer;
 use chip_handle::{
-    Handle, bytes_of, chips_of, drop_on, drops_on, fired_of, make, measure_on, play_on, put,
-    release,
+    Handle, bytes_of, chips_of, draw_on, drop_on, drops_on, fired_of, make, measure_on, play_on,
+    put, release,
 };
 use chip_library::{CallFault, EdgeLists};
 use std::alloc::Global;
@@ -165,6 +166,22 @@ pub extern "C" fn chipfire_pile_measure(
             fault.number()
         }
     }
+}
+
+/// Writes random recurrent configurations of the graph of a pile (`chip_handle::draw_on`).
+#[unsafe(no_mangle)]
+pub extern "C" fn chipfire_pile_random_recurrent(
+    alloc: Global,
+    pile: &mut Handle,
+    seed: u64,
+    first: u64,
+    rows: usize,
+    chips: &mut [u64],
+    place: &mut u64,
+) -> u64
+    ensures { Answers result place.new (DrawsOf rows pile.old.raw.value pile.new.raw.value chips.old chips.new) }
+{
+    answer(draw_on(alloc, pile, seed, first, rows, chips), place)
 }
 
 /// Copies the chips of a pile (`chip_handle::chips_of`).

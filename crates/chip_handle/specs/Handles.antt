@@ -5,6 +5,7 @@ use Rattle.chip_library.specs.declared.fault.CallFault.{CallFault}
 use Rattle.chip_library.specs.declared.fault.CallFault.TheVariants.{Lengths, NoPile}
 use Rattle.chip_library.specs.KeptGames.{KeptGame, MakesPile, Rows, DropsEach, bytes_on}
 use Rattle.chip_library.specs.Measures.{Measures, MeasuresEach}
+use Rattle.chip_library.specs.GroupCalls.{DrawsOn}
 
 -- 1 if there is a pile
 abbrev pub number_of_piles : Option KeptGame → ℕ
@@ -46,11 +47,20 @@ abbrev pub Copies : List ℕ → (old new : List ℕ) → Result (Unit {0}) Call
 Copies numbers old new (Ok done) = new ≡ numbers
 Copies numbers old new (Err fault) = (new ≡ old) × (fault ≡ Lengths) × (length old ≡ length numbers → ⊥)
 
--- what a copy of a pile's numbers returns: these numbers, or that there is no pile. The pile is unchanged
+-- what a call that leaves the pile unchanged returns: that there is none, and nothing is written; or what it writes
+abbrev pub ReadsOf : (KeptGame → (old new : List ℕ) → Result (Unit {0}) CallFault → Type 0)
+    → (handle handle' : Option KeptGame) → (old new : List ℕ) → Result (Unit {0}) CallFault → Type 0
+ReadsOf does None handle' old new told = (handle' ≡ None) × (new ≡ old) × (told ≡ Err NoPile)
+ReadsOf does (Some k) handle' old new told = (handle' ≡ Some k) × does k old new told
+
+-- what a copy of a pile's numbers returns
 abbrev pub CopiesOf : (KeptGame → List ℕ) → (handle handle' : Option KeptGame) → (old new : List ℕ)
     → Result (Unit {0}) CallFault → Type 0
-CopiesOf numbers None handle' old new told = (handle' ≡ None) × (new ≡ old) × (told ≡ Err NoPile)
-CopiesOf numbers (Some k) handle' old new told = (handle' ≡ Some k) × Copies (numbers k) old new told
+CopiesOf numbers = ReadsOf (λ k. Copies (numbers k))
+
+-- what drawing so many configurations of a pile's graph returns
+abbrev pub DrawsOf : ℕ → (handle handle' : Option KeptGame) → (old new : List ℕ) → Result (Unit {0}) CallFault → Type 0
+DrawsOf rows = ReadsOf (λ k. DrawsOn k.pile.game.graph rows)
 
 -- its chips, by vertex
 abbrev pub chips_on : KeptGame → List ℕ

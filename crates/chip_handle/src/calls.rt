@@ -3,7 +3,7 @@
 ghost use Rattle.std.specs.Prelude.{◌≡◌, None};
 ghost use Rattle.chip_library.specs.KeptGames.{PutsChips, PlaysSome, Drops};
 ghost use Rattle.chip_library.specs.Measures.{measures_of};
-ghost use Rattle.chip_handle.specs.Handles.{MakesNew, OnPile, DropsOn, MeasuresOn, Copies, CopiesOf, chips_on, firings_on, bytes_held};
+ghost use Rattle.chip_handle.specs.Handles.{MakesNew, OnPile, DropsOn, MeasuresOn, Copies, CopiesOf, DrawsOf, chips_on, firings_on, bytes_held};
 
 use crate::handle::Handle;
 use chip_fire::Avalanche;
@@ -175,6 +175,26 @@ pub fn fired_of(alloc: Global, handle: &mut Handle, fired: &mut [u64]) -> Result
         return Err(CallFault::NoPile);
     };
     let told = copy(boxed.fired(), fired);
+    *handle = Handle::of(boxed);
+    told
+}
+
+/// Writes random recurrent configurations of the graph of a pile (`KeptPile::draw`).
+pub fn draw_on(
+    alloc: Global,
+    handle: &mut Handle,
+    seed: u64,
+    first: u64,
+    rows: usize,
+    chips: &mut [u64],
+) -> Result<(), CallFault>
+    ensures { DrawsOf rows handle.old.raw.value handle.new.raw.value chips.old chips.new result }
+{
+    let Some(mut boxed) = handle.take(alloc) else {
+        return Err(CallFault::NoPile);
+    };
+    let kept: &mut KeptPile = &mut boxed;
+    let told = kept.draw(alloc, seed, first, rows, chips);
     *handle = Handle::of(boxed);
     told
 }

@@ -2,7 +2,8 @@
 #![tactic(auto)]
 
 pub use calls::{
-    bytes_of, chips_of, drop_on, drops_on, fired_of, make, measure_on, play_on, put, release,
+    bytes_of, chips_of, draw_on, drop_on, drops_on, fired_of, make, measure_on, play_on, put,
+    release,
 };
 pub use handle::Handle;
 pub use loose::Loose;

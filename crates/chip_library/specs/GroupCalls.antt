@@ -1,6 +1,6 @@
 -- Burning scripts, recurrent and superstable configurations, and the identity of the sandpile group.
 use Rattle.std.specs.Prelude.{◌≡◌, ◌⊎◌, ℕ, ◌*◌, List, length, Result, Ok, Err}
-use Rattle.chip_graph.specs.Multigraph.{IsGraph}
+use Rattle.chip_graph.specs.Multigraph.{Multigraph, IsGraph}
 use Rattle.chip_recurrent.specs.Stabilizations.{IsFaultOfRow}
 use Rattle.chip_recurrent.specs.Burning.{IsBurning, burning_start}
 use Rattle.chip_recurrent.specs.Recurrents.{AreTested, IsFaultOfTests}
@@ -71,3 +71,11 @@ DrawsRows lists rows chips chips' (Ok done) =
     HasRows lists rows chips × IsGraph (graph_of lists) × AreRecurrents (graph_of lists) rows chips'
 DrawsRows lists rows chips chips' (Err fault) = (chips' ≡ chips)
     × IsFirstFault lists (HasRows lists rows chips) (IsFaultOfDraws (graph_of lists) rows) fault
+
+-- recurrent configurations of this graph are written; or the first fault is returned, of the length or of the draws, and
+-- the chips are unchanged
+abbrev pub DrawsOn : Multigraph → ℕ → (chips chips' : List ℕ) → Result (Unit {0}) CallFault → Type 0
+DrawsOn G rows chips chips' (Ok done) = (length chips ≡ rows * G.vertices) × AreRecurrents G rows chips'
+DrawsOn G rows chips chips' (Err fault) = (chips' ≡ chips)
+    × (((fault ≡ Lengths) × (length chips ≡ rows * G.vertices → ⊥))
+    ⊎ ((length chips ≡ rows * G.vertices) × (row : RowFault) × (fault ≡ call_fault_of row) × IsFaultOfDraws G rows row))

@@ -1,6 +1,6 @@
 //! Burning scripts, recurrent and superstable configurations, and the identity of the sandpile group.
 
-ghost use Rattle.std.specs.Prelude.{◌≡◌, ◌↔◌, length, IsTrue};
+ghost use Rattle.std.specs.Prelude.{◌≡◌, ◌↔◌, ◌*◌, length, IsTrue};
 ghost use Rattle.chip_library.specs.GroupCalls.{HasRows, FindsBurning, TestsRows, FindsForms, FindsIdentity, DrawsRows};
 
 use crate::edges::EdgeLists;
@@ -22,8 +22,8 @@ pub fn burning(
     if !has_rows(edges, 1, script) || !has_rows(edges, 1, chips) {
         return Err(CallFault::Lengths);
     }
-    let graph = edges.graph(alloc)?;
-    let found = chip_recurrent::burning_script(alloc, graph)?;
+    let mut graph = edges.graph(alloc)?;
+    let found = chip_recurrent::burning_script(alloc, &mut graph)?;
     script.copy_from_slice(&found.script);
     chips.copy_from_slice(&found.chips);
     Ok(())
@@ -100,8 +100,8 @@ pub fn random_recurrents(
     if !has_rows(edges, rows, chips) {
         return Err(CallFault::Lengths);
     }
-    let graph = edges.graph(alloc)?;
-    let found = chip_recurrent::random_recurrents(alloc, graph, seed, first, rows)?;
+    let mut graph = edges.graph(alloc)?;
+    let found = chip_recurrent::random_recurrents(alloc, &mut graph, seed, first, rows)?;
     chips.copy_from_slice(&found);
     Ok(())
 }
@@ -110,8 +110,14 @@ pub fn random_recurrents(
 fn has_rows(edges: EdgeLists<'_>, rows: usize, numbers: &[u64]) -> bool
     ensures { IsTrue result ↔ HasRows edges.entry rows numbers.now }
 {
-    let all = (rows as u64).checked_mul(edges.vertices);
-    edges.has_whole_rows() && all == Some(numbers.len() as u64)
+    edges.has_whole_rows() && are_rows(edges.vertices, rows, numbers)
+}
+
+/// Whether `numbers` are those of `rows` configurations of so many vertices.
+pub(crate) fn are_rows(vertices: u64, rows: usize, numbers: &[u64]) -> bool
+    ensures { IsTrue result ↔ (length numbers.now ≡ rows * vertices) }
+{
+    (rows as u64).checked_mul(vertices) == Some(numbers.len() as u64)
 }
 
 impl From<RowFault> for CallFault {

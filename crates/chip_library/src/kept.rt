@@ -9,14 +9,18 @@ ghost use Rattle.chip_fire.specs.Measured.{row_vertices, row_times};
 ghost use Rattle.chip_library.specs.Drops.{CanFall, IsFaultOfColumns};
 ghost use Rattle.chip_library.specs.KeptGames.{BeginsGame, MakesPile, PutsChips, Plays, PlaysSome, Drops};
 ghost use Rattle.chip_library.specs.KeptGames.{DropsEach, bytes_on};
+ghost use Rattle.chip_recurrent.specs.Drawn.{AreRecurrents, IsFaultOfDraws};
+ghost use Rattle.chip_library.specs.GroupCalls.{DrawsOn};
 ghost use Rattle.chip_library.specs.Measures.{measures_of, MeasuresOnStable, MeasuresEach};
 
 use crate::edges::EdgeLists;
 use crate::fault::CallFault;
 use crate::game::game_of;
+use crate::group::are_rows;
 use crate::measures::{are_asked, make_each};
 use chip_fire::{Avalanche, Measured, Pile};
 use chip_graph::{Game, GameFault, Graph, MAX_LIMIT, MAX_TOTAL, total_of};
+use chip_recurrent::{RowFault, random_recurrents};
 use core::mem::replace_with;
 use std::alloc::Global;
 use std::marker::Model;
@@ -279,6 +283,44 @@ impl KeptPile {
             alloc, self, at, amounts, loses, marks, sizes, extents, losts, durations, ends,
             vertices, times,
         )
+    }
+
+    /// Writes random recurrent configurations of its graph, as `random_recurrents` does. The pile is unchanged.
+    pub fn draw(
+        &mut self,
+        alloc: Global,
+        seed: u64,
+        first: u64,
+        rows: usize,
+        chips: &mut [u64],
+    ) -> Result<(), CallFault>
+        ensures pile { self.new ≡ self.old }
+        ensures drawn { DrawsOn self.old.pile.game.graph rows chips.old chips.new result }
+    {
+        if !are_rows(self.game().graph().vertices(), rows, chips) {
+            return Err(CallFault::Lengths);
+        }
+        let found = replace_with(self, (alloc, seed, first, rows), KeptPile::drawn)?;
+        chips.copy_from_slice(&found);
+        Ok(())
+    }
+
+    /// The unchanged pile, and configurations of its graph: so many from this number on.
+    fn drawn(self, given: (Global, u64, u64, usize)) -> (KeptPile, Result<Vec<u64>, RowFault>)
+        ensures pile { result.0 ≡ self }
+        ensures drawn { MatchResult result.1 (λ chips. AreRecurrents self.pile.game.graph given.3 chips.items)
+            (IsFaultOfDraws self.pile.game.graph given.3) }
+    {
+        let (alloc, seed, first, rows) = given;
+        let KeptPile { pile, state } = self;
+        match pile.lend(alloc) {
+            Ok((mut graph, lent)) => {
+                let found = random_recurrents(alloc, &mut graph, seed, first, rows);
+                let pile = lent.back(graph);
+                (KeptPile { pile, state }, found)
+            }
+            Err(pile) => (KeptPile { pile, state }, Err(RowFault::NoMemory)),
+        }
     }
 
     /// The game, with all dropped chips at its start.

@@ -13,6 +13,6 @@ returns-in_err-found c =
         rw graph at good,
         c.in_err-found.field-0.0,
         refl,
-        rw graph at c.in_err-found.ensures,
+        rw graph at c.in_err-found.ensures.drawn,
       )),
     )

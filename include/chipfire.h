@@ -351,6 +351,12 @@ uint64_t chipfire_pile_measure(struct chipfire_pile *pile,
                                uint64_t *times, size_t times_len,
                                uint64_t *place);
 
+/* Draws what chipfire_random_recurrent draws on the pile's graph, with its faults. The pile is unchanged, on 13 too. */
+uint64_t chipfire_pile_random_recurrent(struct chipfire_pile *pile,
+                                        uint64_t seed, uint64_t first, size_t rows,
+                                        uint64_t *chips, size_t chips_len,
+                                        uint64_t *place);
+
 /* Copies the chips of each vertex: before the first play those put there. */
 uint64_t chipfire_pile_chips(struct chipfire_pile *pile, uint64_t *chips, size_t chips_len);
 

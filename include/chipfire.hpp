@@ -382,6 +382,18 @@ public:
         return found;
     }
 
+    /// Draws random recurrent configurations of its graph, as the function of this name does. The pile is unchanged.
+    std::vector<std::uint64_t> random_recurrent(std::uint64_t seed, std::size_t count = 1, std::uint64_t first = 0)
+    {
+        std::vector<std::uint64_t> found;
+        for (std::size_t row = 0; row < count; row++) found.resize(found.size() + vertices_);
+        std::uint64_t place = 0;
+        const std::uint64_t fault =
+            chipfire_pile_random_recurrent(its(), seed, first, count, found.data(), found.size(), &place);
+        detail::must(fault, place);
+        return found;
+    }
+
     /// The chips of each vertex.
     std::vector<std::uint64_t> chips()
     {

@@ -281,6 +281,11 @@ static void expect_pile(struct chipfire_pile *pile, const uint64_t *chips, const
 
 #define EXPECT_PILE(pile, chips, fired) expect_pile(pile, chips, fired, __LINE__)
 
+static uint64_t pile_draw(struct chipfire_pile *pile, struct call *c)
+{
+    return chipfire_pile_random_recurrent(pile, UINT64_C(5), 0, c->games, c->chips, c->chips_len, &c->place);
+}
+
 /* What there is no pile for. */
 static void try_no_pile(void)
 {
@@ -294,6 +299,7 @@ static void try_no_pile(void)
     c.at[0] = 3;
     c.amounts_len = 2;
     EXPECT(pile_drops(&pile, &c) == 14 && c.place == 0 && are(c.sizes, DROPS, NUMBERS(GUARD, GUARD, GUARD)));
+    EXPECT(pile_draw(&pile, &c) == 14 && c.place == 0);
     EXPECT(chipfire_pile_size(&pile) == 0);
     EXPECT(size == GUARD && extent == GUARD && lost == GUARD && are(chips, N, NUMBERS(GUARD, GUARD, GUARD)));
     chipfire_pile_free(&pile);
@@ -389,6 +395,18 @@ static void try_measures_on_piles(void)
     EXPECT(chipfire_pile_put(&kept, UINT64_C(1) << 40, NUMBERS(4, 0, 0), N) == 0);
     EXPECT(chipfire_pile_measure(&kept, NULL, 0, NULL, 0, 1, NULL, 0, NULL, 0, NULL, 0, NULL, 0, NULL, 0, NULL, 0, NULL, 0,
                                  NULL, 0, &place) == 0 && place == 0);
+}
+
+/* The pile draws what the graph alone gives, and stays as it is. */
+static void try_draws_on_piles(void)
+{
+    struct call c = begin(), alone = begin();
+    EXPECT_PILE(&kept, NUMBERS(1, 0, 3), NUMBERS(2, 1, 0));
+    EXPECT(draw(&alone) == 0 && pile_draw(&kept, &c) == 0 && c.place == 0 && are(c.chips, 6, alone.chips));
+    c = begin();
+    c.games = 1;
+    EXPECT(pile_draw(&kept, &c) == 12 && c.place == 0 && are(c.chips, 6, NUMBERS(4, 0, 0, 1, 1, 5)));
+    EXPECT_PILE(&kept, NUMBERS(1, 0, 3), NUMBERS(2, 1, 0));
 }
 
 /* How many of three drops are made, if these end a run: the first fires nothing, the second 0 and 1 once, which loses 2
@@ -633,6 +651,7 @@ int main(void)
     try_drops_on_piles();
     try_ends_of_runs();
     try_measures_on_piles();
+    try_draws_on_piles();
     try_faults_of_piles();
     try_stopped_piles();
     try_claims();

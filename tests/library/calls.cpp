@@ -84,6 +84,7 @@ static void play_drops()
     const auto fell = pile.drop(2);
     EXPECT(fell.size == 0 && fell.extent == 0 && fell.lost == 0);
     EXPECT((pile.chips() == Row{1, 0, 4} && pile.fired() == Row{2, 1, 0}));
+    EXPECT((pile.random_recurrent(5, 3) == chipfire::random_recurrent(graph, 5, 3) && pile.fired() == Row{2, 1, 0}));
     EXPECT(fault_of([&] { pile.drop(3); }) == at(CHIPFIRE_FAULT_VERTEX, 0));
     EXPECT(fault_of([&] { pile.drops({0, 3}, {1, 1}); }) == at(CHIPFIRE_FAULT_VERTEX, 1));
     pile.put({1, 0, 0}, 1);

@@ -80,6 +80,13 @@ class Pile:
         rows, others = [it.now() for it in written[:3]], [it.now() for it in written[3:]]
         return status, place.now()[0], list(zip(*rows)), *others
 
+    def draw(self, seed, first, rows, length=None):
+        """Returns the status, with random recurrent configurations, and the place."""
+        chips, place = Slice([GUARD] * (self.graph.vertices * rows if length is None else length)), Slice([7])
+        words = (*chips.words(), place.words()[0])
+        status = LIBRARY.chipfire_pile_random_recurrent(self.at, seed, first, rows, *words)
+        return *self.result(status, chips.now(), chips.numbers), place.now()[0]
+
     def size(self):
         return LIBRARY.chipfire_pile_size(self.at)
 
@@ -486,6 +493,22 @@ class Memory(Piles):
         columns = [Slice([0, 7, 9]), *(Slice([it] * 3) for it in (5, GUARD, GUARD, GUARD))]
         drops = (pile.at, *(word for it in columns for word in it.words()), place.words()[0])
         self.assertEqual(self.within(0, lambda: LIBRARY.chipfire_pile_drops(*drops), lambda status: status), 0)
+
+    def test_refused_draws(self):
+        """A call returns 90 and writes nothing, and with enough memory it draws. The pile is as it was."""
+        graph = grid(120)
+        pile = self.pile(graph)
+        self.assertEqual(pile.new([5] * graph.vertices), (0, 0))
+        self.assertEqual(pile.play(1000)[0], 0)
+        before, drawn_before = pile.now(), pile.draw(1, 0, 1)
+
+        def look(drawn):
+            right = (90, None, 0) if drawn[0] else drawn_before
+            return drawn[0] if (pile.now(), drawn) == (before, right) else 255
+        found = [self.within(size << 18, lambda: pile.draw(1, 0, 1), look) for size in range(20)]
+        enough = found.index(0)
+        self.assertGreater(enough, 0)
+        self.assertEqual(found, [90] * enough + [0] * (len(found) - enough))
 
     def test_size(self):
         """The size is what the C library has taken for the arrays of a pile, but for the ends of their pages."""

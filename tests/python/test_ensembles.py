@@ -20,6 +20,7 @@ from unittest import mock
 
 import chipfire
 from chipfire import utils as values
+from chipfire.backend import kept
 from chipfire.backend.portions import Portions
 from chipfire.ensembles import wilson
 from test_counts import slow_report
@@ -65,6 +66,17 @@ class Recurrent(unittest.TestCase):
                 found = chipfire.random_recurrent(graph, seed, 12)
                 with mock.patch("chipfire.backend.library.loaded", return_value=None):
                     self.assertEqual(chipfire.random_recurrent(graph, seed, 12), found)
+
+    @unittest.skipUnless(IS_HERE, "the library is not here")
+    def test_the_graph_is_made_once(self):
+        """Plays and drops between draws change nothing, and the graph is compared and made once."""
+        grid = chipfire.grid(9, 7)
+        with (mock.patch.object(kept, "KeptPile", side_effect=kept.KeptPile) as made,
+              mock.patch.object(wilson, "_compare_ways") as compared):
+            first = chipfire.random_recurrent(grid, 5, 3)
+            chipfire.drops(grid, first[0], [0, 3, 9])
+            self.assertEqual(chipfire.random_recurrent(grid, 5, 3), first)
+        self.assertEqual((made.call_count, compared.call_count), (1, 1))
 
     def test_progress_and_parts(self):
         grid, reports = chipfire.grid(5, 4), []

@@ -251,6 +251,13 @@ class KeptPile:
         words = (*drops, until.loses, *others, self._words[3])
         return int(self._found.chipfire_pile_measure(self._at, *words)), self._told[3]
 
+    def draw(self, seed: int, first: int, chips: array[int]) -> tuple[int, int]:
+        """Fills the chips with random recurrent configurations of the graph, from this number on; and the place of a fault."""
+        rows = len(chips) // self.vertices
+        words = (*library.slice_of("chips", chips), self._words[3])
+        call = self._found.chipfire_pile_random_recurrent
+        return int(call(self._at, seed, first, rows, *words)), self._told[3]
+
     def chips(self) -> array[int]:
         """The chips of each vertex."""
         return self._copied(self._found.chipfire_pile_chips)
@@ -316,3 +323,23 @@ def give_back(graph: Graph, pile: KeptPile) -> None:
     pile.between = nothing
     if not kept and pile.is_own and pile.size <= _MOST_BYTES:
         kept.append(pile)
+
+
+def random_recurrents(graph: Graph, seed: int, first: int, count: int) -> array[int] | None:
+    """So many random recurrent configurations of a seed, from the one with number `first` on, one after another; or None if
+    there is no library."""
+    pile = take(graph, _no_chips(graph.vertices), 0)
+    if pile is None:
+        return None
+    chips = _no_chips(count * graph.vertices)
+    try:
+        number, place = pile.draw(seed, first, chips)
+    finally:
+        give_back(graph, pile)
+    if number:
+        raise refused(number, place, graph)
+    return chips
+
+
+def _no_chips(vertices: int) -> array[int]:
+    return array("Q", bytes(8 * vertices))

@@ -97,7 +97,6 @@ _ROW_CALLS = {
     "chipfire_superstable": (ctypes.c_size_t, *_SLICE),
     "chipfire_inverse": (ctypes.c_size_t, *_SLICE),
     "chipfire_identity": _SLICE,
-    "chipfire_random_recurrent": (_NUMBER, _NUMBER, ctypes.c_size_t, *_SLICE),
 }
 
 #: No numbers, one number, and a slice of length 0, which points to something.
@@ -239,6 +238,10 @@ def _declare_piles(found: ctypes.CDLL) -> None:
         (found.chipfire_pile_play, (_NUMBER, number_at)),
         (found.chipfire_pile_drop, (_NUMBER, _NUMBER, number_at, number_at, number_at)),
         (found.chipfire_pile_measure, (*2 * _SLICE, _NUMBER, *8 * _SLICE, number_at)),
+        (
+            found.chipfire_pile_random_recurrent,
+            (_NUMBER, _NUMBER, ctypes.c_size_t, *_SLICE, number_at),
+        ),
         (found.chipfire_pile_chips, _SLICE),
         (found.chipfire_pile_fired, _SLICE),
         (found.chipfire_pile_size, ()),
@@ -547,14 +550,3 @@ def identity(graph: Graph, program: FileName | None) -> array[int] | None:
     found = _ZERO * graph.vertices
     _call(call, graph, [], found)
     return found
-
-
-def random_recurrents(graph: Graph, seed: int, first: int, count: int) -> array[int] | None:
-    """So many random recurrent configurations of a seed, from the one with number `first` on, one after another; or None if
-    there is no library."""
-    found = loaded()
-    if found is None:
-        return None
-    chips = _ZERO * (count * graph.vertices)
-    _call(found.chipfire_random_recurrent, graph, [seed, first, count], chips)
-    return chips

@@ -10,7 +10,7 @@ from collections import Counter
 from collections.abc import Sequence
 from typing import Any, overload
 
-from chipfire.backend import library
+from chipfire.backend import kept
 from chipfire.backend.commands import AnyGraph, known_graph
 from chipfire.backend.portions import Portions
 from chipfire.configurations.configuration import Configuration
@@ -113,7 +113,7 @@ def recurrent_rows(
     rows = array("Q")
     for some in Portions(n):
         number, count = first + some.start, some.stop - some.start
-        found = library.random_recurrents(plain, base, number, count)
+        found = kept.random_recurrents(plain, base, number, count)
         rows.extend(_drawn(plain, base, number, count) if found is None else found)
         if progress is not None:
             progress.show(some.stop, some.stop == n)
@@ -131,6 +131,13 @@ def _drawn(graph: Graph, base: int, first: int, count: int) -> array[int]:
 def require_undirected(graph: Graph, remedy: str = "") -> None:
     """Refuses a graph with an edge that has none back, but for those to the sink, by the names of its ends, and says what
     helps."""
+    if "no edge is one-way" not in graph.answers:
+        _compare_ways(graph, remedy)
+        graph.answers["no edge is one-way"] = True
+
+
+def _compare_ways(graph: Graph, remedy: str) -> None:
+    """Compares each edge with the one back."""
     if _is_surely_undirected(graph):
         return
     graph.require()

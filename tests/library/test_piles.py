@@ -500,12 +500,15 @@ class Memory(Piles):
         pile = self.pile(graph)
         self.assertEqual(pile.new([5] * graph.vertices), (0, 0))
         self.assertEqual(pile.play(1000)[0], 0)
-        before, drawn_before = pile.now(), pile.draw(1, 0, 1)
+        before, (_, drawn, _) = pile.now(), pile.draw(1, 0, 1)
+        chips, place = Slice([GUARD] * graph.vertices), Slice([7])
+        words = (pile.at, 1, 0, 1, *chips.words(), place.words()[0])
 
-        def look(drawn):
-            right = (90, None, 0) if drawn[0] else drawn_before
-            return drawn[0] if (pile.now(), drawn) == (before, right) else 255
-        found = [self.within(size << 18, lambda: pile.draw(1, 0, 1), look) for size in range(20)]
+        def look(status):
+            written = chips.numbers if status else drawn
+            is_right = (pile.now(), chips.now(), place.now()) == (before, written, [0])
+            return status if is_right else 255
+        found = [self.within(size << 18, lambda: LIBRARY.chipfire_pile_random_recurrent(*words), look) for size in range(20)]
         enough = found.index(0)
         self.assertGreater(enough, 0)
         self.assertEqual(found, [90] * enough + [0] * (len(found) - enough))

@@ -420,7 +420,7 @@ class Checkpoints(unittest.TestCase):
 
     @unittest.skipUnless(has("numpy"), "NumPy is not here")
     def test_what_fired_is_in_order_if_it_is_not_in_the_file(self):
-        """Files of 0.11.0 have the vertices of a drop in the order in which they fired first."""
+        """Files of an older version have the vertices of a drop in the order in which they fired first."""
         whole = numbers(plays(checkpoint=self.file, fired=True))
         with contextlib.closing(sqlite3.connect(self.file)) as rows, rows:
             there = rows.execute("SELECT first, drops, vertices, counts FROM parts").fetchall()

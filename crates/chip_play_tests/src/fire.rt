@@ -299,26 +299,6 @@ fn few_chips_more_on_a_full_grid(rt: HostRuntime) {
     }
 }
 
-/// 301 chips in the middle of a path come to 301 of its 12,000 vertices, each of which keeps one. A work list plays them
-/// to the end, and no counts are searched.
-#[test]
-fn a_heap_on_a_long_path(rt: HostRuntime) {
-    let game = heap(&rt, 12_000, 301, 1 << 40);
-    let mut told = Told::nothing();
-    let outcome = plain_watched(rt.alloc(), &game, &mut told).expect(&rt, "memory");
-    assert!(rt; told.searches == 0, "{} searches", told.searches);
-    assert!(rt; outcome.over.is_empty());
-    for vertex in 0..12_000u64 {
-        let away = vertex
-            .saturating_sub(6_000)
-            .max(6_000u64.saturating_sub(vertex));
-        let twice = 150u64
-            .saturating_sub(away)
-            .saturating_mul(151u64.saturating_sub(away));
-        assert!(rt; outcome.fired.get(vertex as usize).copied() == Some(twice / 2));
-    }
-}
-
 /// The first stage of a play.
 fn first_stage(rt: &(impl AllocGlobal + Abort), game: &Game) -> Resumed
     ensures { IsResumed result }

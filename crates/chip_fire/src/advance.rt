@@ -14,23 +14,25 @@ use chip_guess::{AHEAD, Hierarchy, Search};
 use std::alloc::Global;
 
 impl Play<'_> {
-    /// Begins to search counts after `alone` visits of the play alone, which by these needs about `needed` more. If there
-    /// is no memory, no counts are searched.
+    /// Begins to search counts after `alone` visits of the play alone, which by these needs about `needed` more and
+    /// has `waits` chips that wait to move. If there is no memory, no counts are searched.
     #[tactic(auto, using(crate::proofs::VisitsLemmas::visits_at_end))]
     pub(crate) fn begin_search<W: Watch>(
         &mut self,
         alloc: Global,
         alone: u64,
         needed: u64,
+        waits: u64,
         visits: &mut u64,
         watch: &mut W,
     ) -> Course
         requires { FewVisits self.old.game [] self.old.fired 0 alone true }
         ensures same { self.new ≡ self.old }
         ensures course { IsCourse self.old.game self.new.fired result }
+        ensures at_most { visits.new ≤ visits.old + 160 * places self.old.game }
     {
         let mut searched = 0u64;
-        let made = self.make_search(alloc, alone, needed, &mut searched);
+        let made = self.make_search(alloc, alone, needed, waits, &mut searched);
         *visits = visits.saturating_add(searched);
         if let Some(searching) = made {
             return Course::Searches(searching);
@@ -45,6 +47,7 @@ impl Play<'_> {
         alloc: Global,
         alone: u64,
         needed: u64,
+        waits: u64,
         searched: &mut u64,
     ) -> Option<Box<Searching>>
         requires unsearched { searched.old ≡ 0 }
@@ -58,15 +61,19 @@ impl Play<'_> {
         let hierarchy = Hierarchy::new(alloc, graph, searched, most)?;
         let before = Vec::from_slice(alloc, &self.fired).ok()?;
         let least = needed.min(most).max(*searched);
-        let ahead = self.ahead(hierarchy.is_symmetric(), alone, least);
+        let is_undirected = hierarchy.is_symmetric();
+        let ahead = self.ahead(is_undirected, alone, least);
         let search = Search::new(alloc, hierarchy, self.game, &before).ok()?;
         let searching = Searching {
             search: Box::new(alloc, search).ok()?,
             before,
+            is_undirected,
             alone,
             ahead,
             beside: 0,
             turn_end: 0,
+            judged: 0,
+            waited: waits,
             searched: *searched,
         };
         Box::new(alloc, searching).ok()
@@ -75,12 +82,12 @@ impl Play<'_> {
     /// How many visits a search makes before the play has its turns: `least`, or more on an undirected graph whose chips
     /// cannot all stay. There it makes twice as many as the play needs to dissipate these, by what it has dissipated in its
     /// `alone` visits so far, if what it dissipates grows as the square root of its visits.
-    fn ahead(&self, is_symmetric: bool, alone: u64, least: u64) -> u64
+    fn ahead(&self, is_undirected: bool, alone: u64, least: u64) -> u64
         requires few { least ≤ 160 * places self.now.game }
         ensures enough { least ≤ result }
         ensures most { result ≤ 16384 * places self.now.game }
     {
-        if !is_symmetric {
+        if !is_undirected {
             return least;
         }
         let most = visits_at_all(self.game.graph()).saturating_mul(MOST_AHEAD);
@@ -109,12 +116,13 @@ impl Play<'_> {
         self.chips[sink].saturating_sub(self.game.start()[sink])
     }
 
-    /// Goes on by a part of the play's turn, or by one of the search's. The play goes on at the counts that were found, if
-    /// they are certified.
+    /// Goes on by a part of the play's turn, or by one of the search's, of about `most` visits. The play goes on at the
+    /// counts that were found, if they are certified.
     pub(crate) fn search_on<W: Watch>(
         &mut self,
         alloc: Global,
         searching: Box<Searching>,
+        most: u64,
         visits: &mut u64,
         watch: &mut W,
     ) -> Course
@@ -122,13 +130,14 @@ impl Play<'_> {
         ensures same { self.new.game ≡ self.old.game }
         ensures rises { OnlyRise self.old.fired self.new.fired }
         ensures course { IsCourse self.old.game self.new.fired result }
+        ensures at_most { visits.new ≤ visits.old + most + 160 * places self.old.game }
     {
         let mut boxed = searching;
         let searching: &mut Searching = &mut boxed;
         let goes_on = if searching.beside < searching.turn_end {
-            self.turn_beside(alloc, searching, visits, watch)
+            self.turn_beside(alloc, searching, most, visits, watch)
         } else {
-            self.search_turn(alloc, searching, visits, watch)
+            self.search_turn(alloc, searching, most, visits, watch)
         };
         if goes_on {
             Course::Searches(boxed)
@@ -143,6 +152,7 @@ impl Play<'_> {
         &mut self,
         alloc: Global,
         searching: &mut Searching,
+        most: u64,
         visits: &mut u64,
         watch: &mut W,
     ) -> bool
@@ -151,9 +161,10 @@ impl Play<'_> {
         ensures same { self.new.game ≡ self.old.game }
         ensures rises { OnlyRise self.old.fired self.new.fired }
         ensures searching { IsTrue result → IsSearching self.old.game self.new.fired searching.new }
+        ensures at_most { visits.new ≤ visits.old + most + 160 * places self.old.game }
     {
         let before = searching.beside;
-        let part = (searching.turn_end - before).min(STRETCH);
+        let part = (searching.turn_end - before).min(STRETCH).min(most);
         let goes_on = self.stretch(alloc, part, &mut searching.beside, watch);
         *visits = visits.saturating_add(searching.beside - before);
         if !goes_on {
@@ -168,6 +179,7 @@ impl Play<'_> {
         &mut self,
         alloc: Global,
         searching: &mut Searching,
+        most: u64,
         visits: &mut u64,
         watch: &mut W,
     ) -> bool
@@ -175,11 +187,13 @@ impl Play<'_> {
         ensures same { self.new.game ≡ self.old.game }
         ensures rises { OnlyRise self.old.fired self.new.fired }
         ensures searching { IsTrue result → IsSearching self.old.game self.new.fired searching.new }
+        ensures at_most { visits.new ≤ visits.old + most + 160 * places self.old.game }
     {
         let before = searching.searched;
         let due = share_of_search(searching);
-        let next = searching.search.visits_of_next().max(STRETCH);
-        let part = before.saturating_add(next).min(due);
+        let longest = visits_at_all(self.game.graph()).saturating_mul(AHEAD);
+        let next = searching.search.visits_of_next().min(longest);
+        let part = before.saturating_add(next.max(STRETCH.min(most))).min(due);
         let is_over = searching.search.go_on(
             alloc,
             self.game,
@@ -205,7 +219,8 @@ impl Play<'_> {
         }
     }
 
-    /// Gives the play its turn, if the search has made as many visits as the play; whether both go on.
+    /// Gives the play its turn, if the search has made as many visits as the play and may not make more first; whether
+    /// both go on.
     #[tactic(auto, using(crate::proofs::VisitsLemmas::visits_at_end))]
     fn grant_turn<W: Watch>(&mut self, searching: &mut Searching, watch: &mut W) -> bool
         requires searching { IsSearching self.old.game self.old.fired searching.old }
@@ -216,9 +231,38 @@ impl Play<'_> {
             self.end_search(searching, watch);
             return false;
         }
+        if self.judge(searching) {
+            return true;
+        }
         let turn = turn_of(visits_at_all(self.game.graph()), searching);
         searching.turn_end = searching.beside.saturating_add(turn);
         true
+    }
+
+    /// Lets the search make more visits before the play's next turn if the play is still far from its end, on an
+    /// undirected graph: as many as the play needs if chips come to rest no faster than since it was judged last, but at
+    /// most twice as many as it has made. Whether it may make more.
+    fn judge(&self, searching: &mut Searching) -> bool
+        requires { IsSearching self.now.game self.now.fired searching.old }
+        ensures searching { IsSearching self.now.game self.now.fired searching.new }
+        ensures same { (searching.new.beside ≡ searching.old.beside)
+            × (searching.new.searched ≡ searching.old.searched) }
+    {
+        if !searching.is_undirected || searching.beside <= searching.judged {
+            return false;
+        }
+        let waits = self.waiting_chips();
+        let less = searching.waited.saturating_sub(waits).max(1);
+        let made = searching.beside - searching.judged;
+        let needed = made.saturating_mul(waits) / less;
+        let played = searching.alone.saturating_add(searching.beside);
+        let most = visits_at_all(self.game.graph()).saturating_mul(MOST_AHEAD);
+        let more = needed.min(played.saturating_mul(2)).min(most);
+        let may_more = more > searching.ahead;
+        searching.ahead = searching.ahead.max(more);
+        searching.judged = searching.beside;
+        searching.waited = waits;
+        may_more
     }
 
     /// Makes a round beside a search; what the play is at then, and whether the round fired a vertex. A search that has
@@ -227,21 +271,26 @@ impl Play<'_> {
     pub(crate) fn round_beside<W: Watch>(
         &mut self,
         searching: Box<Searching>,
+        visits: &mut u64,
         watch: &mut W,
     ) -> (Course, bool)
         requires { IsSearching self.old.game self.old.fired searching.value }
         ensures same { self.new.game ≡ self.old.game }
         ensures course { IsCourse self.old.game self.new.fired result.0 }
         ensures round { GoesRound self.old.game self.old.fired self.new.chips self.new.fired result.1 }
+        ensures at_most { visits.new ≤ visits.old + places self.old.game }
     {
         let mut boxed = searching;
         let searching: &mut Searching = &mut boxed;
         let turn = turn_of(visits_at_all(self.game.graph()), searching);
         if searching.beside > searching.searched.saturating_add(turn) {
             self.end_search(searching, watch);
-            return (Course::Rounds, self.rounds(0, &mut 0, watch));
+            return (Course::Rounds, self.rounds(0, visits, watch));
         }
-        if self.rounds(0, &mut searching.beside, watch) {
+        let before = searching.beside;
+        let goes_on = self.rounds(0, &mut searching.beside, watch);
+        *visits = visits.saturating_add(searching.beside - before);
+        if goes_on {
             return (Course::Searches(boxed), true);
         }
         self.end_search(searching, watch);

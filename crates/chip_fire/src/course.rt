@@ -1,7 +1,8 @@
 //! A play that goes on in portions, and what it is at between two of them.
 
-ghost use Rattle.std.specs.Prelude.{◌≡◌, ◌-◌, ◌^◌, false};
+ghost use Rattle.std.specs.Prelude.{◌≡◌, ◌+◌, ◌-◌, ◌*◌, ◌≤◌, ◌^◌, false};
 ghost use Rattle.chip_fire.specs.Rounds.{OnlyRise, GoesRound};
+ghost use Rattle.chip_fire.specs.Search.{places};
 ghost use Rattle.chip_fire.specs.Course.{IsCourse};
 
 use crate::play::Play;
@@ -46,7 +47,9 @@ pub struct Searching {
     pub(crate) search: Box<Search>,
     /// How often each vertex had fired when the search began.
     pub(crate) before: Vec<u64>,
-    /// How many visits the play had made then.
+    /// Whether the graph has each edge in both directions.
+    pub(crate) is_undirected: bool,
+    /// How many visits the play had made when the search began.
     pub(crate) alone: u64,
     /// How many the search makes before the play has turns, but for two for each of these.
     pub(crate) ahead: u64,
@@ -54,6 +57,10 @@ pub struct Searching {
     pub(crate) beside: u64,
     /// At how many of these its turn ends.
     pub(crate) turn_end: u64,
+    /// At how many of them it was judged last.
+    pub(crate) judged: u64,
+    /// How many chips waited to move then.
+    pub(crate) waited: u64,
     /// How many visits the search has made.
     pub(crate) searched: u64,
 }
@@ -61,31 +68,41 @@ pub struct Searching {
 impl Play<'_> {
     /// Goes on by this number of visits to a vertex or an edge; what it is at then, and whether it goes on. One round is
     /// made at least, so it has ended, or some vertex has fired. 2^64 - 1 visits take it to the end within the limit.
+    /// `made` counts the visits: what begins a search, and a step of it, may take more than are left.
     #[tactic(auto, using(crate::proofs::VisitsLemmas::goes_after))]
     pub fn go_on<W: Watch>(
         &mut self,
         alloc: Global,
         course: Course,
         visits: u64,
+        made: &mut u64,
         watch: &mut W,
     ) -> (Course, bool)
-        requires { IsCourse self.old.game self.old.fired course }
+        requires course { IsCourse self.old.game self.old.fired course }
+        requires none { made.old ≡ 0 }
         ensures same { self.new.game ≡ self.old.game }
         ensures course { IsCourse self.old.game self.new.fired result.0 }
         ensures round { GoesRound self.old.game self.old.fired self.new.chips self.new.fired result.1 }
+        ensures at_most { made.new ≤ visits + 161 * places self.old.game }
         ensures whole { visits ≡ 2 ^ 64 - 1 → result.1 ≡ false }
     {
-        let mut made = 0u64;
-        let course = self.steps(alloc, course, visits, &mut made, watch);
+        let course = self.steps(alloc, course, visits, made, watch);
         match course {
-            Course::Doubles(doubling) if visits != u64::MAX => self.round_of(doubling, watch),
-            Course::Searches(searching) if visits != u64::MAX => {
-                self.round_beside(searching, watch)
+            Course::Doubles(doubling) if visits != u64::MAX => {
+                self.round_of(doubling, made, watch)
             }
-            _ => (
-                Course::Rounds,
-                self.last_rounds(alloc, visits, &mut made, watch),
+            Course::Searches(searching) if visits != u64::MAX => {
+                self.round_beside(searching, made, watch)
+            }
+            Course::WorkList(left) => (
+                Course::WorkList(left),
+                self.last_rounds(alloc, visits, made, watch),
             ),
+            Course::FewChips(left) => (
+                Course::FewChips(left),
+                self.last_rounds(alloc, visits, made, watch),
+            ),
+            _ => (Course::Rounds, self.last_rounds(alloc, visits, made, watch)),
         }
     }
 
@@ -99,22 +116,25 @@ impl Play<'_> {
         made: &mut u64,
         watch: &mut W,
     ) -> Course
-        requires { IsCourse self.old.game self.old.fired course }
+        requires course { IsCourse self.old.game self.old.fired course }
+        requires none { made.old ≡ 0 }
         ensures same { self.new.game ≡ self.old.game }
         ensures rises { OnlyRise self.old.fired self.new.fired }
         ensures course { IsCourse self.old.game self.new.fired result }
+        ensures at_most { made.new ≤ visits + 160 * places self.old.game }
     {
         let mut course = course;
         'steps: for _ in 0..u64::MAX {
             if *made >= visits {
                 return course;
             }
+            let most = visits - *made;
             course = match course {
                 Course::Begins => self.begin(),
-                Course::WorkList(left) => self.work_off_part(alloc, left, made),
-                Course::FewChips(left) => self.play_part(alloc, left, made, watch),
-                Course::Doubles(doubling) => self.double(alloc, doubling, made, watch),
-                Course::Searches(searching) => self.search_on(alloc, searching, made, watch),
+                Course::WorkList(left) => self.work_off_part(alloc, left, most, made),
+                Course::FewChips(left) => self.play_part(alloc, left, most, made, watch),
+                Course::Doubles(doubling) => self.double(alloc, doubling, most, made, watch),
+                Course::Searches(searching) => self.search_on(alloc, searching, most, made, watch),
                 Course::Rounds => return Course::Rounds,
             };
         }
@@ -130,8 +150,10 @@ impl Play<'_> {
         made: &mut u64,
         watch: &mut W,
     ) -> bool
+        requires { made.old ≤ visits + 160 * places self.old.game }
         ensures same { self.new.game ≡ self.old.game }
         ensures round { GoesRound self.old.game self.old.fired self.new.chips self.new.fired result }
+        ensures at_most { made.new ≤ visits + 161 * places self.old.game }
         ensures whole { visits ≡ 2 ^ 64 - 1 → result ≡ false }
     {
         let part = visits.saturating_sub(*made).min(STRETCH);
@@ -139,7 +161,8 @@ impl Play<'_> {
             return false;
         }
         'stretches: while *made < visits || visits == u64::MAX {
-            if !self.stretch(alloc, STRETCH, made, watch) {
+            let part = (visits - *made).min(STRETCH);
+            if !self.stretch(alloc, part, made, watch) {
                 return false;
             }
         }

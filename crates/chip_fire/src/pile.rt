@@ -156,7 +156,7 @@ impl Pile {
             chips,
             fired,
         };
-        let (course, goes_on) = play.go_on(alloc, course, visits, &mut Unwatched);
+        let (course, goes_on) = play.go_on(alloc, course, visits, &mut 0, &mut Unwatched);
         let Play { chips, fired, .. } = play;
         room.before.copy_from_slice(&fired);
         let pile = Pile {

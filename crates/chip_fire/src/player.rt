@@ -43,7 +43,7 @@ pub fn plain_given<W: Watch>(
     ensures { IfOk result (PlaysOut game.now) }
 {
     let mut play = Play::at_given(alloc, game, given, watch)?;
-    let _ = play.go_on(alloc, Course::Begins, u64::MAX, watch);
+    let _ = play.go_on(alloc, Course::Begins, u64::MAX, &mut 0, watch);
     play.outcome(alloc)
 }
 
@@ -54,6 +54,6 @@ impl Play<'_> {
         ensures ended { IsAtRest self.new.game self.new.chips self.new.fired }
     {
         let course = self.soon();
-        let _ = self.go_on(alloc, course, u64::MAX, watch);
+        let _ = self.go_on(alloc, course, u64::MAX, &mut 0, watch);
     }
 }

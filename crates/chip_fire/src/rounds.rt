@@ -38,7 +38,6 @@ impl Play<'_> {
     /// Makes rounds until one fires no vertex or `most` visits are made, one round at least, and reports to `watch` how far
     /// the play has come; whether each fired a vertex. The visits are added to `visits`, up to 2^64 - 1: one at each
     /// vertex in each round, and for each vertex that fires as many as vertices have edges out in the mean.
-    #[inline(always)]
     pub(crate) fn rounds<W: Watch>(&mut self, most: u64, visits: &mut u64, watch: &mut W) -> bool
         ensures same { self.new.game ≡ self.old.game }
         ensures round { GoesRound self.old.game self.old.fired self.new.chips self.new.fired result }
@@ -98,6 +97,7 @@ pub fn make_rounds(
 ///
 /// Neighbours on paths and grids differ by an odd number, so a sweep over every second vertex seldom
 /// reads what it has just written: in ascending order a path takes nearly twice as long.
+#[inline(always)]
 fn round(game: &Game, chips: &mut [u64], fired: &mut [u64]) -> u64
     requires { IsBegun game.now chips.old fired.old }
     ensures { IsRound game.now fired.old chips.new fired.new result }
@@ -110,6 +110,7 @@ fn round(game: &Game, chips: &mut [u64], fired: &mut [u64]) -> u64
 }
 
 /// Lets every second vertex from the first one on fire as often as it may; how many did.
+#[inline(always)]
 fn sweep(graph: &Graph, limit: u64, first: u64, chips: &mut [u64], fired: &mut [u64]) -> u64
     requires in_range { IsInRange graph.now limit chips.old fired.old }
     requires first_or_second { first ≤ 1 }

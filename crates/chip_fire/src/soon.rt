@@ -1,8 +1,8 @@
 //! The way to an end that may be near.
 
-ghost use Rattle.std.specs.Prelude.{◌≡◌, ◌+◌, [], true, length};
+ghost use Rattle.std.specs.Prelude.{◌≡◌, ◌+◌, ◌*◌, ◌≤◌, [], true, length};
 ghost use Rattle.chip_fire.specs.Rounds.{OnlyRise, GoesRound};
-ghost use Rattle.chip_fire.specs.Search.{FewVisits};
+ghost use Rattle.chip_fire.specs.Search.{FewVisits, places};
 ghost use Rattle.chip_fire.specs.Course.{IsCourse};
 
 use crate::course::{Course, Doubling};
@@ -66,14 +66,24 @@ impl Play<'_> {
         chips <= graph.vertices() / VERTICES_PER_HELD
     }
 
-    /// Goes on by a work list for a part of the `left` visits, and then by rounds, if many chips wait by then.
-    pub(crate) fn work_off_part(&mut self, alloc: Global, left: u64, visits: &mut u64) -> Course
+    /// Goes on by a work list for a part of the `left` visits, about `most` of them, and then by rounds, if many chips wait
+    /// by then.
+    pub(crate) fn work_off_part(
+        &mut self,
+        alloc: Global,
+        left: u64,
+        most: u64,
+        visits: &mut u64,
+    ) -> Course
         ensures same { self.new.game ≡ self.old.game }
         ensures rises { OnlyRise self.old.fired self.new.fired }
         ensures course { IsCourse self.old.game self.new.fired result }
+        ensures at_most { visits.new ≤ visits.old + most + 160 * places self.old.game }
     {
         let all = visits_at_all(self.game.graph());
-        let part = left.min(all.saturating_mul(LIST_STRETCH).max(STRETCH));
+        let stretch = all.saturating_mul(LIST_STRETCH).max(STRETCH);
+        // (a turn may take as many visits as there are vertices and edges)
+        let part = left.min(stretch).min(most.max(all));
         let goes_on = self.work_off_few(alloc, part, visits).unwrap_or(false);
         if goes_on && part < left {
             return Course::WorkList(left - part);
@@ -88,20 +98,23 @@ impl Play<'_> {
         self.soon()
     }
 
-    /// Goes on by rounds for a part of the `left` visits.
+    /// Goes on by rounds for a part of the `left` visits, about `most` of them.
     pub(crate) fn play_part<W: Watch>(
         &mut self,
         alloc: Global,
         left: u64,
+        most: u64,
         visits: &mut u64,
         watch: &mut W,
     ) -> Course
         ensures same { self.new.game ≡ self.old.game }
         ensures rises { OnlyRise self.old.fired self.new.fired }
         ensures course { IsCourse self.old.game self.new.fired result }
+        ensures at_most { visits.new ≤ visits.old + most + 160 * places self.old.game }
     {
         let before = *visits;
-        if !self.stretch(alloc, left.min(STRETCH), visits, watch) {
+        let part = left.min(STRETCH).min(most);
+        if !self.stretch(alloc, part, visits, watch) {
             return Course::Rounds;
         }
         let left = left.saturating_sub(*visits - before);
@@ -112,12 +125,13 @@ impl Play<'_> {
     }
 
     /// Goes on by rounds for as long as they take it soon to an end: each time with twice the work, while that halves the
-    /// chips that wait to move or the limit leaves little to do. Then counts are searched.
+    /// chips that wait to move or the limit leaves little to do. Then counts are searched. It makes about `most` visits.
     #[tactic(auto, using(crate::proofs::VisitsLemmas::visits_more))]
     pub(crate) fn double<W: Watch>(
         &mut self,
         alloc: Global,
         doubling: Doubling,
+        most: u64,
         visits: &mut u64,
         watch: &mut W,
     ) -> Course
@@ -125,6 +139,7 @@ impl Play<'_> {
         ensures same { self.new.game ≡ self.old.game }
         ensures rises { OnlyRise self.old.fired self.new.fired }
         ensures course { IsCourse self.old.game self.new.fired result }
+        ensures at_most { visits.new ≤ visits.old + most + 160 * places self.old.game }
     {
         let mut next = doubling;
         if next.visits >= next.end {
@@ -134,13 +149,14 @@ impl Play<'_> {
                 && !leaves_little(self.game.limit(), &self.fired, next.visits, few)
             {
                 let needed = needed_by(next, waits);
-                return self.begin_search(alloc, next.visits, needed, visits, watch);
+                return self.begin_search(alloc, next.visits, needed, waits, visits, watch);
             }
             next.waited = waits;
             next.end = next.visits.saturating_add(next.work);
             next.work = next.work.saturating_mul(2);
         }
-        let part = next.end.saturating_sub(next.visits).min(STRETCH);
+        let due = next.end.saturating_sub(next.visits);
+        let part = due.min(STRETCH).min(most);
         let before = next.visits;
         let goes_on = self.stretch(alloc, part, &mut next.visits, watch);
         *visits = visits.saturating_add(next.visits - before);
@@ -153,14 +169,23 @@ impl Play<'_> {
 
     /// Makes a round; what the play is at then, and whether the round fired a vertex.
     #[tactic(auto, using(crate::proofs::VisitsLemmas::visits_more))]
-    pub(crate) fn round_of<W: Watch>(&mut self, doubling: Doubling, watch: &mut W) -> (Course, bool)
+    pub(crate) fn round_of<W: Watch>(
+        &mut self,
+        doubling: Doubling,
+        visits: &mut u64,
+        watch: &mut W,
+    ) -> (Course, bool)
         requires { FewVisits self.old.game [] self.old.fired 0 doubling.visits true }
         ensures same { self.new.game ≡ self.old.game }
         ensures course { IsCourse self.old.game self.new.fired result.0 }
         ensures round { GoesRound self.old.game self.old.fired self.new.chips self.new.fired result.1 }
+        ensures at_most { visits.new ≤ visits.old + places self.old.game }
     {
         let mut next = doubling;
-        if self.rounds(0, &mut next.visits, watch) {
+        let before = next.visits;
+        let goes_on = self.rounds(0, &mut next.visits, watch);
+        *visits = visits.saturating_add(next.visits - before);
+        if goes_on {
             (Course::Doubles(next), true)
         } else {
             (Course::Rounds, false)
@@ -168,7 +193,7 @@ impl Play<'_> {
     }
 
     /// The chips that legal vertices have above what they may keep, up to 2^64 - 1.
-    fn waiting_chips(&self) -> u64 {
+    pub(crate) fn waiting_chips(&self) -> u64 {
         let (graph, limit) = (self.game.graph(), self.game.limit());
         let mut waits = 0u64;
         for vertex in 0..graph.vertices() {

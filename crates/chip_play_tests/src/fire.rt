@@ -334,6 +334,9 @@ pub(crate) struct Told {
     pub(crate) searches: u64,
     /// How many visits at each vertex and edge the search made and the play beside it.
     pub(crate) visits: u64,
+    /// How many visits the play made beside the search, and the search.
+    pub(crate) beside: u64,
+    pub(crate) searched: u64,
     /// The least and the greatest number of chips that were still to move while a search went on.
     pub(crate) least_to_move: u64,
     pub(crate) most_to_move: u64,
@@ -348,6 +351,8 @@ impl Told {
             firings: 0,
             searches: 0,
             visits: 0,
+            beside: 0,
+            searched: 0,
             least_to_move: u64::MAX,
             most_to_move: 0,
         }
@@ -377,6 +382,8 @@ impl Watch for Told {
         self.searches = self.searches.saturating_add(1);
         let played = alone.saturating_add(beside);
         self.visits = played.saturating_add(searched) / all.max(1);
+        self.beside = beside;
+        self.searched = searched;
     }
 }
 

@@ -62,13 +62,10 @@ fn heaps_on_a_long_path(rt: HostRuntime) {
     }
 }
 
-/// How many columns a strip has.
-const COLUMNS: u64 = 100;
-
 /// Twice as many chips as vertices, in the middle of a strip of columns that has edges both ways and loses chips at its
 /// first and last column.
-fn strip(rt: &(impl AllocGlobal + Abort), width: u64, is_grid: bool) -> Box<Game> {
-    let sink = COLUMNS.saturating_mul(width);
+fn strip(rt: &(impl AllocGlobal + Abort), columns: u64, width: u64, is_grid: bool) -> Box<Game> {
+    let sink = columns.saturating_mul(width);
     let mut rows = Vec::new(rt.alloc());
     for vertex in 0..sink {
         let row = vertex % width.max(1);
@@ -92,7 +89,7 @@ fn strip(rt: &(impl AllocGlobal + Abort), width: u64, is_grid: bool) -> Box<Game
         }
     }
     let mut start = vec![in rt.alloc(); 0; sink.saturating_add(1) as usize].expect(rt, "memory");
-    let middle = COLUMNS / 2 * width;
+    let middle = (columns / 2).saturating_mul(width);
     if let Some(chips) = start.get_mut(middle as usize) {
         *chips = sink.saturating_mul(2);
     }
@@ -106,10 +103,25 @@ fn strip(rt: &(impl AllocGlobal + Abort), width: u64, is_grid: bool) -> Box<Game
 #[test]
 fn heaps_on_strips(rt: HostRuntime) {
     for (width, is_grid) in [(2, true), (3, true), (2, false), (4, false)] {
-        let game = strip(&rt, width, is_grid);
+        let game = strip(&rt, 100, width, is_grid);
         let (told, outcome) = Box::into_inner(play(&rt, &game));
         assert!(rt; told.visits < 1_000, "{} visits", told.visits);
         assert!(rt; told.rounds < 1_000, "{} rounds", told.rounds);
         assert!(rt; outcome.over.is_empty());
     }
+}
+
+/// The search makes most visits if the play is far from its end: it takes some 60,000 visits of each vertex and edge
+/// alone.
+#[test]
+fn long_strips_are_searched(rt: HostRuntime) {
+    let game = strip(&rt, 1_000, 2, false);
+    let (told, outcome) = Box::into_inner(play(&rt, &game));
+    assert!(rt; outcome.over.is_empty());
+    assert!(rt;
+        told.beside.saturating_mul(2) < told.searched,
+        "{} visits of the play beside {} of the search",
+        told.beside,
+        told.searched
+    );
 }

@@ -1,8 +1,7 @@
-use Rattle.std.proofs.Common.{◌≡◌, ℕ, ◌-◌, ◌<◌, eqb, not, length, min, refl, arith, drop, take, slice_index}
+use Rattle.std.proofs.Common.{◌≡◌, ℕ, ◌<◌, eqb, not, length, min, refl, arith, take}
 use Rattle.std.proofs.lemmas.Bool.Decides.{nat_tests}
 use Rattle.std.proofs.lemmas.List.{drop_all, length-take-le}
 use Rattle.std.proofs.lemmas.List.Elements.{All-head}
-use Rattle.chip_fire.specs.Measured.{IsRow}
 use Rattle.chip_fire.proofs.DropLemmas.{dropped_out, support_step, tallied_all, none_between, few_between}
 use Rattle.chip_fire.proofs.MeasureLemmas.{tallied_none, tallied_row, tallied_step, next_of, rest_stays, byte_fits, next_supported}
 use Rattle.chip_fire.proofs.avalanche.tally.Goals as goal

@@ -1,4 +1,3 @@
-use Rattle.std.proofs.lemmas.Option.{MatchOption-at_some}
 use Rattle.chip_fire.proofs.DurationLemmas.{has_lasted}
 use Rattle.chip_fire.proofs.pile.Pile.drop_measured.Goals as goal
 

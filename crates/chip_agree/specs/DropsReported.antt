@@ -1,10 +1,12 @@
 -- The library's results for drops, and the rows that `avalanches` writes of them.
-use Rattle.std.specs.Prelude.{◌≡◌, ℕ, List, [], length, map, take, Option, Some, Ok, Err}
+use Rattle.std.specs.Prelude.{◌≡◌, ℕ, List, [], length, take, Option, Some, Ok, Err}
+use Rattle.std.specs.List.{zip}
 use Rattle.chip_graph.specs.Limits.{SizeLimits}
 use Rattle.chip_graph.specs.ChipGame.{ChipGame}
 use Rattle.chip_file.specs.DropsText.{drops_of_text}
 use Rattle.chip_sequence.specs.declared.outcome.Outcome.{Outcome}
 use Rattle.chip_command.specs.Inputs.{MeansGame}
+use Rattle.chip_command.specs.Reports.{plain_status}
 use Rattle.chip_command.specs.declared.ended.Ended.{Ended}
 use Rattle.chip_engine.specs.DropRows.{rows_text}
 use Rattle.chip_engine.specs.AvalanchesCommand.{AvalanchesAnswers, ReportAnswer}
@@ -13,64 +15,50 @@ use Rattle.chip_library.specs.declared.fault.CallFault.TheVariants.{Stopped}
 use Rattle.chip_library.specs.Drops.{Told, Columns, Avalanches, AreOn, AreTold, game_of}
 use Rattle.chip_library.specs.KeptGames.{KeptGame, IsKept, BeginsGame, Rows, DropsEach, with_rows}
 
--- three texts mean this game and these drops, and `avalanches` wrote these rows of them, a report if it was requested,
--- and ended with this status
-pub record AreReported (g : ChipGame) (at amounts rows : List ℕ) (asked report : Option (Option (List ℕ)))
-    (ended : Ended) : Type 0 where
-  pub limits : SizeLimits
-  pub graph_text : List ℕ
-  pub chips_text : List ℕ
-  pub drops_text : List ℕ
-  pub drops : List (ℕ × ℕ)
-  pub means : MeansGame limits graph_text chips_text g.limit g
-  pub named : drops_of_text g.graph.vertices drops_text ≡ Some drops
-  pub vertices : map (λ (d : ℕ × ℕ). d.0) drops ≡ at
-  pub chips : map (λ (d : ℕ × ℕ). d.1) drops ≡ amounts
-  pub wrote : AvalanchesAnswers limits (Some graph_text) (Some chips_text) (Some drops_text) g.limit
-      (record { rows = Some []; report = asked }) (record { rows = Some rows; report = report }) (Ok ended)
+-- whenever texts mean this game and drops on these vertices, of these amounts, and `avalanches` wrote rows of them, and
+-- a report if it was requested: the rows are those of these avalanches, and the exit status and the report are those of
+-- an outcome of which this holds
+abbrev pub Agree : ChipGame → (at amounts : List ℕ) → List Told → (Outcome → Type 0) → Type 0
+Agree g at amounts told IsEnd = (limits : SizeLimits) (graph_text chips_text drops_text rows : List ℕ)
+    (asked report : Option (Option (List ℕ))) (ended : Ended) → MeansGame limits graph_text chips_text g.limit g
+    → drops_of_text g.graph.vertices drops_text ≡ Some (zip at amounts)
+    → AvalanchesAnswers limits (Some graph_text) (Some chips_text) (Some drops_text) g.limit
+    (record { rows = Some []; report = asked }) (record { rows = Some rows; report = report }) (Ok ended)
+    → (rows ≡ rows_text told) × (o : Outcome) × IsEnd o × ReportAnswer asked report o (Ok ended)
 
--- the rows are of the drops on these vertices, of these amounts, each with its avalanche
-abbrev pub RowsTell : (told : List Told) → (at amounts rows : List ℕ) → Type 0
-RowsTell told at amounts rows = AreOn told at amounts × (rows ≡ rows_text told)
+-- all drops were made: these are their avalanches, they left these chips, and no limit stopped a play
+abbrev pub AgreeOnAll : ChipGame → (at amounts chips : List ℕ) → List Told → Type 0
+AgreeOnAll g at amounts chips told =
+    AreOn told at amounts × Agree g at amounts told (λ o. (plain_status o ≡ 0) × (chips ≡ o.chips.items))
 
--- no limit stopped a play, and the report, if it was requested, is of an outcome that has these chips
-abbrev pub EndsWith : List ℕ → (asked report : Option (Option (List ℕ))) → Ended → Type 0
-EndsWith chips asked report ended = (ended.status ≡ 0)
-    × (o : Outcome) × (chips ≡ o.chips.items) × ReportAnswer asked report o (Ok ended)
+-- the limit stopped the play of drop i, or that of the game, and then i is 0: these are the avalanches of the drops
+-- before it
+abbrev pub AgreeBefore : ChipGame → (at amounts : List ℕ) → ℕ → List Told → Type 0
+AgreeBefore g at amounts i told = (length told ≡ i) × AreOn told (take i at) (take i amounts)
+    × Agree g at amounts told (λ o. plain_status o ≡ 2)
 
--- the avalanches of a call are the rows that `avalanches` writes, and its chips those of the report
+-- the avalanches of a call are the rows, and its chips those of the report
 abbrev pub AvalanchesAgree : Type 0
 AvalanchesAgree = (lists : EdgeLists) (limit : ℕ) (at amounts : List ℕ) (old new : Columns)
     → Avalanches lists limit at amounts old new (Ok tt)
-    → (rows : List ℕ) (asked report : Option (Option (List ℕ))) (ended : Ended)
-    → AreReported (game_of lists limit old) at amounts rows asked report ended
-    → (told : List Told) × AreTold told new.sizes new.extents new.losts × RowsTell told at amounts rows
-    × EndsWith new.chips asked report ended
+    → (told : List Told) × AreTold told new.sizes new.extents new.losts
+    × AgreeOnAll (game_of lists limit old) at amounts new.chips told
 
--- if the limit stops the play of drop i, or that of the game, and then i is 0, the rows that `avalanches` writes are
--- those of the drops before it
+-- if the limit stops a play, the rows are those of the drops before it
 abbrev pub StoppedDropsAgree : Type 0
 StoppedDropsAgree = (lists : EdgeLists) (limit : ℕ) (at amounts : List ℕ) (old new : Columns) (i : ℕ)
     → Avalanches lists limit at amounts old new (Err (Stopped i))
-    → (rows : List ℕ) (asked report : Option (Option (List ℕ))) (ended : Ended)
-    → AreReported (game_of lists limit old) at amounts rows asked report ended
-    → (told : List Told) × (length told ≡ i) × RowsTell told (take i at) (take i amounts) rows × (ended.status ≡ 2)
+    → (told : List Told) × AgreeBefore (game_of lists limit old) at amounts i told
 
--- the same holds of drops on a kept pile that was not yet played: if all are made, the columns have the contents of the
--- rows
+-- the same holds of drops on a kept pile that was not yet played
 abbrev pub KeptDropsAgree : Type 0
 KeptDropsAgree = (g : ChipGame) (k new : KeptGame) (at amounts : List ℕ) (before after : Rows)
     → BeginsGame g k → DropsEach k new at amounts before after (Ok tt)
-    → (rows : List ℕ) (asked report : Option (Option (List ℕ))) (ended : Ended)
-    → AreReported g at amounts rows asked report ended
-    → (told : List Told) × AreTold told after.sizes after.extents after.losts × RowsTell told at amounts rows
-    × EndsWith new.pile.chips.items asked report ended
+    → (told : List Told) × AreTold told after.sizes after.extents after.losts
+    × AgreeOnAll g at amounts new.pile.chips.items told
 
--- and if the limit stops the play of drop i, those of the drops before it are written
+-- and if the limit stops a play, the rows of the drops before it are written
 abbrev pub KeptStopsAgree : Type 0
 KeptStopsAgree = (g : ChipGame) (k new : KeptGame) (at amounts : List ℕ) (before after : Rows) (i : ℕ)
     → BeginsGame g k → IsKept new.pile new.state → DropsEach k new at amounts before after (Err (Stopped i))
-    → (rows : List ℕ) (asked report : Option (Option (List ℕ))) (ended : Ended)
-    → AreReported g at amounts rows asked report ended
-    → (told : List Told) × (length told ≡ i) × RowsTell told (take i at) (take i amounts) rows
-    × (after ≡ with_rows told before) × (ended.status ≡ 2)
+    → (told : List Told) × (after ≡ with_rows told before) × AgreeBefore g at amounts i told

@@ -1,4 +1,2 @@
 pub mod Reported
 pub mod DropsReported
-pub mod Refused
-pub mod Worked

@@ -1,44 +1,31 @@
 //! The laws: theorems, as the contracts of functions that do nothing.
 
-ghost use Rattle.chip_agree.specs.Worked.{WorkedStatuses};
-ghost use Rattle.chip_agree.specs.Reported.{RowsAgree, ClaimsAgree, DifferencesAgree, PilesAgree};
-ghost use Rattle.chip_agree.specs.Refused.{GamesAreRefused};
 ghost use Rattle.chip_agree.specs.DropsReported.{AvalanchesAgree, StoppedDropsAgree, KeptDropsAgree, KeptStopsAgree};
+ghost use Rattle.chip_agree.specs.Reported.{RowsAgree, ClaimsAgree, DifferencesAgree, PilesAgree, GamesAreRefused};
 
-/// The exit statuses of small games, by the definitions.
-pub fn worked()
-    ensures { WorkedStatuses }
-{}
+use chip_graph::laws::one_answer;
 
-/// A row of many games is the outcome in the report that `plain` writes of its game.
+/// Of a game that is played to its end, a call returns what `plain` reports: in a row of many games, in counts and chips
+/// that it accepts or refuses, and in a kept pile.
 pub fn rows_agree()
-    ensures { RowsAgree }
-{}
-
-/// Counts and chips that a call accepts are those in the report; those that it refuses differ from it.
-pub fn claims_agree()
+    ensures rows { RowsAgree }
     ensures accepted { ClaimsAgree }
     ensures refused { DifferencesAgree }
+    ensures piles { PilesAgree }
 {}
 
-/// A pile played to its end has the chips and counts in the report of its game.
-pub fn piles_agree()
-    ensures { PilesAgree }
-{}
-
-/// The avalanches of a call are the rows that `avalanches` writes, also where the limit stops a play.
+/// The avalanches of a call are the rows that `avalanches` writes, also where the limit stops a play; and so are those
+/// on a kept pile.
 pub fn avalanches_agree()
     ensures all { AvalanchesAgree }
     ensures stopped { StoppedDropsAgree }
-{}
-
-/// The same holds of drops on a kept pile.
-pub fn kept_drops_agree()
-    ensures all { KeptDropsAgree }
-    ensures stopped { KeptStopsAgree }
+    ensures kept { KeptDropsAgree }
+    ensures kept_stopped { KeptStopsAgree }
 {}
 
 /// Both refuse what is no game, with the same number.
 pub fn games_are_refused()
     ensures { GamesAreRefused }
-{}
+{
+    one_answer();
+}

@@ -1,4 +1,0 @@
-mod ReportedLemmas
-mod StoppingLemmas
-mod RowsLemmas
-mod RefusedLemmas

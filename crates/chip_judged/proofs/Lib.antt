@@ -1,5 +1,1 @@
-mod RunLemmas
-mod EventLemmas
-mod ReachLemmas
-mod WholeLemmas
-mod AnswerLemmas
+mod JudgedLemmas

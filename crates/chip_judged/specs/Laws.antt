@@ -18,6 +18,12 @@ use Rattle.chip_judged.specs.Rows.{rows_of_run}
 abbrev pub network_sizes : Network → Sizes
 network_sizes net = record { processes = net.parts; channels = net.edges }
 
+-- what holds of every legal log whose root is closed, and every order that keeps each part's rows in their order
+abbrev pub ForEveryOrder : (Network → List LogRow → Type 0) → Type 0
+ForEveryOrder P = (net : Network) → IsNetwork net → (log : Log) (w : World) (legal : IsLegalLog net log w)
+    → HasClosedRoot net w → (rows : List LogRow) → ((p : ℕ) → steps_of p rows ≡ steps_of p (rows_of_run net log w legal))
+    → P net rows
+
 -- rows that the judge accepts and can order, and no claim in them is early: the computation was claimed to be over, and
 -- it was
 pub record AreJudgedRight (net : Network) (rows : List LogRow) : Type 0 where
@@ -26,15 +32,10 @@ pub record AreJudgedRight (net : Network) (rows : List LogRow) : Type 0 where
   pub none_early : (with_past : Bool) → IsFirstEarly with_past rows None
   pub claimed : IsEnd rows end.Claimed
 
--- it holds of every legal log whose root is closed, and every order that keeps each part's rows in their order
 abbrev pub EveryLogIsJudgedRight : Type 0
-EveryLogIsJudgedRight = (net : Network) → IsNetwork net → (log : Log) (w : World) (legal : IsLegalLog net log w)
-    → HasClosedRoot net w → (rows : List LogRow) → ((p : ℕ) → steps_of p rows ≡ steps_of p (rows_of_run net log w legal))
-    → AreJudgedRight net rows
+EveryLogIsJudgedRight = ForEveryOrder AreJudgedRight
 
 -- so the judge's verdict on each claim is that it is right, and the log ends with a claim
 abbrev pub EveryAnswerIsRight : Type 0
-EveryAnswerIsRight = (net : Network) → IsNetwork net → (log : Log) (w : World) (legal : IsLegalLog net log w)
-    → HasClosedRoot net w → (rows : List LogRow) → ((p : ℕ) → steps_of p rows ≡ steps_of p (rows_of_run net log w legal))
-    → (with_past : Bool) (judged : JudgedLog) → IsJudgedLog with_past rows judged
-    → All (λ (c : ClaimVerdict). c.verdict ≡ verdict.Right) judged.claims.items × (judged.end ≡ end.Claimed)
+EveryAnswerIsRight = ForEveryOrder (λ net rows. (with_past : Bool) (judged : JudgedLog) → IsJudgedLog with_past rows judged
+    → All (λ (c : ClaimVerdict). c.verdict ≡ verdict.Right) judged.claims.items × (judged.end ≡ end.Claimed))

@@ -1,16 +1,11 @@
 -- Worked rows: of the run in which the root, part 1, sends one message to part 0, and of single events.
-use Rattle.std.specs.Prelude.{◌≡◌, ℕ, [], ◌∷◌}
+use Rattle.std.specs.Prelude.{◌≡◌, [], ◌∷◌}
 use Rattle.chip_diffusing.specs.Computation.{Get, Ack, Settle, IsLegalLog}
 use Rattle.chip_diffusing.specs.Worked.{pair, whole, closed, at_work}
 use Rattle.chip_log.specs.Claims.{basic}
 use Rattle.chip_log.specs.Judged.{control}
-use Rattle.chip_log.specs.declared.row.LogRow.{LogRow}
-use Rattle.chip_log.specs.declared.row.Step.{Step}
 use Rattle.chip_log.specs.declared.row.Step.TheVariants.{Out, In, Passive, Active, Over}
-use Rattle.chip_judged.specs.Rows.{steps_by, rows_of_run}
-
-abbrev pub log_row : ℕ → Step → LogRow
-log_row p step = record { process = p; step = step }
+use Rattle.chip_judged.specs.Rows.{steps_by, log_row, rows_of_run}
 
 -- the root begins active, sends and rests; part 0 gets the message, rests and acknowledges; the root settles and claims
 abbrev pub WholeRows : Type 0

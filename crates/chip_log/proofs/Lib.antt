@@ -14,6 +14,7 @@ mod RightLemmas
 mod PlacesLemmas
 mod QueuesLemmas
 mod OrderingLemmas
+mod ProgressLemmas
 mod OrderLemmas
 mod OneLemmas
 mod FirstLemmas

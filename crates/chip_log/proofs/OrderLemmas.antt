@@ -1,17 +1,14 @@
 -- Serves Order.antt.
 -- Where an order ends.
-use Rattle.chip_log.proofs.Names.{◌≡◌, ℕ, ◌+◌, ◌≤◌, ◌<◌, true, false, eqb, List, [], ◌∷◌, ◌++◌, length, get_or, refl}
-use Rattle.chip_log.proofs.Names.{ap, arith, cond, append-nil, ◌^◌, append_assoc, take, drop}
-use Rattle.chip_log.proofs.Names.{length-append, drop_more, take_more}
-use Rattle.chip_log.proofs.Names.{append_cancel_left, nil_from_length, drop_all, All-get_or, Some, None, dite, dec_lt}
-use Rattle.chip_log.proofs.Names.{steps_of, is_out, outs, ins, HasEnds, sends, gets, nat_tests}
-use Rattle.chip_log.proofs.Names.{is_in, is_enabled, IsInterleaving, IsWellFormed, IsProgress}
-use Rattle.chip_log.proofs.Names.{IsGreatest, IsStuck, is_there, IsReady, Reads, IsOrderKept, OrderGoesOn, IsOrderBlocked, IsFirstLeft}
-use Rattle.chip_log.proofs.Names.{FitsRow, queue_of, total, Order, Sizes, LogRow, Step, Out, In, Stream}
-use Rattle.chip_log.proofs.PrefixLemmas.{same_beginning}
-use Rattle.chip_log.proofs.CountLemmas.{longer_counts, steps_of-append, steps_push, first_own}
-use Rattle.chip_log.proofs.MetLemmas.{owner_is, same_self}
-use Rattle.chip_log.proofs.PastLemmas.{are_met_first, are_met_second}
+use Rattle.chip_log.proofs.Names.{◌≡◌, ℕ, ◌+◌, ◌≤◌, ◌<◌, false, eqb, List, [], ◌∷◌, ◌++◌, length, get_or, refl, ap, sym, ◌∙◌}
+use Rattle.chip_log.proofs.Names.{arith, cond, append-nil, ◌^◌, take, drop, length-append, length-take, drop_more, take_more}
+use Rattle.chip_log.proofs.Names.{append_cancel_left, nil_from_length, drop_all, All-get_or, Some, None, steps_of, HasEnds}
+use Rattle.chip_log.proofs.Names.{nat_tests, is_enabled, IsInterleaving, IsWellFormed, IsProgress, IsGreatest, IsStuck}
+use Rattle.chip_log.proofs.Names.{is_there, IsReady, Reads, IsOrderKept, OrderGoesOn, IsOrderBlocked, IsFirstLeft, FitsRow}
+use Rattle.chip_log.proofs.Names.{queue_of, total, Order, Sizes, LogRow, Step, In}
+use Rattle.chip_log.proofs.CountLemmas.{steps_of-append}
+use Rattle.chip_log.proofs.ProgressLemmas.{rows, whole_progress, first_rows, next_own, Joins, progress_of, joined}
+use Rattle.chip_log.proofs.PastLemmas.{are_met_second}
 use Rattle.chip_log.proofs.LeftLemmas.{one_number}
 use Rattle.chip_log.proofs.QueuesLemmas.{total_le}
 use Rattle.chip_log.proofs.OrderingLemmas.{read_more, read_ready, read_keeps}
@@ -97,92 +94,33 @@ count_next p log n d l = rw (take_more log n d l, steps_of-append, length-append
 
 -- ---- maximal progress is the greatest
 
-module _ (log : List LogRow) (ends : HasEnds log) (used : List LogRow) (is : IsProgress log used) where
-  pub used_outs : (s : Stream) → outs s used ≡ sends s (steps_of (ends.sender s) used)
-  used_outs s = first_own (is_out s) (ends.sender s) log used is.left is.own (ends.sends s)
-
-  pub used_ins : (s : Stream) → ins s used ≡ gets s (steps_of (ends.receiver s) used)
-  used_ins s = first_own (is_in s) (ends.receiver s) log used is.left is.own (ends.gets s)
-
 module _ (log : List LogRow) (ends : HasEnds log) (used : List LogRow) (most : IsGreatest log used) where
-  -- another progress, up to a row that is enabled, with no more rows of any process before it
-  module _ (pre : List LogRow) (x : LogRow) (other : IsProgress log (pre ++ x ∷ []))
-      (before : IsProgress log pre) (met : is_enabled log pre x.process x.step ≡ true)
-      (fewer : (p : ℕ) → length (steps_of p pre) ≤ length (steps_of p used)) where
-    abbrev q : ℕ
-    q = x.process
+  -- it does not go on
+  none_joined : (other more : List LogRow) → IsProgress log other → Joins log ends used most.progress other (used ++ more)
+      → (p : ℕ) → rows p other ≤ rows p used
+  none_joined other [] is made p = omega (
+    arith,
+    ap length (rw append-nil at (made.own p)),
+    ap length (first_rows log other is p),
+    length-take {A = Step},
+  )
+  none_joined other (x ∷ more) is made p =
+      let now = progress_of log ends used most.progress other (used ++ x ∷ more) made in
+      let q = x.process in
+      let behind = steps_of q more ++ now.left q in
+      let a = append_cancel_left (steps_of q used) (most.progress.left q) (x.step ∷ behind)
+      (most.progress.own q ∙ sym (next_own log used more x now)) in
+      let b = most.stuck q x.step behind a in
+      let c = (are_met_second log [] used (x ∷ more) now.met).0 in
+      absurd (cc)
 
-    abbrev behind : List Step
-    behind = other.left q
-
-    goes_on : steps_of q pre ++ (x.step ∷ behind) ≡ steps_of q log
-    goes_on = rw (steps_push q pre x refl, append_assoc) at (other.own q)
-
-    module _ (all : length (steps_of q used) ≤ length (steps_of q pre)) where
-      same : steps_of q pre ≡ steps_of q used
-      same = same_beginning (steps_of q pre) (x.step ∷ behind) (steps_of q used) (most.progress.left q) (steps_of q log)
-          goes_on (most.progress.own q) (omega (arith, fewer q))
-
-      next : most.progress.left q ≡ x.step ∷ behind
-      next = append_cancel_left (steps_of q used) (most.progress.left q) (x.step ∷ behind)
-          (let a = most.progress.own q in let b = goes_on in let c = same in cc)
-
-      receiver_is : (s : Stream) → x.step ≡ In s → q ≡ ends.receiver s
-      receiver_is s e = owner_is (is_in s) (ends.receiver s) q log (steps_of q pre) x.step behind (ends.gets s) goes_on
-          (rw e (same_self s))
-
-      still_met : (step : Step) → x.step ≡ step → is_enabled log pre q step ≡ true → is_enabled log used q step ≡ true
-      still_met (Out s) e was = rw same at was
-      still_met (In s) e was =
-          let b = used_ins log ends pre before s in let c = used_ins log ends used most.progress s in
-          let d = receiver_is s e in let g = same in let f : ins s used ≡ ins s pre = cc in
-          let h = used_outs log ends pre before s in let i = used_outs log ends used most.progress s in
-          let k = longer_counts (is_out s) (steps_of (ends.sender s) pre) (before.left (ends.sender s))
-          (steps_of (ends.sender s) used) (most.progress.left (ends.sender s)) (steps_of (ends.sender s) log)
-          (before.own (ends.sender s)) (most.progress.own (ends.sender s)) (fewer (ends.sender s)) in
-          grind (arith, nat_tests)
-      still_met _ e was = refl
-
-      pub not_more : ⊥
-      not_more =
-          let a = most.stuck q x.step behind next in
-          let b = still_met x.step refl met in
-          cc
-
-    one_more : (p : ℕ) → length (steps_of p (pre ++ x ∷ [])) ≤ length (steps_of p used)
-    one_more p = dite (dec_lt (length (steps_of q pre)) (length (steps_of q used)))
-        (λ less. let d = fewer p in rw (steps_of-append, length-append) (grind (arith, nat_tests)))
-        (λ no. absurd (not_more (omega arith)))
-
-  first_of : (pre later : List LogRow) → IsProgress log (pre ++ later) → IsProgress log pre
-  first_of pre later other = record {
-    left = λ q. steps_of q later ++ other.left q;
-    own = λ q. rw (steps_of-append, append_assoc) at (other.own q);
-    met = are_met_first log [] pre later other.met;
-  }
-
-  fewer_through : (pre later : List LogRow) → IsProgress log (pre ++ later)
-      → ((p : ℕ) → length (steps_of p pre) ≤ length (steps_of p used))
-      → (p : ℕ) → length (steps_of p (pre ++ later)) ≤ length (steps_of p used)
-  fewer_through pre [] other fewer p = rw append-nil (fewer p)
-  fewer_through pre (x ∷ later) other fewer p =
-      let on : IsProgress log ((pre ++ x ∷ []) ++ later) = rw append_assoc other in
-      rw append_assoc at (fewer_through (pre ++ x ∷ []) later on (one_more pre x (first_of (pre ++ x ∷ []) later on)
-      (first_of pre (x ∷ later) other) (are_met_second log [] pre (x ∷ later) other.met).0 fewer) p)
-
-  pub most_progress : (other : List LogRow) → IsProgress log other
-      → (p : ℕ) → length (steps_of p other) ≤ length (steps_of p used)
-  most_progress other is = fewer_through [] other is (λ p. omega arith)
+  pub most_progress : (other : List LogRow) → IsProgress log other → (p : ℕ) → rows p other ≤ rows p used
+  most_progress other is = let on = joined log ends used most.progress other is in none_joined other on.0 is on.1
 
 module _ (log : List LogRow) (ends : HasEnds log) where
   pub no_order : (p i : ℕ) (xs : List LogRow) → IsStuck log p i → IsInterleaving log xs → ⊥
   no_order p i xs stuck is =
-      let whole : IsProgress log xs = record {
-        left = λ q. [];
-        own = λ q. rw append-nil (is.whole q);
-        met = is.met;
-      } in
-      omega (arith, most_progress log ends stuck.used stuck.greatest xs whole p, ap length (is.whole p))
+      omega (arith, most_progress log ends stuck.used stuck.greatest xs (whole_progress log xs is) p, ap length (is.whole p))
 
   same_length : (p i q j : ℕ) → (one : IsStuck log p i) → (two : IsStuck log q j)
       → (r : ℕ) → length (steps_of r one.used) ≡ length (steps_of r two.used)

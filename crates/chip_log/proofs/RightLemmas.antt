@@ -29,7 +29,7 @@ over_first (x ∷ xs) ys zero less = refl
 over_first (x ∷ xs) ys (suc i) less = over_first xs ys i (omega arith)
 
 -- a list with a claim, and the number of rows of its process before it
-abbrev HasOver : ℕ → List LogRow → ℕ → Type 0
+abbrev pub HasOver : ℕ → List LogRow → ℕ → Type 0
 HasOver p xs i = (before : List LogRow) × (after : List LogRow) × (xs ≡ before ++ record { process = p; step = Over } ∷ after)
     × (length (steps_of p before) ≡ i)
 
@@ -45,7 +45,7 @@ own_over p x xs e later (suc i) over =
       rw (steps_own p x found.0 e) (omega (arith, found.3)),
     )
 
-find_over : (p : ℕ) (xs : List LogRow) (i : ℕ) → is_over_at (steps_of p xs) i ≡ true → HasOver p xs i
+pub find_over : (p : ℕ) (xs : List LogRow) (i : ℕ) → is_over_at (steps_of p xs) i ≡ true → HasOver p xs i
 find_over p [] i is = absurd (cc is)
 find_over p (x ∷ xs) i is = dite (ℕ_discrete x.process p)
     (λ e. own_over p x xs e (λ j over. find_over p xs j over) i

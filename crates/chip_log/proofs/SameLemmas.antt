@@ -1,11 +1,11 @@
 -- Serves Log.antt, Claims.antt, Judged.antt.
 -- The judgment of a log depends only on the rows of each process.
-use Rattle.chip_log.proofs.Names.{◌≡◌, ℕ, Bool, true, false, List, [], ◌∷◌, ◌++◌, refl, sym, ◌∙◌}
-use Rattle.chip_log.proofs.Names.{All-weaker, ◌&&◌, IsPast, IsVerdict, IsSilent, IsBefore, IsRight, IsOpenEnd}
-use Rattle.chip_log.proofs.Names.{is_claim, is_early, IsJudged, NoneRight, IsEnd, control, IsJudgedLog}
-use Rattle.chip_log.proofs.Names.{AreShown, steps_of, is_out, HasEnds, IsFirstEarly, Option, Some, None}
-use Rattle.chip_log.proofs.Names.{ap, begins_active, IsStuck, is_active, is_in, is_enabled, AreEnabled, IsInterleaving, IsLog, ClaimVerdict}
-use Rattle.chip_log.proofs.Names.{JudgedLog, LogEnd, LogRow, Step, Out, Over, Verdict, count_rows, count_steps}
+use Rattle.chip_log.proofs.Names.{◌≡◌, ℕ, Bool, true, false, List, [], ◌∷◌, ◌++◌, refl, sym, ◌∙◌, All-weaker, ◌&&◌, IsPast}
+use Rattle.chip_log.proofs.Names.{IsVerdict, IsSilent, IsBefore, IsRight, IsOpenEnd, is_claim, is_early, IsJudged, NoneRight}
+use Rattle.chip_log.proofs.Names.{IsEnd, control, IsJudgedLog, AreShown, steps_of, is_out, HasEnds, IsFirstEarly, Option}
+use Rattle.chip_log.proofs.Names.{Some, None, ap, begins_active, IsStuck, is_active, is_in, is_enabled, AreEnabled}
+use Rattle.chip_log.proofs.Names.{IsInterleaving, IsLog, ClaimVerdict, JudgedLog, LogEnd, LogRow, Step, Out, Over}
+use Rattle.chip_log.proofs.Names.{Verdict, count_rows, count_steps}
 use Rattle.chip_log.proofs.CountLemmas.{all_own}
 use Rattle.chip_log.proofs.LeftLemmas.{SameBehind, got_as, left_as}
 use Rattle.chip_log.specs.declared.verdict.Verdict.TheVariants as verdict
@@ -31,6 +31,29 @@ module _ (log other : List LogRow) (begins : (p : ℕ) → begins_active (steps_
   are_met_as before (x ∷ xs) met =
       (rw (met_as before x.process x.step) at met.0, are_met_as (before ++ x ∷ []) xs met.1)
 
+  same_behind : (before : List LogRow) → SameBehind log before other before
+  same_behind before = record { outs = λ s. refl; ins = λ s. refl; active = active_as before }
+
+  pub silent_as : (before : List LogRow) → IsSilent log before → IsSilent other before
+  silent_as before is = left_as log before other before (same_behind before) verdict.Right is
+
+  -- where the causal past of a claim stays, and that it is right, so does its judgment
+  module _ (w : Bool) (c : ClaimVerdict)
+      (past_as : (before : List LogRow) → IsPast log c.process c.row before → IsPast other c.process c.row before)
+      (right_as : IsRight log c.process c.row → IsRight other c.process c.row) where
+    verdict_by : (v : Verdict) → IsVerdict log c.process c.row v → IsVerdict other c.process c.row v
+    verdict_by verdict.Right is = right_as is
+    verdict_by (verdict.OnItsWay d k) is = (is.0, past_as is.0 is.1, is.2)
+    verdict_by (verdict.Active q) is =
+        (is.0, past_as is.0 is.1, left_as log is.0 other is.0 (same_behind is.0) (verdict.Active q) is.2)
+
+    shown_by : (b : Bool) → AreShown b log c.process c.row c.past.items → AreShown b other c.process c.row c.past.items
+    shown_by true is = (is.0, past_as is.0 is.1, is.2)
+    shown_by false is = is
+
+    pub judged_by : IsJudged w log c → IsJudged w other c
+    judged_by is = record { verdict = verdict_by c.verdict is.verdict; past = shown_by (w && is_early c.verdict) is.past }
+
 module _ (log other : List LogRow) (same : SameRows log other) where
   begins_as : (p : ℕ) → begins_active (steps_of p log) ≡ begins_active (steps_of p other)
   begins_as p = ap begins_active (same p)
@@ -44,12 +67,6 @@ module _ (log other : List LogRow) (same : SameRows log other) where
     whole = interleaving_as (before ++ record { process = p; step = Over } ∷ is.after) is.whole;
     place = is.place;
   }
-
-  same_behind : (before : List LogRow) → SameBehind log before other before
-  same_behind before = record { outs = λ s. refl; ins = λ s. refl; active = active_as log other begins_as before }
-
-  silent_as : (before : List LogRow) → IsSilent log before → IsSilent other before
-  silent_as before is = left_as log before other before (same_behind before) verdict.Right is
 
   claim_as : (p i : ℕ) → is_claim log p i ≡ is_claim other p i
   claim_as p i = rw (same p)
@@ -99,27 +116,17 @@ module _ (log other : List LogRow) (same : SameRows log other) where
   }
 
   pub right_as : (p i : ℕ) → IsRight log p i → IsRight other p i
-  right_as p i is = record {
-    at = λ before here. silent_as log other same before (is.at before (before_as other log back p i before here));
-    behind = λ before between after whole place.
-        silent_as log other same (before ++ record { process = p; step = Over } ∷ between) (is.behind before between after
-        (interleaving_as other log back ((before ++ record { process = p; step = Over } ∷ between) ++ after) whole) place);
-  }
-
-  verdict_as : (p i : ℕ) (v : Verdict) → IsVerdict log p i v → IsVerdict other p i v
-  verdict_as p i verdict.Right is = right_as p i is
-  verdict_as p i (verdict.OnItsWay c k) is = (is.0, past_as p i is.0 is.1, is.2)
-  verdict_as p i (verdict.Active q) is = (is.0, past_as p i is.0 is.1, left_as log is.0 other is.0 (same_behind log other same is.0) (verdict.Active q) is.2)
+  right_as p i is =
+      let silent = silent_as log other (begins_as log other same) in
+      record {
+        at = λ before here. silent before (is.at before (before_as other log back p i before here));
+        behind = λ before between after whole place.
+            let now = before ++ record { process = p; step = Over } ∷ between in
+            silent now (is.behind before between after (interleaving_as other log back (now ++ after) whole) place);
+      }
 
   judged_as : (w : Bool) (c : ClaimVerdict) → IsJudged w log c → IsJudged w other c
-  judged_as w c is = record {
-    verdict = verdict_as c.process c.row c.verdict is.verdict;
-    past = by (w && is_early c.verdict) is.past;
-  }
-    where
-      by : (b : Bool) → AreShown b log c.process c.row c.past.items → AreShown b other c.process c.row c.past.items
-      by true past = (past.0, past_as c.process c.row past.0 past.1, past.2)
-      by false past = past
+  judged_as w c is = judged_by log other (begins_as log other same) w c (past_as c.process c.row) (right_as c.process c.row) is
 
 module _ (log other : List LogRow) (same : SameRows log other) where
   none_right_as : NoneRight log → NoneRight other

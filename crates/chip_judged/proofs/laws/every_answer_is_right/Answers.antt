@@ -1,4 +1,4 @@
-use Rattle.chip_judged.proofs.AnswerLemmas.{every_answer_is_right}
+use Rattle.chip_judged.proofs.JudgedLemmas.{every_answer_is_right}
 use Rattle.chip_judged.proofs.laws.every_answer_is_right.Goals as goal
 
 pub returns : goal.returns

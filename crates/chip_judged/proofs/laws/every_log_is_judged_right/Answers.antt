@@ -1,4 +1,4 @@
-use Rattle.chip_judged.proofs.WholeLemmas.{every_log_is_judged_right}
+use Rattle.chip_judged.proofs.JudgedLemmas.{every_log_is_judged_right}
 use Rattle.chip_judged.proofs.laws.every_log_is_judged_right.Goals as goal
 
 pub returns : goal.returns

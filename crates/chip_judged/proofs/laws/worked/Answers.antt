@@ -1,6 +1,6 @@
 use Rattle.std.proofs.Common.{◌≡◌, ℕ, zero, suc, ◌<◌, refl, arith, [], ◌∷◌, Contains, None, true, false, rules}
 use Rattle.std.proofs.lemmas.Bool.Decides.{nat_tests}
-use Rattle.chip_diffusing.specs.Computation.{World, OpensPart, Leads}
+use Rattle.chip_diffusing.specs.Computation.{World, Send, Get, Ack, Settle, Work, OpensPart, Happens, Leads}
 use Rattle.chip_diffusing.specs.Worked.{pair, worked_root, other_part, both, at_work, at_rest, acknowledged, closed, whole}
 use Rattle.chip_judged.proofs.laws.worked.Goals as goal
 
@@ -37,28 +37,15 @@ opens (suc zero) l = record {
 }
 opens (suc (suc p)) l = absurd (omega arith)
 
+early : Happens pair opening (Send 0) sent × Happens pair sent (Work 1) ended × Happens pair ended (Get 0) at_work
+early = search (rules, arith, nat_tests)
+
+late : Happens pair at_work (Work 0) at_rest × Happens pair at_rest (Ack 0 1) acknowledged
+    × Happens pair acknowledged (Settle 0 1) closed
+late = search (rules, arith, nat_tests)
+
 leads : Leads pair opening whole closed
-leads = (
-  acknowledged,
-  (
-    at_rest,
-    (
-      at_work,
-      (
-        ended,
-        (
-          sent,
-          (opening, refl, search (rules, arith, nat_tests)),
-          search (rules, arith, nat_tests),
-        ),
-        search (rules, arith, nat_tests),
-      ),
-      search (rules, arith, nat_tests),
-    ),
-    search (rules, arith, nat_tests),
-  ),
-  search (rules, arith, nat_tests),
-)
+leads = (acknowledged, (at_rest, (at_work, (ended, (sent, (opening, refl, early.0), early.1), early.2), late.0), late.1), late.2)
 
 pub returns-clause-whole : goal.returns-clause-whole
 unfolding leads

@@ -38,8 +38,10 @@ LOSSY = chipfire.Graph(5, 4, [*chipfire.grid(2, 2).edges, *((vertex, 4) for vert
 
 class Recurrent(unittest.TestCase):
     def test_all_recurrent_configurations_are_drawn_evenly(self):
+        lens = chipfire.Graph.undirected([(0, 1), (0, 2), (1, 2), (1, 3), (2, 3)], 0)
         for graph, order in [(chipfire.grid(2, 2), 192), (MULTIGRAPH, None), (LOSSY, 3 * 5 * 5 * 7),
-                             (chipfire.cycle(7), 7), (chipfire.complete(5), 125)]:
+                             (chipfire.cycle(7), 7), (chipfire.complete(5), 125), (chipfire.grid(2, 1), 15),
+                             (chipfire.complete(4), 16), (chipfire.wheel(5), 45), (lens, 8)]:
             wanted = recurrent_ones(graph)
             self.assertEqual(len(wanted), order or len(wanted))
             drawn = chipfire.random_recurrent(graph, 1, 20 * len(wanted))
@@ -72,11 +74,67 @@ class Recurrent(unittest.TestCase):
         """Plays and drops between draws change nothing, and the graph is compared and made once."""
         grid = chipfire.grid(9, 7)
         with (mock.patch.object(kept, "KeptPile", side_effect=kept.KeptPile) as made,
-              mock.patch.object(wilson, "_compare_ways") as compared):
+              mock.patch.object(wilson, "_first_one_way", side_effect=wilson._first_one_way) as compared):
             first = chipfire.random_recurrent(grid, 5, 3)
             chipfire.drops(grid, first[0], [0, 3, 9])
             self.assertEqual(chipfire.random_recurrent(grid, 5, 3), first)
         self.assertEqual((made.call_count, compared.call_count), (1, 1))
+
+    def test_which_edges_are_one_way(self):
+        """Of all multigraphs of three vertices and the sink, whose edges come in any order."""
+        numpy, draw, refused = values.import_optional("numpy"), random.Random(1), 0
+        sinks = itertools.cycle((0, 2, 3))
+        for sink, mults in zip(sinks, itertools.product([(), (1,), (2,), (1, 1)], repeat=6)):
+            inner = [it for it in range(4) if it != sink]
+            rows = [(*ends, mult) for ends, many in zip(itertools.permutations(inner, 2), mults) for mult in many]
+            rows += [(it, sink, 3) for it in inner]
+            draw.shuffle(rows)
+            sent = Counter()
+            for tail, head, mult in rows:
+                sent[tail, head] += mult
+            uneven = [it for it, (*ends, _) in enumerate(rows) if sink not in ends and sent[*ends] != sent[*ends[::-1]]]
+            graph = chipfire.Graph(4, sink, rows)
+            wanted = uneven[0] if uneven else None
+            self.assertEqual(wilson._first_by_sums(graph), wanted, (sink, rows))
+            if numpy:
+                self.assertEqual(wilson._first_by_sort(numpy, graph), wanted, (sink, rows))
+            refused += bool(uneven)
+            if not uneven:
+                wilson.require_undirected(graph)
+                continue
+            tail, head, _ = rows[uneven[0]]
+            told = f"vertex {tail} sends {sent[tail, head]} to {head} and gets {sent[head, tail]} back; and so on$"
+            with self.assertRaisesRegex(ValueError, f"^the graph is directed: {told}"):
+                wilson.require_undirected(graph, "; and so on")
+        self.assertEqual(refused, 4**6 - 6**3)
+
+    def test_a_sum_of_chips_may_have_more_than_32_bits(self):
+        graph = chipfire.Graph(3, 2, [(0, 2), (1, 2), *[(0, 1, 2**20)] * 2**12])
+        with self.assertRaisesRegex(ValueError, f"vertex 0 sends {2**32} to 1 and gets 0 back"):
+            wilson.require_undirected(graph)
+
+    def test_what_is_no_graph_to_play_on_is_not_called_directed(self):
+        numpy = values.import_optional("numpy")
+        for rows, why in [([(0, 1), (1, 0)], "no walk"), ([(0, 2), (0, 1)], "no walk"), ([(0, 5), (1, 2)], "leads from 0 to 5"),
+                          ([(0, 2), (2, 1), (1, 2)], "leaves the sink"), ([(0, 2), (1, 2), (1, 1)], "is a loop"),
+                          ([(0, 1, 0), (1, 0), (0, 2)], "sends 0 chips")]:
+            graph = chipfire.Graph(3, 2, rows)
+            self.assertTrue(not numpy or wilson._first_by_sort(numpy, graph) == wilson._first_by_sums(graph), rows)
+            for loaded in (chipfire.backend.library.loaded, lambda: None):
+                with (mock.patch("chipfire.backend.library.loaded", loaded), mock.patch.object(wilson, "_tree") as drawn,
+                      self.assertRaisesRegex(ValueError, why)):
+                    chipfire.random_recurrent(graph, 1)
+                drawn.assert_not_called()
+
+    @unittest.skipUnless(values.import_optional("numpy"), "NumPy is not here")
+    def test_a_large_graph_is_compared_by_numpy(self):
+        graph, asked = chipfire.path(3), []
+        with (mock.patch.object(wilson, "numpy_in_use", lambda: None),
+              mock.patch.object(wilson, "_first_by_sort", lambda *its: asked.append(its))):
+            wilson.require_undirected(graph)
+            with mock.patch.object(wilson, "_MANY_EDGES", len(graph.edges)):
+                wilson.require_undirected(chipfire.path(3))
+        self.assertEqual(len(asked), 1)
 
     def test_progress_and_parts(self):
         grid, reports = chipfire.grid(5, 4), []
@@ -439,8 +497,9 @@ class Measured(unittest.TestCase):
                 before = pile.fired
                 pile.drops([middle, *at])
                 self.assertEqual(total, [*map(operator.sub, pile.fired, before)])
-            for near in (1, 2, 50, 10**6):
-                with mock.patch("chipfire.ensembles.firings._NEAR", near):
+            for near, apart in [(1, 16), (2, 1), (50, 16), (10**6, 1), (10**6, 10**6)]:
+                with (mock.patch("chipfire.ensembles.firings._NEAR", near),
+                      mock.patch("chipfire.ensembles.firings._APART", apart)):
                     found = chipfire.drops(grid, 3, [middle, *at], fired=True)
                 self.assertEqual([it.tolist() for it in found.fired], [it.tolist() for it in whole.fired])
 

@@ -416,7 +416,7 @@ class AtTheShell(unittest.TestCase):
     def test_the_page_and_the_help_have_the_same_statuses(self):
         root = os.path.dirname(os.path.dirname(os.path.dirname(os.path.abspath(__file__))))
         with open(f"{root}/docs/tasks/explore-your-own.md", encoding="utf-8") as page:
-            rows = re.findall(r"^\| ([0-9]) \| (.*?) \|", page.read(), re.MULTILINE)
+            rows = re.findall(r"^- \*\*([0-9])\*\*: (.*)", page.read(), re.MULTILINE)
         _, text, _ = self.asked("--help")
         shown = " ".join(text.split())
         for number, words in rows:

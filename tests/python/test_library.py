@@ -390,7 +390,7 @@ class Ways(WithFolder):
 
     def test_an_interrupt_ends_what_is_long(self):
         begins = ("import chipfire, signal, time\nsignal.signal(signal.SIGINT, signal.default_int_handler)\n"
-                  "grid = chipfire.grid(60, 60)\nlarge = chipfire.grid(511, 511)\nprint('begun', flush=True)\n")
+                  "grid = chipfire.grid(60, 60)\nlarge = chipfire.grid(511, 511)\ntry:\n    print('begun', flush=True)\n")
         catches = "\nexcept KeyboardInterrupt:\n    print(time.monotonic())\n    raise"
         for call in (
             "chipfire.stabilize_many(grid, (9 for _ in range(10**5)))", "chipfire.plain(large, 4)",
@@ -404,7 +404,7 @@ class Ways(WithFolder):
             if not IS_HERE and "chains" in call:
                 continue
             with self.subTest(call):
-                words = [sys.executable, "-c", f"{begins}try:\n    {call}{catches}"]
+                words = [sys.executable, "-c", f"{begins}    {call}{catches}"]
                 pipes = {"stdout": subprocess.PIPE, "stderr": subprocess.PIPE, "encoding": "utf-8"}
                 with subprocess.Popen(words, **pipes) as python:
                     python.stdout.readline()

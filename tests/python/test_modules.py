@@ -59,6 +59,7 @@ with chipfire.Pile(grid, chips, 9) as pile:
     print(size, pile.drops([1, 2], amounts=[3, 4]).size, pile.chips[0] + pile.fired[0], pile.report, pile.is_stopped)
 print(chipfire.stabilize_many(grid, [chips, 4])[0], chipfire.are_recurrent(grid, [chips])[0], chipfire.find_library())
 print(chipfire.chains(grid, 2, 3, 1).size, chipfire.random_recurrent(grid, 1))
+rounds: dict[int, int] = chipfire.chains(grid, 2, 3, 1, durations=True, collect="histogram").total("durations")
 log = chipfire.model_log(setting, Own, []) + chipfire.read_json_lines([], channel=lambda it: it["to"])
 print(chipfire.judge_log(log, cut=True).claims, chipfire.read_shiviz("", str.strip), chipfire.judge_log("log").is_right)
 books = chipfire.Books([0], [1, 2], process=3, log=[])

@@ -328,6 +328,19 @@ class Parts(unittest.TestCase):
             with distributed.Client(cluster) as client:
                 self.assertEqual(numbers(plays(executor=client.get_executor())), whole)
 
+    @unittest.skipUnless(importlib.util.find_spec("joblib"), "joblib is not here")
+    def test_joblib_plays_what_threads_do(self):
+        from joblib.externals.loky import get_reusable_executor
+
+        executor = get_reusable_executor(max_workers=2)
+        try:
+            for options in ASKED:
+                self.assertEqual(numbers(plays(executor=executor, **options)), numbers(plays(**options)), options)
+            found, whole = (plays(collect="histogram", durations=True, **its) for its in ({"executor": executor}, {}))
+            self.assertEqual((found.size, found.duration, found.sums), (whole.size, whole.duration, whole.sums))
+        finally:
+            executor.shutdown(wait=True)
+
     @unittest.skipUnless(importlib.util.find_spec("mpi4py") and shutil.which("mpiexec"), "mpi4py or mpiexec is not here")
     def test_mpi_plays_what_threads_do(self):
         script = [
@@ -518,7 +531,7 @@ class Long(unittest.TestCase):
         grid, options = chipfire.grid(20, 20), {"chips": 2, "amounts": 500}
         whole = chipfire.chains(grid, 1, 8, 3, **options)
         on, counts = [*chipfire.random_drops(grid, 8, whole.seeds[0])], set()
-        for left in range(40):
+        for left in range(0, 120, 3):
             with mock.patch.multiple("chipfire.backend.kept", _FEW_CHIPS=0, _LIGHT=0, _FIRST_VISITS=1):
                 with mock.patch.object(spread, "Watch", lambda: Stops(left)):
                     found = chipfire.chains(grid, 1, 8, 3, workers=1, **options)
@@ -645,48 +658,105 @@ class Long(unittest.TestCase):
 
 @unittest.skipUnless(IS_HERE, "chains take the library")
 class Histograms(unittest.TestCase):
+    def check_counts(self, found, whole, names):
+        """Histograms have what the test itself counts of these columns of chains."""
+        columns = {name: [it.tolist() for it in getattr(whole, name)] for name in names}
+        for name, rows in columns.items():
+            self.assertEqual(getattr(found, name), [*map(Counter, rows)])
+            self.assertEqual([*found.total(name).items()], sorted(Counter(sum(rows, [])).items()))
+        pairs = {(one, other) for at, one in enumerate(names) for other in names[at:]}
+        self.assertEqual(found.sums.keys(), pairs)
+        for (one, other), sums in found.sums.items():
+            products = [sum(a * b for a, b in zip(*rows)) for rows in zip(columns[one], columns[other])]
+            self.assertEqual(sums, products)
+        self.assertEqual([it.tolist() for it in found.chips], [it.tolist() for it in whole.chips])
+        self.assertEqual((found.seeds, list(found.made), found.seed), (whole.seeds, [300] * 5, whole.seed))
+        self.assertEqual(repr(found), "<Histograms: 5 chains, 1,500 drops>")
+
     def test_they_count_what_the_columns_have(self):
         for graph, options in [(GRID, {}), (LOOPS, {"chips": 9, "amounts": 2}), (GRID, {"on": [3], "workers": 2})]:
-            whole = chipfire.chains(graph, 5, 300, 4, **options)
+            whole = chipfire.chains(graph, 5, 300, 4, durations=True, **options)
+            self.assertTrue(any(map(any, whole.duration)))
             for part in (7, 64, 2**16):
-                with mock.patch.object(player, "PART", part):
-                    found = chipfire.chains(graph, 5, 300, 4, collect="histogram", **options)
-                columns = {name: [it.tolist() for it in getattr(whole, name)] for name in ("size", "extent", "lost")}
-                for name, rows in columns.items():
-                    self.assertEqual(getattr(found, name), [*map(Counter, rows)])
-                    self.assertEqual(found.total(name), dict(sorted(Counter(sum(rows, [])).items())))
-                for (one, other), sums in found.sums.items():
-                    products = [sum(a * b for a, b in zip(*rows)) for rows in zip(columns[one], columns[other])]
-                    self.assertEqual(sums, products)
-                self.assertEqual([it.tolist() for it in found.chips], [it.tolist() for it in whole.chips])
-                self.assertEqual((found.seeds, list(found.made), found.seed), (whole.seeds, [300] * 5, whole.seed))
-        self.assertEqual((len(found.sums), repr(found)), (6, "<Histograms: 5 chains, 1,500 drops>"))
+                for timed in (False, True):
+                    with mock.patch.object(player, "PART", part):
+                        found = chipfire.chains(graph, 5, 300, 4, collect="histogram", durations=timed, **options)
+                    self.check_counts(found, whole, ("size", "extent", "lost", "duration")[: 3 + timed])
+
+    def test_durations_are_there_if_they_were_asked_for(self):
+        wanted = Counter(rounds for row in plays(durations=True).duration for rounds in row.tolist())
+        found = plays(collect="histogram", durations=True)
+        for name in ("durations", "duration"):
+            self.assertEqual([*found.total(name).items()], sorted(wanted.items()))
+            self.assertRaisesRegex(ValueError, f"and no '{name}'", plays(collect="histogram").total, name)
+        self.assertIsNone(plays(collect="histogram").duration)
+
+    def check_same(self, one, other):
+        """Both histograms have the same of everything."""
+        for name, value in vars(other).items():
+            rows = [[*map(list, it)] if name == "chips" else it for it in (getattr(one, name), value)]
+            first, second = (it.tolist() if hasattr(it, "tolist") else it for it in rows)
+            self.assertEqual(first, second, name)
 
     def test_they_add_up_and_come_from_executors(self):
-        asked = {"collect": "histogram"}
-        whole = vars(plays(**asked))
-        parts = [chipfire.chains(GRID, stop - start, 40, 5, first=start, **asked) for start, stop in ((0, 2), (2, 7))]
         with concurrent.futures.ProcessPoolExecutor(1, multiprocessing.get_context("spawn")) as executor:
-            found = [parts[0] + parts[1], plays(executor=executor, **asked)]
-        for its in map(vars, found):
-            for name, value in whole.items():
-                one, other = (it.tolist() if hasattr(it, "tolist") else it for it in (its[name], value))
-                self.assertEqual([*map(list, one)] if name == "chips" else one, [*map(list, other)] if name == "chips" else other)
+            for asked in ({"collect": "histogram"}, {"collect": "histogram", "durations": True}):
+                whole = plays(**asked)
+                parts = [chipfire.chains(GRID, stop - start, 40, 5, first=start, **asked) for start, stop in ((0, 2), (2, 7))]
+                found = [parts[0] + parts[1], sum(parts), plays(executor=executor, **asked)]
+                found += [plays(workers=workers, **asked) for workers in (1, 2, 7)]
+                with concurrent.futures.ThreadPoolExecutor(3) as threads:
+                    found.append(plays(executor=threads, **asked))
+                for its in found:
+                    self.check_same(its, whole)
+
+    def test_drops_beyond_all_memory_are_begun(self):
+        def stop(made, _):
+            if made:
+                raise KeyboardInterrupt
+
+        for amounts, timed in ((None, False), (2, False), (None, True)):
+            asked = {"amounts": amounts, "collect": "histogram", "durations": timed}
+            found = chipfire.chains(GRID, 1, 2**50, 5, progress=stop, partial=True, **asked)
+            self.assertTrue(0 < found.made[0] < 2**50)
+            same = chipfire.chains(GRID, 1, int(found.made[0]), 5, **asked)
+            self.check_same(found, same)
 
     @unittest.skipUnless(has("numpy"), "NumPy is not here")
     def test_a_file_has_all_of_them(self):
-        whole = plays(collect="histogram")
+        for asked in ({"collect": "histogram"}, {"collect": "histogram", "durations": True}):
+            whole = plays(**asked)
+            with tempfile.TemporaryDirectory() as folder:
+                file = f"{folder}/all.npz"
+                whole.save(file)
+                found = chipfire.Histograms.load(file)
+                self.assertRaisesRegex(ValueError, "has Histograms of chipfire, and no Chains", chipfire.Chains.load, file)
+                parts = sum(chipfire.chains(GRID, 1, 40, 5, first=it, **asked) for it in range(7))
+                parts.save(file)
+                again = chipfire.Histograms.load(file)
+            self.check_same(found, whole)
+            self.check_same(again, whole)
+
+    @unittest.skipUnless(has("numpy"), "NumPy is not here")
+    def test_a_file_without_durations_has_nothing_of_them(self):
+        import numpy
+
+        columns = {f"{name}_{it}" for name in ("size", "extent", "lost") for it in ("lengths", "values", "counts")}
+        timed = {f"duration_{it}" for it in ("lengths", "values", "counts")}
         with tempfile.TemporaryDirectory() as folder:
-            whole.save(f"{folder}/all.npz")
-            found = chipfire.Histograms.load(f"{folder}/all.npz")
-            self.assertRaisesRegex(ValueError, "has Histograms of chipfire, and no Chains", chipfire.Chains.load, f"{folder}/all.npz")
-            parts = sum(chipfire.chains(GRID, 1, 40, 5, first=it, collect="histogram") for it in range(7))
-            parts.save(f"{folder}/all.npz")
-            again = chipfire.Histograms.load(f"{folder}/all.npz")
-        for its in map(vars, (found, again)):
-            for name, value in vars(whole).items():
-                one, other = (it.tolist() if hasattr(it, "tolist") else it for it in (its[name], value))
-                self.assertEqual(one, other, name)
+            file = f"{folder}/all.npz"
+            plays(collect="histogram").save(file)
+            with numpy.load(file) as parts:
+                self.assertEqual({*parts.files}, {"header", "made", "chips", *columns})
+            plays(collect="histogram", durations=True).save(file)
+            with numpy.load(file) as parts:
+                self.assertEqual({*parts.files}, {"header", "made", "chips", *columns, *timed})
+                arrays = {name: parts[name] for name in parts.files}
+            broken = [("the histograms of duration are not", {**arrays, "duration_lengths": arrays["duration_lengths"][1:]}),
+                      ("the chains differ", {name: it for name, it in arrays.items() if name not in timed})]
+            for words, its in broken:
+                numpy.savez(file, **its)
+                self.assertRaisesRegex(ValueError, words, chipfire.Histograms.load, file)
 
     def test_what_is_refused(self):
         for words, options in [("no 'rows'", {"collect": "rows"}), ("goes with none", {"collect": "histogram", "fired": True}),
@@ -696,10 +766,19 @@ class Histograms(unittest.TestCase):
         with self.assertRaisesRegex(ValueError, "as many vertices"):
             plays(collect="histogram") + chipfire.chains(chipfire.grid(2, 2), 1, 1, 1, collect="histogram")
 
+    def test_sums_of_those_with_durations_and_without_are_refused(self):
+        one, other = (
+            chipfire.chains(GRID, 2, 40, 5, first=first, collect="histogram", durations=timed)
+            for first, timed in ((0, True), (2, False))
+        )
+        for parts in ([one, other], [other, one]):
+            with self.assertRaisesRegex(ValueError, "histograms add up that all have durations, or none of them has"):
+                sum(parts)
+
     @unittest.skipUnless(has("numpy"), "NumPy is not here")
     def test_their_moments_are_those_of_the_columns(self):
-        one, other = plays(), plays(collect="histogram")
-        for of in ("size", "extent", "lost"):
+        one, other = plays(durations=True), plays(collect="histogram", durations=True)
+        for of in ("size", "extent", "lost", "duration"):
             for a, b in zip(chipfire.moments(one, of), chipfire.moments(other, of)):
                 self.assertLess(abs(a - b).max(), 1e-9 * abs(a).max())
 

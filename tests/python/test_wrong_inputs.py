@@ -106,6 +106,8 @@ CALLS = [
     (lambda: chipfire.power_law(None), TypeError, "sizes come one by one, or as a histogram, and not None"),
     (lambda: chipfire.power_law([1, 2, 10**12]), ValueError, "the greatest size is above 10000000: 1000000000000"),
     (lambda: chipfire.power_law([3, 4], 3, 10**9), ValueError, "the greatest size is above 10000002: 1000000000"),
+    (lambda: chipfire.chains(GRID, 2, 9, 1, collect="histogram", until="loss"), ValueError,
+     "a histogram goes with none of fired, until and checkpoint"),
     (lambda: explain(999), chipfire.Fault, "it does not take the word `999`"),
     (lambda: Setting({0: 4}, TRIANGLE), TypeError, "the graph of a setting is a chipfire.Graph, and not of dict"),
     (lambda: Setting(TRIANGLE, {7: 4}), KeyError, "the graph has no vertex 7"),

@@ -23,8 +23,8 @@ from chipfire.utils import import_optional, require_memory
 def burning_script(graph: AnyGraph, *, program: AnyProgram = None) -> Configuration:
     """Returns the least burning script: how often each vertex fires when a recurrent configuration burns.
 
-    The script fires each vertex at least once, and leaves none with more chips than before. On an undirected graph
-    each vertex fires exactly once.
+    The script fires each vertex but the sink at least once, and leaves none of these with more chips than before. On
+    an undirected graph each of them fires exactly once.
 
     Parameters
     ----------

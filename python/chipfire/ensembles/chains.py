@@ -17,7 +17,7 @@ from chipfire.ensembles import archive
 from chipfire.ensembles.checkpoint import opened
 from chipfire.ensembles.drops import column_of, COLUMNS, histogram_of
 from chipfire.ensembles.firings import Firings, firings, firings_of, stored
-from chipfire.ensembles.histograms import following, Histograms, joined, sums_by_name
+from chipfire.ensembles.histograms import following, Histograms, histograms, joined
 from chipfire.ensembles.player import places_of, Plan, spanning, table_of
 from chipfire.ensembles.power_law import sizes_figure
 from chipfire.ensembles.spread import Spread
@@ -233,6 +233,7 @@ def chains(
     amounts: Any = ...,
     workers: int | None = ...,
     executor: Executor | None = ...,
+    durations: bool = ...,
     collect: Literal["histogram"],
     progress: AnyProgress = ...,
     partial: bool = ...,
@@ -299,8 +300,8 @@ def chains(
         Ends a chain with the first drop that loses a chip to the sink, or whose firings touch two opposite borders of
         a grid of two directions. This takes NumPy. "spans" does not know which borders are joined.
     collect : {"columns", "histogram"}, optional
-        Whether to return a number for each drop, or histograms alone, which take no memory for drops but their
-        amounts. Histograms go with none of `fired`, `durations`, `until` and `checkpoint`.
+        Whether to return a number for each drop, or histograms alone, whose memory does not grow with the drops, unless
+        `amounts` has a number for each. Histograms go with none of `fired`, `until` and `checkpoint`.
     progress : bool or callable, optional
         True shows progress by tqdm or in lines. A function is called with the number of drops made and of all. In the
         end all are said to be made, those too that `until` has left out.
@@ -346,7 +347,7 @@ def chains(
     known = known_graph(graph)
     n = as_int(n, "the number of chains", 1)
     drops = as_int(drops, "the number of drops")
-    is_counted = _is_counted(collect, until or fired or durations or checkpoint)
+    is_counted = _is_counted(collect, until or fired or checkpoint)
     of_drops = 0 if is_counted else (24 + 8 * bool(durations)) * drops
     require_memory(n * (of_drops + 16 * known.vertices), f"{n:,} chains of {drops:,} drops")
     _refuse_options(until, fired, workers, executor)
@@ -383,7 +384,7 @@ def _is_counted(collect: str, others: Any) -> bool:
     if collect not in ("columns", "histogram"):
         raise ValueError(f"chains collect 'columns' or a 'histogram', and no {collect!r}")
     if collect == "histogram" and others:
-        raise ValueError("a histogram goes with none of fired, durations, until and checkpoint")
+        raise ValueError("a histogram goes with none of fired, until and checkpoint")
     return collect == "histogram"
 
 
@@ -413,13 +414,13 @@ def _threads(n: int, workers: int | None) -> int:
     return min(n, as_int(workers, "workers", 1, 64))
 
 
-def _amounts(amounts: Any, drops: int) -> array[int]:
-    """How many chips each drop has."""
+def _amounts(amounts: Any, drops: int) -> array[int] | int:
+    """How many chips each drop has; one number, if all have as many."""
     if amounts is None:
-        return array("Q", [1]) * drops
+        return 1
     found = in_order(amounts, "the amounts of drops are one for all, or one for each drop")
     if not isinstance(found, Sequence):
-        return array("Q", [as_int(found, "the number of chips of a drop", 0, MAX_CHIPS)]) * drops
+        return as_int(found, "the number of chips of a drop", 0, MAX_CHIPS)
     many = as_ints(found, lambda drop: f"the number of chips of drop {drop}", 0, MAX_CHIPS)
     if len(many) != drops:
         raise ValueError(
@@ -460,10 +461,7 @@ def _result(plan: Plan, table: Any) -> Chains | Histograms:
     made = numpy.frombuffer(table.made, "q") if numpy else array("q", table.made)
     chips = _by_rows(numpy, chips, plan.n)
     if plan.counted:
-        size, extent, lost = ([*its] for its in zip(*table.counts))
-        sums = sums_by_name(table.sums)
-        told = (plan.seed, plan.first)
-        return Histograms(plan.seeds, size, extent, lost, sums, made, chips, *told)
+        return histograms(plan, table, made, chips)
     size, extent, lost, *timed = (_by_rows(numpy, it, plan.n) for it in table.columns)
     fired = firings(plan.graph, table.columns[1], table.taken()) if plan.fired else None
     duration = timed[0] if timed else None

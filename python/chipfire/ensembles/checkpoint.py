@@ -48,7 +48,7 @@ def _said(plan: Plan) -> dict[str, str]:
         "seed": repr(plan.seed),
         "drops": plan.drops,
         "on": [_digest(plan.places.vertices), plan.places.weights],
-        "amounts": _digest(plan.amounts),
+        "amounts": _digest(plan.amounts_of(0, plan.drops)),
         "chips": None if starts is None else _digest(starts),
         "until": plan.until,
         "fired": plan.fired,
@@ -169,7 +169,7 @@ def _fired(extents: array[int], columns: list[bytes]) -> tuple[Any, Any]:
     is_one_each = len(drops) == len(vertices) == len(counts)
     if not is_one_each or not numpy.array_equal(drops, drops_of(extents)):
         raise ValueError("what fired is not that of these drops")
-    return ordered(numpy.frombuffer(extents, "i8"), vertices, counts)
+    return joined([(0, ordered(numpy.frombuffer(extents, "i8"), vertices, counts))])
 
 
 @contextlib.contextmanager

@@ -32,8 +32,9 @@ from chipfire.utils import (
 )
 
 ROWS_HEADER = "vertex,chips,size,extent,lost\n"
-#: The numbers of each drop.
+#: The numbers of each drop, and those that it has if its duration is asked for.
 COLUMNS = ("size", "extent", "lost")
+TIMED_COLUMNS = (*COLUMNS, "duration")
 
 #: How many drops become text at a time, and how many bytes of rows become numbers.
 PART = 2**16
@@ -182,8 +183,10 @@ def _drops_of(said: dict[str, Any], arrays: dict[str, Any]) -> Drops:
 
 
 def column_of(found: Any, of: str) -> Any:
-    """A column of what drops, chains or histograms found. A `duration` is there if it was asked for."""
-    column = getattr(found, of, None) if of in (*COLUMNS, "area", "duration") else None
+    """A column of what drops, chains or histograms found. A `duration` is there if it was asked for; it has the name of
+    that option too, `durations`."""
+    name = "duration" if of == "durations" else of
+    column = getattr(found, name, None) if name in (*TIMED_COLUMNS, "area") else None
     if column is None:
         raise ValueError(f"a drop has a 'size', an 'area' ('extent') and 'lost', and no {of!r}")
     return column

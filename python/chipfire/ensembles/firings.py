@@ -15,8 +15,9 @@ from chipfire.utils import import_optional, numpy_in_use
 #: How many vertices that fire a call has room for at least.
 _ROOM = 2**18
 
-#: How many of them are put in order at a time, about: so many as a processor's cache holds with all that this takes.
-_NEAR = 2**14
+#: How large the drops are that are put in order at a time, about. The size of a drop is how many numbers lie between its least
+#: vertex and its greatest one, and at most this many for each vertex that fires.
+_NEAR, _APART = 2**15, 2**4
 
 #: What drops fire, in parts: the vertices, those of each drop in their order, and how often each fired.
 Parts = list[tuple[Any, Any]]
@@ -191,14 +192,7 @@ class Room:
         self.last = vertices[ends[-2] if len(ends) > 1 else 0 : ends[-1]]
         if not self._is_kept:
             return
-        lengths = numpy.diff(ends, prepend=0)
-        at = start = 0
-        for cut in _cuts(numpy, ends, lengths):
-            stop = int(ends[cut - 1])
-            if start < stop:
-                part = slice(start, stop)
-                self._parts.append(ordered(lengths[at:cut], vertices[part], times[part]))
-            at, start = cut, stop
+        self._parts += ordered(numpy.diff(ends, prepend=0), vertices[: ends[-1]], times)
 
     def add_counts(self, counts: Sequence[int]) -> None:
         """Takes what one drop fires, as the count of each vertex."""
@@ -224,22 +218,34 @@ def joined(pieces: Sequence[Piece]) -> tuple[Any, Any]:
     return vertices, counts
 
 
-def _cuts(numpy: Any, ends: Any, lengths: Any) -> Any:
-    """How many drops come before the end of each part that is put in order at a time. A drop that fires many vertices is a part
-    of its own, since alone they are in order sooner."""
-    is_last = numpy.diff((ends - lengths) // _NEAR, append=-1) != 0
-    is_last[:-1] |= lengths[1:] >= _NEAR
-    return (numpy.flatnonzero(is_last) + 1).tolist()
-
-
-def ordered(extents: Any, vertices: Any, times: Any) -> tuple[Any, Any]:
-    """What drops with these extents fire: the vertices of each drop in the order of their numbers, and how often they do."""
+def ordered(extents: Any, vertices: Any, times: Any) -> Parts:
+    """What drops with these extents fire, in parts: the vertices of each drop in the order of their numbers, and how often
+    they do."""
     numpy = import_optional("numpy")
-    width = int(vertices.max(initial=0)) + 1
-    places = numpy.repeat(numpy.arange(len(extents)) * width, extents)
-    places += vertices
-    order = _order(numpy, places, len(extents) * width)
-    return vertices.astype("i4")[order], times[order]
+    extents = extents[extents > 0]
+    ends = numpy.cumsum(extents)
+    least = numpy.minimum.reduceat(vertices, ends - extents)
+    spans = numpy.maximum.reduceat(vertices, ends - extents) - least + 1
+    found = []
+    start = at = 0
+    for cut in _cuts(numpy, spans, extents):
+        some, part = slice(start, cut), slice(at, ends[cut - 1])
+        ahead = numpy.cumsum(spans[some])
+        places = numpy.repeat(ahead - spans[some] - least[some], extents[some]) + vertices[part]
+        order = _order(numpy, places, int(ahead[-1]))
+        found.append((vertices[part].astype("i4")[order], times[part][order]))
+        start, at = cut, part.stop
+    return found
+
+
+def _cuts(numpy: Any, spans: Any, extents: Any) -> Any:
+    """How many drops come before the end of each part that is put in order at a time. Its places have 16 bits, if the vertices
+    of each drop have numbers near to each other."""
+    sizes = numpy.minimum(spans, _APART * extents)
+    starts = numpy.cumsum(sizes) - sizes
+    is_last = numpy.diff(starts // _NEAR, append=-1) != 0
+    is_last[:-1] |= sizes[1:] >= _NEAR
+    return (numpy.flatnonzero(is_last) + 1).tolist()
 
 
 def _order(numpy: Any, numbers: Any, most: int) -> Any:

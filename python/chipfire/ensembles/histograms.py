@@ -9,8 +9,8 @@ from dataclasses import dataclass
 from typing import Any
 
 from chipfire.ensembles import archive
-from chipfire.ensembles.drops import COLUMNS, column_of
-from chipfire.ensembles.player import PAIRS
+from chipfire.ensembles.drops import column_of, COLUMNS, TIMED_COLUMNS
+from chipfire.ensembles.player import pairs_of, Plan, Tally
 from chipfire.utils import as_int, FileName, import_optional, WithArea
 
 
@@ -38,6 +38,8 @@ class Histograms(WithArea):
         The seed from which `chains` plays the same again; None of chains of several seeds.
     first : int
         The number of the first chain of that seed.
+    duration : list of Counter or None
+        For each chain how many drops last for each number of rounds, if durations were asked for. `sums` have them too.
 
     See Also
     --------
@@ -63,6 +65,7 @@ class Histograms(WithArea):
     chips: Any
     seed: int | float | str | bytes | None = None
     first: int = 0
+    duration: list[Counter[int]] | None = None
 
     def __repr__(self) -> str:
         return f"<Histograms: {len(self.seeds)} chains, {sum(map(int, self.made)):,} drops>"
@@ -72,7 +75,9 @@ class Histograms(WithArea):
             return NotImplemented
         if len(self.chips[0]) != len(other.chips[0]):
             raise ValueError("chains add up that have as many vertices")
-        names = (*COLUMNS, "made", "chips")
+        if (self.duration is None) != (other.duration is None):
+            raise ValueError("histograms add up that all have durations, or none of them has")
+        names = (*self._names(), "made", "chips")
         columns = {name: joined(getattr(self, name), getattr(other, name)) for name in names}
         sums = {pair: [*its, *other.sums[pair]] for pair, its in self.sums.items()}
         return Histograms(**columns, sums=sums, **following(self, other))
@@ -87,7 +92,7 @@ class Histograms(WithArea):
         """Writes all of it to a file of arrays (``.npz``) of NumPy, which `Histograms.load` reads, as `Drops.save` does."""
         numpy = archive.numpy_of_files()
         arrays = {name: numpy.array(getattr(self, name), "i8") for name in ("made", "chips")}
-        for name in COLUMNS:
+        for name in self._names():
             arrays |= _arrays_of(name, getattr(self, name))
         sums = [[*map(int, self.sums[pair])] for pair in sorted(self.sums)]
         seed = archive.plain(self.seed, "the seed")
@@ -100,11 +105,16 @@ class Histograms(WithArea):
         return archive.load(file, "Histograms", _histograms_of)
 
     def total(self, of: str = "size") -> dict[int, int]:
-        """How many drops of all chains have each size that occurs, ascending; or each `area`, or `lost`."""
+        """How many drops of all chains have each size that occurs, ascending; or each `area`, `lost`, or `duration`, which
+        is also named `durations`, as the option is."""
         counts: Counter[int] = Counter()
         for its in column_of(self, of):
             counts.update(its)
         return dict(sorted(counts.items()))
+
+    def _names(self) -> tuple[str, ...]:
+        """The names of the columns that are there."""
+        return COLUMNS if self.duration is None else TIMED_COLUMNS
 
 
 def _arrays_of(name: str, histograms: Sequence[Counter[int]]) -> dict[str, Any]:
@@ -135,17 +145,20 @@ def _histograms_of(said: dict[str, Any], arrays: dict[str, Any]) -> Histograms:
     """The histograms of what `Histograms.save` wrote."""
     seeds = tuple(said["seeds"])
     made, chips = archive.whole(arrays["made"]), archive.whole(arrays["chips"], 2)
-    columns = {name: _counters_of(name, arrays, len(seeds)) for name in COLUMNS}
+    column_names = TIMED_COLUMNS if "duration_lengths" in arrays else COLUMNS
+    columns: dict[str, Any] = {
+        name: _counters_of(name, arrays, len(seeds)) for name in column_names
+    }
     sums = [[as_int(it, "a sum") for it in row] for row in said["sums"]]
-    if {len(made), len(chips), *map(len, sums)} != {len(seeds)} or len(sums) != len(PAIRS):
+    pairs = sorted(pairs_of(column_names))
+    if {len(made), len(chips), *map(len, sums)} != {len(seeds)} or len(sums) != len(pairs):
         raise ValueError("the chains differ in their numbers")
-    names = sorted(sums_by_name([[0] * len(PAIRS)]))
     first = as_int(said["first"], "the number of the first chain")
     seed = archive.value_of(said["seed"])
     return Histograms(
         seeds,
         **columns,
-        sums=dict(zip(names, sums)),
+        sums=dict(zip(pairs, sums)),
         made=made,
         chips=chips,
         seed=seed,
@@ -153,10 +166,14 @@ def _histograms_of(said: dict[str, Any], arrays: dict[str, Any]) -> Histograms:
     )
 
 
-def sums_by_name(sums: Sequence[Sequence[int]]) -> dict[tuple[str, str], list[int]]:
-    """The sums of each chain, by the names of both columns."""
-    names = [(COLUMNS[one], COLUMNS[other]) for one, other in PAIRS]
-    return {name: [its[place] for its in sums] for place, name in enumerate(names)}
+def histograms(plan: Plan, tally: Tally, made: Any, chips: Any) -> Histograms:
+    """The histograms of a tally, whose chains made so many drops, and have these chips with those of loops."""
+    names = TIMED_COLUMNS if plan.timed else COLUMNS
+    size, extent, lost, *timed = ([*its] for its in zip(*tally.counts))
+    sums = {pair: [its[at] for its in tally.sums] for at, pair in enumerate(pairs_of(names))}
+    duration = timed[0] if timed else None
+    told = (plan.seed, plan.first, duration)
+    return Histograms(plan.seeds, size, extent, lost, sums, made, chips, *told)
 
 
 def joined(one: Any, other: Any) -> Any:

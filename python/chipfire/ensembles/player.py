@@ -9,14 +9,14 @@ import random
 import threading
 from array import array
 from collections import Counter
-from collections.abc import Iterator, Mapping
+from collections.abc import Iterator, Mapping, Sequence
 from dataclasses import dataclass, field, replace
-from typing import Any, Union
+from typing import Any, TypeVar, Union
 
 from chipfire.backend import kept, library
 from chipfire.backend.portions import Stopped
 from chipfire.backend.process import refused
-from chipfire.ensembles.drops import COLUMNS, in_calls, names_of, PART
+from chipfire.ensembles.drops import COLUMNS, in_calls, names_of, PART, TIMED_COLUMNS
 from chipfire.ensembles.firings import (
     ends_inside,
     ends_run,
@@ -31,6 +31,7 @@ from chipfire.ensembles.wilson import recurrent_rows
 from chipfire.graphs.graph import Graph
 from chipfire.utils import import_optional, MAX_LIMIT
 
+T = TypeVar("T")
 
 #: How many drops are drawn first of a chain that may end with any of them.
 _FEW = 2**10
@@ -89,7 +90,7 @@ class Plan:
 
     drops    how many drops each makes at most
     places   where chips fall
-    amounts  how many chips each drop has
+    amounts  how many chips each drop has: one number if all have as many
     starts   the stable chips from which chains begin, by numbers and without those of loops, one chain after another;
              None if each begins with a random recurrent configuration
     until    after which drop a chain ends: "loss", "spans" or None
@@ -104,7 +105,7 @@ class Plan:
     n: int
     drops: int
     places: Places
-    amounts: array[int]
+    amounts: array[int] | int
     starts: array[int] | None = None
     until: str | None = None
     fired: bool = False
@@ -116,6 +117,12 @@ class Plan:
         """The seed of each chain."""
         seed = str(self.seed)
         return tuple(f"{seed} {self.first + chain}" for chain in range(self.n))
+
+    def amounts_of(self, start: int, stop: int) -> array[int]:
+        """How many chips these drops have."""
+        if isinstance(self.amounts, int):
+            return array("Q", [self.amounts]) * (stop - start)
+        return self.amounts[start:stop]
 
     def part(self, start: int, stop: int) -> Plan:
         """The chains in these places."""
@@ -200,8 +207,8 @@ class Table:
 class Tally:
     """Histograms of chains, and what lies there at their end.
 
-    counts  of each chain and column, how many drops have each number
-    sums    of each chain, the sums of the products of two columns, as `PAIRS` has them
+    counts  of each chain and column, how many drops have each number; the durations are the last, if they are asked for
+    sums    of each chain, the sums of the products of two columns, as `pairs_of` has them
     made    how many drops each chain made
     chips   what lies on each vertex, without the chips of loops
     """
@@ -216,10 +223,11 @@ class Tally:
     def of(cls, plan: Plan) -> Tally:
         """A tally for a plan, in which no drop is made."""
         width = plan.graph.vertices
+        names = TIMED_COLUMNS if plan.timed else COLUMNS
         return cls(
             width,
-            [[Counter() for _ in COLUMNS] for _ in range(plan.n)],
-            [[0 for _ in PAIRS] for _ in range(plan.n)],
+            [[Counter() for _ in names] for _ in range(plan.n)],
+            [[0 for _ in pairs_of(names)] for _ in range(plan.n)],
             _zeros(plan.n),
             _zeros(plan.n * width),
         )
@@ -236,7 +244,7 @@ class Tally:
 
     def rows(self, chain: int, start: int, stop: int) -> list[Any]:
         """Where the numbers of drops stand until they are counted, by columns."""
-        return [_zeros(stop - start) for _ in COLUMNS]
+        return [_zeros(stop - start) for _ in self.counts[chain]]
 
     def add(self, chain: int, rows: list[Any], made: int) -> None:
         """Counts the first drops whose numbers stand in rows, which are made."""
@@ -244,8 +252,8 @@ class Tally:
         columns = [row[:made].tolist() for row in rows]
         for counts, column in zip(self.counts[chain], columns):
             counts.update(column)
-        for place, (one, other) in enumerate(PAIRS):
-            products = map(operator.mul, columns[one], columns[other])
+        for place, (one, other) in enumerate(pairs_of(columns)):
+            products = map(operator.mul, one, other)
             self.sums[chain][place] += sum(products)
 
     def put(self, start: int, stop: int, other: Tally) -> None:
@@ -257,8 +265,10 @@ class Tally:
         _copy(part.chips, other.chips)
 
 
-#: The pairs of columns whose products are added up.
-PAIRS = [*itertools.combinations_with_replacement(range(len(COLUMNS)), 2)]
+def pairs_of(columns: Sequence[T]) -> list[tuple[T, T]]:
+    """The pairs of columns, or of their names, whose products are added up."""
+    pairs = itertools.combinations_with_replacement(columns, 2)
+    return [(one, other) for one, other in pairs]
 
 
 def _copy(numbers: Any, given: Any) -> None:
@@ -392,7 +402,7 @@ class _Player:
         self._begin(chain)
         for start, stop in _stretches(self.plan):
             rows = self.table.rows(chain, start, stop)
-            made = self._drops(pile, self.plan.amounts[start:stop], rows)
+            made = self._drops(pile, self.plan.amounts_of(start, stop), rows)
             self.table.add(chain, rows, made)
             if made < stop - start or self.is_over:
                 break

@@ -3,10 +3,8 @@
 from __future__ import annotations
 
 import itertools
-import secrets
 from array import array
 from bisect import bisect
-from collections import Counter
 from collections.abc import Sequence
 from typing import Any, overload
 
@@ -16,10 +14,13 @@ from chipfire.backend.portions import Portions
 from chipfire.configurations.configuration import Configuration
 from chipfire.graphs.graph import Graph
 from chipfire.progress import AnyProgress, Progress
-from chipfire.utils import as_int, numpy_in_use, random_generator, require_memory
+from chipfire.utils import as_int, import_optional, numpy_in_use, random_generator, require_memory
 
 #: Of each vertex the heads of its edges, and how many chips one firing sends on the edges up to each of them.
 Outs = list[tuple[list[int], list[int]]]
+
+#: From how many edges on it saves time to import NumPy for them.
+_MANY_EDGES = 2**19
 
 #: Numbers have 64 bits.
 _MASK = 2**64 - 1
@@ -122,6 +123,7 @@ def recurrent_rows(
 
 def _drawn(graph: Graph, base: int, first: int, count: int) -> array[int]:
     """What the library would draw."""
+    graph.require()
     outs = _outs(graph)
     seeds = (_mixed(_mixed(base) + it & _MASK) for it in range(first, first + count))
     rows = (_left_by(outs, *_tree(graph.sink, outs, it)) for it in seeds)
@@ -132,41 +134,61 @@ def require_undirected(graph: Graph, remedy: str = "") -> None:
     """Refuses a graph with an edge that has none back, but for those to the sink, by the names of its ends, and says what
     helps."""
     if "no edge is one-way" not in graph.answers:
-        _compare_ways(graph, remedy)
+        edge = _first_one_way(graph)
+        if edge is not None:
+            graph.require()
+            raise ValueError(f"the graph is directed: {_ways_of(graph, edge)}{remedy}")
         graph.answers["no edge is one-way"] = True
 
 
-def _compare_ways(graph: Graph, remedy: str) -> None:
-    """Compares each edge with the one back."""
-    if _is_surely_undirected(graph):
-        return
-    graph.require()
-    mults: Counter[tuple[int, int]] = Counter()
+def _first_one_way(graph: Graph) -> int | None:
+    """The first edge between two vertices, none of them the sink, that send each other different numbers of chips. None if
+    there is no such edge; what is no graph to play on may have others."""
+    numpy = import_optional("numpy") if len(graph.columns.tails) >= _MANY_EDGES else numpy_in_use()
+    return _first_by_sort(numpy, graph) if numpy else _first_by_sums(graph)
+
+
+def _first_by_sort(numpy: Any, graph: Graph) -> int | None:
+    """The same, by NumPy: it sorts the edges by the vertices that they join."""
+    columns = [numpy.asarray(column) for column in graph.columns]
+    inside = numpy.flatnonzero(columns[1] != graph.sink)
+    tails, heads, mults = (column[inside] for column in columns)
+    pairs = numpy.minimum(tails, heads).astype("i8") << 32 | numpy.maximum(tails, heads)
+    order = numpy.argsort(pairs, kind="stable")
+    starts = numpy.flatnonzero(numpy.diff(pairs[order], prepend=-1))
+    sent = numpy.where(tails < heads, mults, -mults)[order]
+    more = numpy.add.reduceat(sent, starts, dtype="i8")
+    found = order[starts[more != 0]]
+    return int(inside[found.min()]) if len(found) else None
+
+
+def _first_by_sums(graph: Graph) -> int | None:
+    """The same, without NumPy."""
+    sink = graph.sink
+    #: How many chips more go from the lower vertex of a pair to the higher one than back, where that is not 0.
+    more: dict[int, int] = {}
     for tail, head, mult in zip(*graph.columns):
-        mults[tail, head] += mult
-    for (tail, head), mult in mults.items():
-        if head != graph.sink and mults[head, tail] != mult:
-            told = f"sends {mult} to {graph.names[head]!r} and gets {mults[head, tail]} back"
-            raise ValueError(f"the graph is directed: vertex {graph.names[tail]!r} {told}{remedy}")
+        if head != sink:
+            pair, sent = (tail << 32 | head, mult) if tail < head else (head << 32 | tail, -mult)
+            sent += more.pop(pair, 0)
+            if sent:
+                more[pair] = sent
+    if not more:
+        return None
+    pairs = (min(ends) << 32 | max(ends) for ends in zip(*graph.columns[:2]))
+    return next(edge for edge, pair in enumerate(pairs) if pair in more)
 
 
-def _is_surely_undirected(graph: Graph) -> bool:
-    """Whether NumPy is there and finds the graph undirected, by random numbers x and y of the vertices: then x A y and y A x
-    are equal for its matrix A, modulo 2^64, each time that they are drawn. If it is directed, they are so twice in turn
-    with a probability of 2^-40 at most."""
-    numpy = numpy_in_use() if graph.columns.tails else None
-    if not numpy:
-        return False
-    tails, heads, mults = (numpy.frombuffer(column, "i") for column in graph.columns)
-    if min(tails.min(), heads.min()) < 0 or max(tails.max(), heads.max()) >= graph.vertices:
-        return False
-    counted = mults.astype("u8") * (heads != graph.sink)
-    draws = numpy.random.default_rng(secrets.randbits(128))
-    for _ in range(2):
-        x, y = draws.integers(0, 2**64, (2, graph.vertices), "u8")
-        if (x[tails] * y[heads] * counted).sum() != (x[heads] * y[tails] * counted).sum():
-            return False
-    return True
+def _ways_of(graph: Graph, edge: int) -> str:
+    """How many chips the ends of an edge send each other, by their names."""
+    tails, heads, _ = graph.columns
+    ends = (tails[edge], heads[edge])
+    sent, got = (
+        sum(mult for tail, head, mult in zip(*graph.columns) if (tail, head) == way)
+        for way in (ends, ends[::-1])
+    )
+    tail, head = (graph.names[vertex] for vertex in ends)
+    return f"vertex {tail!r} sends {sent} to {head!r} and gets {got} back"
 
 
 def _outs(graph: Graph) -> Outs:

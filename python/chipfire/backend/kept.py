@@ -32,9 +32,11 @@ _NO_ROOM = (_NO_NUMBERS, _NO_NUMBERS, _NO_NUMBERS)
 #: How many visits the first portion of a play makes, and each at most.
 _FIRST_VISITS, _MOST_VISITS = 2**22, 2**40
 
-#: How many chips a drop has at most that is made in one call and not in portions, which costs passes over the graph; and
-#: how many on few vertices, times these. The first one on more vertices goes in portions, and one after a call that was long.
-_FEW_CHIPS, _LIGHT, _MANY_VERTICES = 2**8, 2**18, 2**10
+#: A drop has few chips if these are at most the first number, or the second one divided by the number of vertices.
+_FEW_CHIPS, _LIGHT = 2**8, 2**18
+
+#: On a graph with more vertices the first drop is made in portions, even one of few chips.
+_MANY_VERTICES = 2**10
 
 
 class Until(NamedTuple):
@@ -73,9 +75,13 @@ class KeptPile:
     freed when nothing refers to this object any more, by whatever thread finds that, or by `free`. One thread at a time
     may call it; who shares it has a lock. A call returns the number of a fault, or 0.
 
-    Plays go in portions, between which an interrupt is seen, and `between` is called with the pile. A drop of many chips
-    does so too: these are put there with all others, and what had fired before is kept here. The library then stops too
-    early sometimes, so it is asked once more with all chips from the beginning on."""
+    A play is made in portions. Between two of them an interrupt is seen, and `between` is called with the pile.
+
+    A drop is made in one call, which no interrupt ends, or in portions, which take passes over the graph. It is made in
+    portions if it has many chips, or if the drop before it was long. Then all chips are put on the library's pile, whose
+    counts begin with 0 again, and this object keeps the counts from before. Each vertex may fire as often as the highest
+    of these leaves of the limit. If that stops a play, all chips are played from the beginning on, with the whole limit.
+    """
 
     def __init__(self, found: Any, graph: Graph, chips: array[int], limit: int) -> None:
         self._found = found
@@ -89,9 +95,9 @@ class KeptPile:
         self._graph = weakref.ref(graph)
         self.vertices = graph.vertices
         self.between: Callable[[KeptPile], object] = nothing
-        #: How many chips a drop has at most that is made in one call.
+        #: The most chips with which the next drop is made in one call.
         self.light = 0
-        #: How often each vertex may fire in all, and how often it had before the library's pile got its chips.
+        #: How often each vertex may fire in all, and how often it had fired when the library's pile got its chips.
         self._limit = limit
         self._before: array[int] | None = None
         self._begin()
@@ -120,7 +126,8 @@ class KeptPile:
     def put(
         self, chips: array[int], limit: int | None = None, fired: array[int] | None = None
     ) -> int:
-        """Other chips in place of all that are there, of plays that have fired so much before; and another limit."""
+        """Puts other chips in place of all that are there, and sets the limit, if one is given. `fired` is how often each
+        vertex had fired before, which counts towards the limit."""
         limit = self._limit if limit is None else limit
         within = limit if fired is None else limit - max(fired)
         words = library.slice_of("chips", chips)
@@ -131,13 +138,15 @@ class KeptPile:
         return number
 
     def _begin(self) -> None:
-        """Nothing is known of the seconds that a drop takes."""
+        """Forgets how long drops took. On a small graph the next one is taken for a short one."""
         self.light = 0
         if self.vertices <= _MANY_VERTICES:
             self.note(1, 0)
 
     def note(self, drops: int, seconds: float) -> None:
-        """Has the next drop made in portions, or not, if one took so many seconds."""
+        """Decides how the next drop is made, by the seconds that so many drops took. If one took longer than a portion, the
+        next one is made in portions; else in one call, if it has few chips. Several drops decide nothing.
+        """
         if drops == 1:
             few = max(_LIGHT // max(self.vertices, 1), _FEW_CHIPS)
             self.light = 0 if seconds > PORTION else few
@@ -182,8 +191,8 @@ class KeptPile:
         return number
 
     def pour(self, vertex: int, amount: int) -> tuple[int, Sequence[int]]:
-        """A drop of many chips on a pile that is at its end, in portions; and how often each vertex fires. An interrupt leaves
-        the pile as it was before."""
+        """Makes a drop in portions, on a pile that is at its end. Returns the number of a fault, and how often each vertex
+        fires. An interrupt leaves the pile as it was before."""
         begun = time.monotonic()
         left, fired = self.chips(), self.fired()
         start = left[:]
@@ -202,8 +211,8 @@ class KeptPile:
         return number, more
 
     def is_before(self, vertex: int, amount: int) -> bool:
-        """Whether the pile is now as it was before this drop, and may make it again: the library's limit has stopped that, but
-        did not know of what had fired before. After an interrupt the pile is no more."""
+        """Whether a drop that the limit has stopped may be made again, since the library's pile lacked counts from before.
+        The pile is then as it was before the drop, and has all counts. An interrupt frees it."""
         if self._before is None:
             return False
         start = self._start()
@@ -215,7 +224,7 @@ class KeptPile:
             raise
 
     def _start(self) -> array[int]:
-        """All chips that were ever put there or dropped, where they were then."""
+        """All chips that were put there or dropped, each on its first vertex."""
         graph = self._graph()
         assert graph is not None
         return array("Q", graph.position_after(self.chips(), [-it for it in self.fired()]))
@@ -239,10 +248,11 @@ class KeptPile:
         room: Sequence[Any] = _NO_ROOM,
         until: Until = NEVER,
     ) -> tuple[int, int]:
-        """Many drops, each in one call, whose numbers go into the columns: size, extent and loss, and a duration if there is a
-        fourth. What they fire goes into the room, if there is some: the ends of each drop, and vertices and counts. How many
-        were made is fewer where the limit has stopped one, there is no more room for all vertices, or one ends the run.
-        """
+        """Makes many drops, none of them in portions. Returns the number of a fault, and how many were made, or its place.
+
+        Their numbers go into the columns: size, extent and loss, and the duration if there is a fourth. What they fire goes
+        into the room, if there is one: where each drop ends, the vertices, and their counts. Not all drops are made if the
+        limit stops one, if the room has no place for all vertices, or if a drop ends the run."""
         *three, duration = columns if len(columns) > 3 else (*columns, _NO_NUMBERS)
         drops, others = (
             [word for it in slices for word in library.slice_of("drops", it)]
@@ -274,7 +284,7 @@ class KeptPile:
 
 
 def _sums(counts: array[int], more: array[int]) -> array[int]:
-    """Counts with others."""
+    """The sum of two counts of each vertex."""
     numpy = numpy_in_use()
     if not numpy:
         return array("Q", map(operator.add, counts, more))
@@ -285,7 +295,7 @@ def _sums(counts: array[int], more: array[int]) -> array[int]:
 
 
 def _differences(counts: array[int], less: array[int]) -> array[int]:
-    """Counts less others, which are not higher."""
+    """The first count of each vertex less the second, which is not higher."""
     numpy = numpy_in_use()
     if not numpy:
         return array("Q", map(operator.sub, counts, less))
@@ -304,17 +314,23 @@ def take(graph: Graph, chips: array[int], limit: int) -> KeptPile | None:
 def taken(found: Any, graph: Graph, chips: array[int], limit: int) -> KeptPile:
     """A pile with these chips: the one that the graph keeps, if no other thread has it, or a new one. Chips that are none,
     and want of memory, are refused."""
-    kept: list[KeptPile] = graph.answers.setdefault("piles", [])
-    pile = None
-    with contextlib.suppress(IndexError):
-        pile = kept.pop()
-    if pile is None or not pile.is_own:
+    pile = _kept_by(graph)
+    if pile is None:
         return KeptPile(found, graph, chips, limit)
     number = pile.put(chips, limit)
     if number:
         give_back(graph, pile)
         raise refused(number, 0, graph)
     return pile
+
+
+def _kept_by(graph: Graph) -> KeptPile | None:
+    """The pile that the graph keeps, with any chips; None if it keeps none, or another thread has it."""
+    kept: list[KeptPile] = graph.answers.setdefault("piles", [])
+    with contextlib.suppress(IndexError):
+        pile = kept.pop()
+        return pile if pile.is_own else None
+    return None
 
 
 def give_back(graph: Graph, pile: KeptPile) -> None:
@@ -328,9 +344,10 @@ def give_back(graph: Graph, pile: KeptPile) -> None:
 def random_recurrents(graph: Graph, seed: int, first: int, count: int) -> array[int] | None:
     """So many random recurrent configurations of a seed, from the one with number `first` on, one after another; or None if
     there is no library."""
-    pile = take(graph, _no_chips(graph.vertices), 0)
-    if pile is None:
+    found = library.loaded()
+    if found is None:
         return None
+    pile = _kept_by(graph) or KeptPile(found, graph, _no_chips(graph.vertices), 0)
     chips = _no_chips(count * graph.vertices)
     try:
         number, place = pile.draw(seed, first, chips)

@@ -16,8 +16,8 @@ import time
 
 SECONDS = 60
 SHORT, LONG, ENDLESS = 5, 25, 40
-# The heap of which it is guessed for seconds how it ends: the side of its lattice, and its chips.
-SIDE, HEAP = 501, 400_000
+# The heap of which it is guessed for many seconds how it ends: the side of its lattice, and its chips.
+SIDE, HEAP = 801, 1_200_000
 # How many bytes the first piece of an input has that is read slowly, and how many seconds later the rest comes.
 FIRST, PAUSE = 7, 1.3
 READ = b"chipfire: progress: reading, %d bytes\n"

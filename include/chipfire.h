@@ -50,7 +50,7 @@ extern "C" {
 #endif
 
 /* The version of this header, and that of the library: 1000000 * major + 1000 * minor + patch. */
-#define CHIPFIRE_VERSION UINT64_C(11000)
+#define CHIPFIRE_VERSION UINT64_C(11001)
 uint64_t chipfire_version(void);
 
 /* What calls return: success, or a fault by its name in `chipfire explain`. */
@@ -293,8 +293,8 @@ uint64_t chipfire_pile_put(struct chipfire_pile *pile, uint64_t limit, const uin
 /* Plays on by about this number of visits of a vertex or an edge, unless the play has ended. *left gets 1 if the play
  * still has to end, else 0; on a fault it is unchanged. With one visit or more a vertex fires or the play ends, so
  * calls in a loop reach the end, and UINT64_MAX visits are a whole play. Between two portions chips and counts are
- * those the play has reached, and counts only rise. A portion exceeds its visits if one step does: a search for counts
- * makes steps of some 30 visits of each vertex and edge. */
+ * those the play has reached, and counts only rise. A portion makes at most 161 visits of each vertex and edge more
+ * than that: a search for counts begins with up to 160. */
 uint64_t chipfire_pile_play(struct chipfire_pile *pile, uint64_t visits, uint64_t *left);
 
 /* Plays to the end, drops amount chips on a vertex, and plays to the end again. The three numbers are those of

@@ -26,7 +26,7 @@ SYSTEM = "/usr/bin/python3"
 MARK = "\0"
 COMPILER = re.compile(r"^(?:.*&& )?(gcc|g\+\+|go|rustc) ", re.MULTILINE)
 #: What a page says of where its commands are run.
-PLACE = "at the top of the repository"
+PLACE = "in the repository's top folder"
 #: The line of a first start.
 FIRST = re.compile(r"chipfire: the program comes from release/: .*\n")
 

@@ -241,7 +241,7 @@ impl Play<'_> {
 
     /// Lets the search make more visits before the play's next turn if the play is still far from its end, on an
     /// undirected graph: as many as the play needs if chips come to rest no faster than since it was judged last, but at
-    /// most twice as many as it has made. Whether it may make more.
+    /// most five times as many as it has made. Whether it may make more.
     fn judge(&self, searching: &mut Searching) -> bool
         requires { IsSearching self.now.game self.now.fired searching.old }
         ensures searching { IsSearching self.now.game self.now.fired searching.new }
@@ -257,7 +257,7 @@ impl Play<'_> {
         let needed = made.saturating_mul(waits) / less;
         let played = searching.alone.saturating_add(searching.beside);
         let most = visits_at_all(self.game.graph()).saturating_mul(MOST_AHEAD);
-        let more = needed.min(played.saturating_mul(2)).min(most);
+        let more = needed.min(played.saturating_mul(5)).min(most);
         let may_more = more > searching.ahead;
         searching.ahead = searching.ahead.max(more);
         searching.judged = searching.beside;

@@ -14,7 +14,7 @@ pub(crate) const MOST_AHEAD: u64 = 16384;
 pub(crate) const TURN: u64 = 4;
 
 /// Which part of its visits the play makes at least in a turn, so that turns grow with the play: ring-one-way.
-pub(crate) const PART_OF_TURN: u64 = 4;
+pub(crate) const PART_OF_TURN: u64 = 8;
 
 /// How many visits one in a work list counts for on a graph that no cache holds, since it lies anywhere: peak-511.
 pub(crate) const VISITS_OF_LISTED: u64 = 4;

@@ -93,15 +93,15 @@ static inline const char *chipfire_strerror(uint64_t status)
     case CHIPFIRE_FAULT_START_LENGTH: return "the chips are not one number for each vertex";
     case CHIPFIRE_FAULT_TOTAL: return "there are more than 1099511627776 chips in all";
     case CHIPFIRE_FAULT_LIMIT: return "the firing limit is above 1099511627776";
-    case CHIPFIRE_FAULT_LENGTHS: return "slices that belong together have other lengths";
+    case CHIPFIRE_FAULT_LENGTHS: return "slices that belong together have different lengths";
     case CHIPFIRE_FAULT_STOPPED: return "the limit stopped the play";
     case CHIPFIRE_FAULT_NO_PILE: return "there is no pile";
     case CHIPFIRE_FAULT_VERTEX: return "the drop falls on no vertex";
-    case CHIPFIRE_FAULT_BOOKS: return "no such edge, a count is too high, or the books of the part are not sound";
+    case CHIPFIRE_FAULT_BOOKS: return "no such edge, a count is too high, or the books of the process are not sound";
     case CHIPFIRE_FAULT_NOT_YET: return "not all of these messages may be acknowledged yet";
     case CHIPFIRE_FAULT_DIFFERS: return "what was claimed is not how the game ends";
     case CHIPFIRE_FAULT_NO_MEMORY: return "memory ran out";
-    default: return "no call answers this status";
+    default: return "no call returns this status";
     }
 }
 

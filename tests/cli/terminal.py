@@ -25,13 +25,13 @@ FILES = {
     "report.json": '{"chips":[4],"closed":true,"fired":[0],"over":[],"sealed":[],"version":1}\n',
     "played.json": '{"chips":[2,1,1],"closed":true,"fired":[1,0,0],"over":[],"sealed":[],"version":1}\n',
 }
-NUMBER = "fault 25 Number i: a field of row i is no number"
+NUMBER = "fault 25 Number i: a field of row i is not a number"
 # For each command the fault, and the lines below it, without the one that names `explain`.
 BELOW = {
     "plain graph.json words.csv": ("25 Number 1", ["in words.csv: row 1, which is line 3 if no line is empty", NUMBER]),
-    "plain words.csv chips.csv": ("20 NotJson", ["in words.csv", "fault 20 NotJson: the graph file is no JSON"]),
+    "plain words.csv chips.csv": ("20 NotJson", ["in words.csv", "fault 20 NotJson: the graph file is not JSON"]),
     "avalanches graph.json chips.csv short.csv":
-        ("24 Row 0", ["in short.csv: row 0, which is line 2 if no line is empty", "fault 24 Row i: row i has not as many fields as the header"]),
+        ("24 Row 0", ["in short.csv: row 0, which is line 2 if no line is empty", "fault 24 Row i: row i has fewer or more fields than the header"]),
     "plain graph.json beyond.csv":
         ("26 Vertex 2", ["in beyond.csv: row 2, which is line 4 if no line is empty", "fault 26 Vertex i: row i names a vertex, an edge, a process or a channel that does not exist"]),
     "plain graph.json chips.csv --guess twice.csv":
@@ -39,7 +39,7 @@ BELOW = {
     "plain graph.json .": ("29 Read", ["in .", "fault 29 Read: a file could be opened, but not read"]),
     "check far.json": ("8 Unreached 0", ["in far.json", "fault 8 Unreached v: no walk leads from vertex v to the sink"]),
     "plain graph.json far.csv": ("92 Open 2", ["in far.csv", "fault 92 Open n: the file that argument n names could not be opened"]),
-    "plain - chips.csv": ("20 NotJson", ["in -", "fault 20 NotJson: the graph file is no JSON"]),
+    "plain - chips.csv": ("20 NotJson", ["in -", "fault 20 NotJson: the graph file is not JSON"]),
     "run graph.json none.csv --feed words.csv":
         ("25 Number 1", ["in words.csv: row 1, which is line 3 if no line is empty", NUMBER]),
     "run graph.json none.csv --trace chips.csv --feed chips.csv":

@@ -91,7 +91,7 @@ class Explained(Room):
             file.write(lines)
         self.runs("gcc", "-std=c11", *STRICT, f"{self.room}/stated.c", "-o", f"{self.room}/stated")
         *said, unknown = self.runs(f"{self.room}/stated").splitlines()
-        self.assertEqual(unknown, "no call answers this status")
+        self.assertEqual(unknown, "no call returns this status")
         return {name: (int(line.partition(" ")[0]), line.partition(" ")[2]) for name, line in zip(names, said)}
 
     def test_each_status_by_its_name(self):

@@ -113,7 +113,7 @@ pub const LARGE_LOG: &ArgumentRow = &ArgumentRow {
 
 pub const PAST: &ArgumentRow = &ArgumentRow {
     name: "past",
-    help: "Lists behind each early claim how many rows of each process were before it",
+    help: "Lists after each early claim how many rows of each process come before it",
     is: Argument::Flag,
 };
 
@@ -236,12 +236,13 @@ static PLAIN: CommandRow = CommandRow {
 The report has the chips at the end, and how often each vertex fired (the odometer).
 
 A guess never changes the report. If its counts are good, a test certifies them and the report
-comes sooner. The play mends the others. A vertex that the guess does not name has 0. Of a
+comes sooner. The play corrects wrong counts. A vertex that the guess does not name has 0. Of a
 report only the counts are read. The test can fail for true counts if some vertex has a
 greater in-degree than out-degree.
 
 If no in-degree but the sink's is above the out-degree, as on undirected graphs, no vertex
-fires more often than there are chips, times its distance from the sink (chipfire check).
+fires more often than the number of all chips times its distance from the sink, which
+`chipfire check` writes.
 
 Exit status: 0 no vertex can fire; 2 the limit stopped the vertices that the report lists
 under \"over\"; 1 a fault, which `chipfire explain N` explains.
@@ -273,11 +274,12 @@ static RECURRENT: CommandRow = CommandRow {
     name: "recurrent",
     about: "Says whether chips are recurrent, and writes the recurrent ones equivalent to them",
     after_help: "\
-Chips are recurrent if they are stable and from all others some more lead to them by firings.
-Firings lead chips to equivalent ones, and back. Of these exactly one is recurrent: the output
-is that one as a chips file, with 0 on the sink. Chips on the sink do not count.
+Chips are recurrent if they are stable and can be reached from any other chips: by adding chips
+and firing. Two are equivalent if firings, forwards or backwards, lead from one to the other.
+Of all equivalent chips exactly one is recurrent. The output is that one as a chips file, with
+0 on the sink. Chips on the sink do not count.
 
-Exit status: 0 the chips are recurrent, so that they are written; 2 they are not; 1 a fault,
+Exit status: 0 the chips are recurrent, and are written; 2 they are not; 1 a fault,
 which `chipfire explain N` explains.
 
 Example: chipfire recurrent graph.json chips.csv >recurrent.csv",
@@ -393,13 +395,13 @@ Example: chipfire verify graph.json chips.csv report.json",
 
 static JUDGE: CommandRow = CommandRow {
     name: "judge",
-    about: "Says whether the claims in a log of a distributed program, that all is over, are right",
+    about: "Says which claims of termination in a log of a distributed program are right",
     after_help: "\
 The log is of any program whose processes send messages and detect when their computation is
-over. A row of the kind `over` claims that. The claim is early exactly if in some order of the
-rows that fits, when it is made or behind it, a message is on its way or a process is active.
-Else it is right. The line of an early claim says what is left when it is made, in the order
-with the fewest rows before it. `end missed` says that all is over and no claim is right.
+over. A row of the kind `over` claims that. The claim is early exactly if in some possible order
+of the rows a message is in transit or a process is active, at the claim or later. Else it is
+right. The line of an early claim says what is left when it is made, in the order with the
+fewest rows before it. `end missed` says that all is over and no claim is right.
 
 The rows of each process are in its order, and may be mixed with those of others. The answer
 does not depend on how they are mixed.

@@ -22,7 +22,7 @@ On some edge out of it chips are pending, or a message is claimed and not put. C
 and put on each such edge. Then the vertex may fire again.
 ");
 
-static ZERO: Explanation = row!(5 Zero NOWHERE: "the vertex is to fire no times", "\
+static ZERO: Explanation = row!(5 Zero NOWHERE: "the vertex would fire 0 times", "\
 The count of a fire or a feed is 1 or more.
 ");
 
@@ -89,7 +89,7 @@ Nothing is fed after the event end. Without `--fed` the end is noted from the be
 ");
 
 static TOO_MUCH: Explanation = row!(18 TooMuch NOWHERE:
-    "with these chips, more than 1099511627776 would be given in all", "\
+    "these chips and those given before are more than 1099511627776", "\
 That is 2^40. The chips at the start count, and all that were fed.
 ");
 

@@ -170,7 +170,7 @@ Only callers of the libraries meet this.
 static TOTAL: Explanation = row!(10 Total NOWHERE:
     "there are more than 1099511627776 chips in all", "\
 That is 2^40. The chips of all vertices count, with the sink, and those of `--feed` and of
-all drops. `recurrent` and `identity` add chips on their way, where those off the sink count.
+all drops. `recurrent` and `identity` add chips themselves; there only chips off the sink count.
 ");
 
 static LIMIT: Explanation = row!(11 Limit NOWHERE: "the firing limit is above 1099511627776", "\
@@ -178,14 +178,14 @@ That is 2^40. Only callers of the libraries meet this. On the command line it is
 ");
 
 static LENGTHS: Explanation = row!(12 Lengths NOWHERE:
-    "slices that belong together have other lengths", "\
+    "slices that belong together have different lengths", "\
 Only callers of libchipfire meet this. chipfire.h says how long each slice is.
 ");
 
 static STOPPED: Explanation = row!(13 Stopped DROP:
     "the limit stopped the play of drop i, or of configuration i", "\
-On the way of `recurrent` and `identity` a vertex would fire more than 1099511627776 times.
-That is 2^40, and i is 0. Callers of libchipfire meet this too: allow more firings of drops,
+In `recurrent` and `identity` some vertex would fire more than 1099511627776 times. That is
+2^40, and i is 0. Callers of libchipfire meet this too: allow more firings of drops,
 or leave out this drop and all that follow. If the play before the first drop was stopped, i
 is 0 too. `chipfire avalanches` writes the rows of the drops before instead.
 ");
@@ -195,18 +195,18 @@ Only callers of libchipfire meet this. `chipfire_pile_new` makes a pile in a str
 and there is none any more after `chipfire_pile_free`.
 ");
 
-static NOT_JSON: Explanation = row!(20 NotJson NOWHERE: "the graph file is no JSON", "\
+static NOT_JSON: Explanation = row!(20 NotJson NOWHERE: "the graph file is not JSON", "\
 The bytes are not UTF-8, or not one JSON value. Perhaps the file is empty or was cut off, a
 comma or a bracket is missing, something follows the value, or a byte-order mark begins it.
 `python3 -m json.tool FILE` shows the place. Perhaps a chips file stands in place of the
 graph: the graph comes first.
 ");
 
-static SHAPE: Explanation = row!(21 Shape NOWHERE: "the JSON is no graph", "\
+static SHAPE: Explanation = row!(21 Shape NOWHERE: "the JSON is not a graph", "\
 A graph file is one object with exactly these four members, in any order:
     {\"edges\":[[0,1,1]],\"sink\":1,\"version\":1,\"vertices\":2}
 Four mistakes are common. A member is missing or misspelt. There is a fifth member. A row of
-\"edges\" has not three values. A value is no whole number as JSON writes one: it has a sign,
+\"edges\" has not three values. A value is not a whole number in JSON: it has a sign,
 a point, an exponent or quotes (-1, 1.0, 1e3, \"2\").
 ");
 
@@ -227,12 +227,12 @@ write_schedule(.., notes=False) does. An empty file has no header. Perhaps the f
 another order: `--help` after the command shows it.
 ");
 
-static ROW: Explanation = row!(24 Row ROW: "row i has not as many fields as the header", "\
+static ROW: Explanation = row!(24 Row ROW: "row i has fewer or more fields than the header", "\
 A row of chips, drops or a guess has two fields, of a schedule or a log three, of a trace
 four. Commas stand between them, and none at the end.
 ");
 
-static NUMBER: Explanation = row!(25 Number ROW: "a field of row i is no number", "\
+static NUMBER: Explanation = row!(25 Number ROW: "a field of row i is not a number", "\
 A number is 1 to 20 digits, at most 18446744073709551615, without a sign, a space, a point
 or an exponent. A field that is not used, as the count of a take, must be a number too.
 ");
@@ -269,7 +269,7 @@ command reads up to 268435456 bytes (256 MiB) of each file.
 ");
 
 static END: Explanation = row!(31 End ROW:
-    "another process has the end of a stream at which row i is", "\
+    "row i uses an end of a stream that another process has used", "\
 The basic messages of a channel, which are sent and received, are a stream, and its control
 messages, which are told and heard, are another. One process puts messages into a stream,
 and one takes them out. If several send to one process, number a channel for each pair.
@@ -325,26 +325,26 @@ Only callers of the library chip_net meet this. Try again after the vertex made 
 ");
 
 static BOOKS: Explanation = row!(46 Books NOWHERE:
-    "no such edge, a count is too high, or the books of the part are not sound", "\
+    "no such edge, a count is too high, or the books of the process are not sound", "\
 Only callers of libchipfire meet this. `chipfire_books_check` reads all edges of the process:
 each slice ascends by edges, which are below 2^64 - 1, no more is answered than there was,
-and a part has a parent exactly if it owes something there.
+and a process has a parent exactly if it owes something there.
 ");
 
 static NOT_YET: Explanation = row!(47 NotYet NOWHERE:
     "not all of these messages may be acknowledged yet", "\
 Only callers of libchipfire meet this. `chipfire_may_ack` returns how many may be. The message
-that engaged a part waits until the part is passive, owes nothing else and has no deficit.
+that engaged a process waits until it is passive, owes nothing else and has no deficit.
 ");
 
-static NOT_REPORT: Explanation = row!(50 NotReport NOWHERE: "the file is no report", "\
+static NOT_REPORT: Explanation = row!(50 NotReport NOWHERE: "the file is not a report", "\
 A report is read only as chipfire wrote it, to the byte and with its newline. Keep what the
 command wrote in a file, and name that file. Of what `simulate` wrote only the last line is
 the report. With `--large` a report may have up to 2097152 vertices, not 4096.
 ");
 
 static PRIOR: Explanation = row!(51 Prior VERTEX:
-    "vertex v fired more than 1152921504606846976 times in all sittings", "\
+    "vertex v fired more than 1152921504606846976 times in all stages", "\
 That is 2^60, the most that a report counts. Begin again: a chips file with the chips of the
 report is the same configuration.
 ");
@@ -359,7 +359,7 @@ static DIFFERS: Explanation = row!(53 Differs VERTEX:
     "the report is not of this game, and v is the least vertex that differs", "\
 The game fires v more or less often in all, leaves it other chips, or halts it when the
 report does not. Name the graph, the chips and the --limit of the report. If a stage was
-stopped, or several had limits of their own, the report may be right and differ:
+stopped, or several had limits of their own, even a right report may differ:
 `chipfire verify` plays without a stop, by one limit.
 ");
 
@@ -377,7 +377,7 @@ n may be 0: then some chips were not fed.
 ");
 
 static GATE_SHUT: Explanation = row!(62 GateShut NOWHERE:
-    "a worker was not let into its next turn", "\
+    "a worker was refused its next turn", "\
 Only callers of the libraries meet this. The gate that they gave to the crew returned false.
 ");
 
@@ -406,8 +406,8 @@ the sender was cut, the message came twice, or it is a row too early.
 ");
 
 static NO_MEMORY: Explanation = row!(90 NoMemory NOWHERE: "memory ran out", "\
-Let the process have more memory, or give it smaller files. What was written is no whole
-answer.
+Let the process have more memory, or give it smaller files. What was written is not a
+complete answer.
 ");
 
 static USAGE: Explanation = row!(91 Usage NOWHERE: "the arguments are no command", "\
@@ -424,9 +424,9 @@ which it would empty. Only one input may be -, which is standard input.
 ");
 
 static WRITE: Explanation = row!(93 Write BYTES: "the output could not be written to its end", "\
-The disk is full, or the reader ended first, as `head` does. What was written is no whole
-answer, so do not use it. Without a number it is the file of `--trace`, and nothing of the
-report was written, or the file of `--report`, and all rows were.
+The disk is full, or the reader ended first, as `head` does. What was written is not a
+complete answer, so do not use it. Without a number it is the file of `--trace`, and nothing
+of the report was written, or the file of `--report`, and all rows were.
 ");
 
 /// All faults, by their numbers.

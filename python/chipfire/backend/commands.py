@@ -899,7 +899,7 @@ def explain(number: int | None = None, *, program: AnyProgram = None) -> str:
     Examples
     --------
     >>> chipfire.explain(25).splitlines()[0]
-    'fault 25 Number i: a field of row i is no number'
+    'fault 25 Number i: a field of row i is not a number'
     """
     words: list[Input] = (
         [] if number is None else [("number", str(as_int(number, "a fault's number")))]

@@ -41,7 +41,7 @@ const CASES = [
   [9, 0, "not one number for each vertex", drop([0, 0], [], [])],
   [10, 0, "more than 1099511627776 chips", play(TRIANGLE, [MAX_LIMIT, 1, 0])],
   [11, 0, "the firing limit is above", play(TRIANGLE, [0, 0, 0], { limit: MAX_LIMIT + 1n })],
-  [12, 0, "have other lengths", play(TRIANGLE, [0, 0])],
+  [12, 0, "have different lengths", play(TRIANGLE, [0, 0])],
   [13, 1, "the limit stopped the play of drop 1", drop([1, 1, 0], [0, 0], [1, 4], { limit: 1 })],
   [14, 0, "there is no pile", () => freed().drop(0)],
   [26, 1, "row 1 names a vertex", drop([0, 0, 0], [0, 3], [1, 1])],

@@ -87,7 +87,7 @@ static inline const char *chipfire_strerror(uint64_t status)
     case CHIPFIRE_FAULT_EDGE_COUNT: return "the graph has more than 8388608 edges";
     case CHIPFIRE_FAULT_ENDPOINT: return "an end of the edge is no vertex";
     case CHIPFIRE_FAULT_MULT: return "the edge sends no chips, or more than 1048576";
-    case CHIPFIRE_FAULT_LOOP: return "the edge goes back into its own tail";
+    case CHIPFIRE_FAULT_LOOP: return "the edge is a loop";
     case CHIPFIRE_FAULT_FROM_SINK: return "the edge leaves the sink";
     case CHIPFIRE_FAULT_UNREACHED: return "no walk leads from the vertex to the sink";
     case CHIPFIRE_FAULT_START_LENGTH: return "the chips are not one number for each vertex";

@@ -283,14 +283,14 @@ def _add_explore(commands: Any) -> None:
         metavar=("EDGE", "CHIPS"),
         help=says,
     )
-    says = "it may be sealed"
+    says = "the edge EDGE may be sealed"
     command.add_argument("--seal", type=int, action="append", default=[], metavar="EDGE", help=says)
 
 
 def _add_grade(commands: Any) -> None:
     says = (
-        "grades classes on small games: status 0 all right on these, 2 one is wrong, 4 one is not "
-        "decided or cannot be run"
+        "grades classes on small games: status 0 all right on these, 2 one is wrong, 4 one is "
+        "undecided or cannot be run"
     )
     command = _add(commands, "grade", says, make=_grade)
     says = "FILE.py:CLASS; FILE.py for all its classes, or a folder for all its files"
@@ -354,9 +354,9 @@ def _add_judge_log(commands: Any) -> None:
 
 
 def _add_board(commands: Any) -> None:
-    says = "opens the page on which sandpiles are played, and writes where it is"
+    says = "opens the page on which sandpiles are played, and writes its address"
     command = _add(commands, "board", says, make=_board)
-    command.add_argument("--no-browser", action="store_true", help="only writes where it is")
+    command.add_argument("--no-browser", action="store_true", help="only writes the address")
 
 
 def _add_detector(command: argparse.ArgumentParser) -> None:

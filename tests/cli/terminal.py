@@ -49,7 +49,7 @@ BELOW = {
     "simulate graph.json chips.csv early.csv":
         ("28 Kind 1", ["in early.csv: row 1, which is line 3 if no line is empty", "fault 28 Kind i: row i has an unknown kind"]),
     "replay graph.json none.csv trace.csv":
-        ("70 Stuck 0 0", ["in trace.csv", "fault 70 Stuck v i: the rows of a trace or a log fit together in no order"]),
+        ("70 Stuck 0 0", ["in trace.csv", "fault 70 Stuck v i: the rows of a trace or a log have no possible order"]),
     "resume graph.json report.json":
         ("52 Mismatch", ["in report.json", "fault 52 Mismatch: the report has another number of vertices than the graph"]),
     "recurrent graph.json beyond.csv":
@@ -155,7 +155,7 @@ def wrong_waits(program, rows, place, waits, words="judge log.csv --large"):
     """What is wrong with the lines on a log in no order, in a file, and as standard input."""
     log = "process,kind,channel\n" + "".join(f"{row}\n" for row in rows)
     line = f"chipfire: fault 70 Stuck {place}\n"
-    meaning = "fault 70 Stuck v i: the rows of a trace or a log fit together in no order"
+    meaning = "fault 70 Stuck v i: the rows of a trace or a log have no possible order"
     below = "".join(f"  {it}\n" for it in [f"in {words.split()[1]}", meaning, waits, "`chipfire explain 70` says more."])
     wanted = (1, "", line + below, True), (1, "", line, True)
     how = {"more": [("log.csv", log)], "preexec_fn": take_log}

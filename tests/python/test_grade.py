@@ -24,14 +24,14 @@ VERDICTS = {
 }
 #: Classes that do harm by mistake, each with its verdict, its game, and what its line has to say.
 CARELESS = {
-    "Prints": ("too early", "one chip", "left are"),
+    "Prints": ("too early", "one chip", ", but "),
     "Loops": ("undecided", "one chip", "2 seconds of a processor are over"),
     "Sleeps": ("undecided", "one chip", "20 seconds by the clock are over"),
     "Takes": ("undecided", "one chip", "more memory than it may"),
     "Exits": ("not graded", "one chip", "ended its process with status 0"),
     "Quits": ("not graded", "one chip", "SystemExit: all right"),
     "Raises": ("not graded", "one chip", "ZeroDivisionError"),
-    "Starts": ("too early", "one chip", "left are"),
+    "Starts": ("too early", "one chip", ", but "),
 }
 CARELESS_FILE = '''
 import os

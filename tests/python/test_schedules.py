@@ -561,7 +561,7 @@ class Judge(unittest.TestCase):
         self.assertEqual((judged.row, judged.told, judged.right, judged.fits), (1, "done 1", "not-now 15", True))
         self.assertEqual((judged.claim, judged.is_true, judged.left), ("closed", False, ("vertex 0 can fire",)))
         said = ("row 1: the log says 'done 1', the right detector 'not-now 15'; the claim in row 3 that the root is "
-                "closed is false, and left are: vertex 0 can fire")
+                "closed is false, since vertex 0 can fire")
         self.assertEqual(str(judged), said)
 
     def test_each_claim_is_judged_where_it_stands(self):

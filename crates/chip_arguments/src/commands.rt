@@ -253,7 +253,7 @@ Example: chipfire plain graph.json chips.csv --limit 1000 >report.json",
 
 static AVALANCHES: CommandRow = CommandRow {
     name: "avalanches",
-    about: "Drops chips one row after another, and writes the size of each avalanche",
+    about: "Drops chips row by row, and writes the size of each avalanche",
     after_help: "\
 chipfire plays the game to its end. Then it adds the chips of each row of DROPS, and plays to
 the end before the next row. DROPS may name a vertex again. Each row of the output has the
@@ -351,7 +351,7 @@ Example: chipfire simulate graph.json chips.csv schedule.csv --rounds 10",
 
 static REPLAY: CommandRow = CommandRow {
     name: "replay",
-    about: "Replays a recorded run, and writes its firings in an order that fits",
+    about: "Replays a recorded run, and writes its firings in a possible order",
     after_help: "\
 With --complete, lines after the firings list each edge with messages left, each vertex that
 can fire, and each that has the chips but fired as often as the limit allows.
@@ -379,7 +379,7 @@ Example: chipfire resume graph.json report.json --limit 1000 >next.json",
 
 static VERIFY: CommandRow = CommandRow {
     name: "verify",
-    about: "Says whether a report is true of a game: its counts, chips and halted vertices",
+    about: "Says whether a report is right for a game: its counts, chips and halted vertices",
     after_help: "\
 `verified` means that every play of this game within this limit fires each vertex as often in
 all, leaves the same chips, and halts the same vertices by the limit. If a stage was

@@ -146,7 +146,7 @@ A row is [tail, head, mult]. At each firing the tail sends mult chips to the hea
 1048576. Leave out an edge that sends none.
 ");
 
-static LOOP: Explanation = row!(6 Loop EDGE: "edge i goes back into its own tail", "\
+static LOOP: Explanation = row!(6 Loop EDGE: "edge i is a loop", "\
 A row is [tail, head, mult], and tail and head differ. chipfire plays no games with loops.
 ");
 
@@ -397,7 +397,7 @@ others have ended, and no report was written.
 ");
 
 static STUCK: Explanation = row!(70 Stuck OWN_ROW:
-    "the rows of a trace or a log fit together in no order", "\
+    "the rows of a trace or a log have no possible order", "\
 In each order some row does not fit: it takes a message that was not sent or that had
 another count, or it fires chips that are not there. Look first at row i of v;
 docs/TRACES.md says how. Perhaps the trace was cut, or is of other chips, another graph or
@@ -410,7 +410,7 @@ Let the process have more memory, or give it smaller files. What was written is 
 complete answer.
 ");
 
-static USAGE: Explanation = row!(91 Usage NOWHERE: "the arguments are no command", "\
+static USAGE: Explanation = row!(91 Usage NOWHERE: "the arguments do not form a command", "\
 `chipfire --help` lists the commands. `--help` after a command lists its files and options,
 with their ranges. Perhaps a file is missing or one too many, the command does not have the
 option, an option stands twice, a number is out of its range, or a name is not UTF-8.

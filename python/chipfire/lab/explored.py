@@ -78,7 +78,7 @@ class Explored:
         if status == UNDECIDED:
             return f"not too early {among}; the others are not tried, nor whether the root can always be closed"
         if status == EARLY:
-            return f"too early: {after} the root is closed, and left are: {'; '.join(self.left)} ({among})"
+            return f"too early: {after} the root is closed, but {'; '.join(self.left)} ({among})"
         if status == MISSED:
             return f"{self._missed(after)} ({among}{'' if self.is_whole else '; the others are not tried'})"
         if status == NOT_LOCAL:

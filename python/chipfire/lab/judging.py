@@ -82,9 +82,7 @@ class Judged:
     def __str__(self) -> str:
         said = [self._said_of_replies()]
         if self._said is not None:
-            rest = (
-                f", and left are: {'; '.join(self.left)}" if self.left else ", and nothing is left"
-            )
+            rest = f", since {'; '.join(self.left)}" if self.left else ", and nothing is left"
             is_true = str(self._said.is_true).lower()
             said.append(
                 f"the claim in row {self._said.row} that the root is {self.claim} is {is_true}{rest}"

@@ -35,7 +35,7 @@ const CASES = [
   [3, 0, "more than 8388608 edges", play(edges(MOST_EDGES + 1))],
   [4, 4, "an end of edge 4 is no vertex", play(withEdge(0, 3))],
   [5, 4, "edge 4 sends no chips", play(withEdge(0, 1, 0))],
-  [6, 4, "edge 4 goes back into its own tail", play(withEdge(1, 1))],
+  [6, 4, "edge 4 is a loop", play(withEdge(1, 1))],
   [7, 4, "edge 4 leaves the sink", play(withEdge(SINK, 1))],
   [8, 1, "no walk leads from vertex 1 to the sink", play(Graph.fromEdges(3, SINK, [[0, SINK]]))],
   [9, 0, "not one number for each vertex", drop([0, 0], [], [])],

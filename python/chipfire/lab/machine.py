@@ -36,7 +36,7 @@ TRACE_HEADER = ("vertex", "kind", "edge", "count")
 #: The words for what happens; of each rule what it says, and what is so if it is not met, as `chipfire explain rule`.
 WORDS: dict[str, Any] = json.loads(package_text("web", "words.json"))
 
-#: What each rule says that the reply `not-now N` names; docs/CORE.md has the table.
+#: What each rule says that the reply `not-now N` names; docs/FORMATS.md has the table.
 RULES: dict[int, str] = {number: met for number, (met, _) in enumerate(WORDS["rules"], 1)}
 
 #: What it is called and what is so if it is not met.

@@ -220,7 +220,7 @@ class Chains(unittest.TestCase):
         self.assertEqual(*([it.tolist() for it in of.size] for of in (one, other)))
 
     def test_as_many_threads_play_as_there_are_processors_for_this_process(self):
-        grid, threads = chipfire.grid(3, 3), "chipfire.ensembles.spread.ThreadPoolExecutor"
+        grid, threads = chipfire.grid(3, 3), "chipfire.ensembles.spread.Threads"
         for given in ({5}, {1, 2, 6}):
             with mock.patch("os.sched_getaffinity", return_value=given), mock.patch("os.cpu_count", return_value=40):
                 with mock.patch(threads, wraps=ThreadPoolExecutor) as pool:

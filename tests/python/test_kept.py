@@ -4,12 +4,15 @@ import contextlib
 import copy
 import gc
 import itertools
+import os
 import pickle
 import random
+import signal
 import subprocess
 import sys
 import threading
 import unittest
+import weakref
 from unittest import mock
 
 import chipfire
@@ -192,6 +195,63 @@ class Rows(unittest.TestCase):
                     drop(it)
                 said.append((it.report, it.is_stopped))
             self.assertEqual(said[0], said[1])
+
+    @unittest.skipUnless(IS_HERE, "the library is not called")
+    def test_drops_that_an_interrupt_does_not_end_are_left(self):
+        """They go on where nobody sees them, and end soon or late. The pile is as it was before, and drops go on there."""
+        self.addCleanup(signal.signal, signal.SIGINT, signal.signal(signal.SIGINT, signal.default_int_handler))
+        for ends_soon, has_fired in itertools.product((True, False), (False, True)[: 1 + has("numpy")]):
+            grid = chipfire.grid(33, 33)
+            pile, other = chipfire.Pile(grid, 3), chipfire.Pile(grid, 3)
+            pile.drop(7), other.drop(7)
+            is_there, may_end, own = threading.Event(), threading.Event(), weakref.ref(pile._kept)
+            before = {*threading.enumerate()}
+
+            def interrupt():
+                is_there.wait(60)
+                os.kill(os.getpid(), signal.SIGINT)
+                ends_soon and may_end.set()
+
+            class Endless:
+                def __getattr__(self, name):
+                    return getattr(library.loaded(), name)
+
+                def chipfire_pile_measure(self, *words):
+                    found = library.loaded().chipfire_pile_measure(*words)
+                    is_there.set()
+                    may_end.wait(60)
+                    return found
+
+            pile._kept._found = Endless()
+            sender = threading.Thread(target=interrupt)
+            sender.start()
+            with self.assertRaises(KeyboardInterrupt):
+                pile.drops([8, 544, 3], durations=True, fired=has_fired)
+            sender.join()
+            self.assertEqual(may_end.is_set(), ends_soon)
+            self.assertEqual((pile._kept is own(), own().is_own), (ends_soon, ends_soon))
+            self.assertEqual((pile.report, pile.chips), (other.report, other.chips))
+            more = [it.drops([8, 9], durations=True) for it in (pile, other)]
+            self.assertEqual((rows_of(more[0]), pile.report), (rows_of(more[1]), other.report))
+            may_end.set()
+            for thread in {*threading.enumerate()} - before:
+                thread.join(60)
+            gc.collect()
+            self.assertEqual((own() is not None, pile.report), (ends_soon, other.report))
+
+    @unittest.skipUnless(IS_HERE, "the library is not called")
+    def test_which_drops_a_thread_makes(self):
+        """Those of the main thread whose durations are measured, if the graph has many vertices or a drop many chips."""
+        for width, amount, wanted in [(33, 1, 1), (6, 1, 0), (6, 10**5, 1)]:
+            with chipfire.Pile(chipfire.grid(width, width)) as pile, mock.patch.object(kept, "apart", side_effect=kept.apart) as apart:
+                pile.drops([7], amounts=[amount])
+                self.assertEqual(apart.call_count, 0)
+                pile.drops([7], amounts=[amount], durations=True)
+                self.assertEqual(apart.call_count, wanted)
+                thread = threading.Thread(target=pile.drops, args=([7],), kwargs={"amounts": [amount], "durations": True})
+                thread.start()
+                thread.join()
+                self.assertEqual((apart.call_count, pile.chips[7] + pile.chips[-1] > 0), (wanted, True))
 
     @unittest.skipIf(IS_HERE, "the library plays")
     def test_drops_of_the_program_are_taken_back(self):

@@ -400,8 +400,11 @@ class Ways(WithFolder):
             "chipfire.identity(large)", "chipfire.inverse(large, large.max_stable())",
             "chipfire.verify(large, 4, [0] * 511**2)", "chipfire.are_recurrent(grid, [{7: 3}] * 10**6)",
             "chipfire.chains(large, 2, 3, 1, chips=0, amounts=10**9, workers=2)",
+            "chipfire.chains(large, 2, 3, 1, chips=3, amounts=10**6, durations=True)",
+            "chipfire.drops(large, 3, [130_000], amounts=[10**6], durations=True)",
+            "chipfire.Pile(large, 2).drops([130_000], amounts=[10**6], durations=True)",
         ):
-            if not IS_HERE and "chains" in call:
+            if not IS_HERE and ("chains" in call or "durations" in call):
                 continue
             with self.subTest(call):
                 words = [sys.executable, "-c", f"{begins}    {call}{catches}"]

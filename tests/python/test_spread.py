@@ -7,6 +7,7 @@ import concurrent.futures
 import contextlib
 import importlib.util
 import io
+import itertools
 import multiprocessing
 import os
 import random
@@ -26,7 +27,7 @@ from unittest import mock
 import chipfire
 from chipfire.backend import interrupts
 from chipfire.backend.interrupts import Interrupts
-from chipfire.ensembles import player, spread
+from chipfire.ensembles import firings, player, spread
 from chipfire.ensembles.checkpoint import Checkpoint
 from chipfire.progress import Progress
 from test_drops import slow_rows
@@ -204,6 +205,25 @@ class Signals(unittest.TestCase):
             self.assertEqual(signal.getsignal(signal.SIGINT), signal.default_int_handler)
         self.assertEqual(len(stops), 2)
         self.assertEqual(interrupts.on_threads([lambda: 3, lambda: 4], 1), [3, 4])
+
+    def test_threads_do_one_work_after_another(self):
+        with interrupts.Threads(2) as threads:
+            futures = [threads.submit(divmod, 7, divisor) for divisor in (2, 0, 5)]
+            self.assertEqual([it.result() for it in futures[::2]], [(3, 1), (1, 2)])
+            self.assertRaises(ZeroDivisionError, futures[1].result)
+            self.assertTrue(all(it.daemon and it.is_alive() for it in threads._threads))
+        self.assertFalse(any(it.is_alive() for it in threads._threads))
+
+    def test_threads_do_nothing_that_is_cancelled(self):
+        may_end, done = threading.Event(), []
+        threads = interrupts.Threads(1)
+        first, second = threads.submit(may_end.wait, 60), threads.submit(done.append, 1)
+        self.assertTrue(second.cancel())
+        threads.shutdown(wait=False)
+        self.assertTrue(threads._threads[0].is_alive())
+        may_end.set()
+        threads.shutdown()
+        self.assertEqual((first.result(), done), (True, []))
 
     def test_other_threads_change_nothing(self):
         with concurrent.futures.ThreadPoolExecutor(1) as executor:
@@ -543,7 +563,7 @@ class Long(unittest.TestCase):
         self.assertGreater(len(counts), 5)
 
     def test_an_interrupt_while_parts_are_handed_out_stops_those_that_have_begun(self):
-        submit, begun = spread.ThreadPoolExecutor.submit, []
+        submit, begun = spread.Threads.submit, []
 
         def interrupted(pool, *call):
             if begun:
@@ -551,7 +571,7 @@ class Long(unittest.TestCase):
             begun.append(call)
             return submit(pool, *call)
 
-        with mock.patch.object(spread.ThreadPoolExecutor, "submit", interrupted), self.assertRaises(KeyboardInterrupt):
+        with mock.patch.object(spread.Threads, "submit", interrupted), self.assertRaises(KeyboardInterrupt):
             chipfire.chains(chipfire.grid(60, 60), 2, 10**7, 1)
 
     def test_an_interrupt_anywhere_leaves_no_lock_and_loses_nothing(self):
@@ -581,6 +601,70 @@ class Long(unittest.TestCase):
             plays(workers=1, partial=True)
         sender.join()
         may_end.set()
+
+    def left_alone(self, number, check, **options):
+        """Interrupts chains while the call with this number does not come to its end, which it does later: before and after
+        that they are checked."""
+        self.addCleanup(signal.signal, signal.SIGINT, signal.signal(signal.SIGINT, signal.default_int_handler))
+        calls, may_end, before = itertools.count(1), threading.Event(), {*threading.enumerate()}
+
+        def endless(*arguments):
+            found = firings.fall(*arguments)
+            if next(calls) == number:
+                os.kill(os.getpid(), signal.SIGINT)
+                may_end.wait(100)
+            return found
+
+        begun = time.monotonic()
+        with mock.patch.object(player, "fall", endless), mock.patch.multiple(spread, GRACE=0.05, WAIT=0.01):
+            found = plays(partial=True, **options)
+        self.assertLess(time.monotonic() - begun, 50)
+        check(found)
+        may_end.set()
+        for thread in {*threading.enumerate()} - before:
+            thread.join(60)
+        self.assertEqual({*threading.enumerate()} - before, set())
+        check(found)
+        return found
+
+    def test_a_call_that_does_not_end_is_left(self):
+        """Nothing that it writes later is there."""
+        for options, number in itertools.product(ASKED, (1, 5)):
+            whole, starts = plays(**options), [*plays(partial=True, **{**options, "amounts": 0}).chips]
+
+            def check(found):
+                for chain, made in enumerate(map(int, found.made)):
+                    for name in ("size", "extent", "lost") + ("duration",) * ("durations" in options):
+                        there, wanted = (getattr(it, name)[chain].tolist() for it in (found, whole))
+                        self.assertEqual(there, wanted[:made] + [0] * (40 - made))
+                    on = random.Random(whole.seeds[chain]).choices(options.get("on", range(20)), k=40)[:made]
+                    amounts = [options.get("amounts", 1)] * made
+                    fallen = chipfire.drops(GRID, starts[chain].tolist(), on, amounts=amounts)
+                    self.assertEqual([*found.chips[chain]], [*fallen.report.chips])
+                if found.fired:
+                    lengths = found.fired.offsets[1:] - found.fired.offsets[:-1]
+                    self.assertEqual(lengths.tolist(), found.extent.ravel().tolist())
+                    self.assertEqual(len(found.fired.vertices), found.extent.sum())
+
+            for workers in (1, 3):
+                found = self.left_alone(number, check, workers=workers, **options)
+                self.assertLess(sum(found.made), sum(whole.made))
+
+    def test_histograms_have_nothing_of_a_call_that_is_left(self):
+        whole = plays(durations=True)
+
+        def check(found):
+            for name in ("size", "extent", "lost", "duration"):
+                for row, its, made in zip(getattr(whole, name), getattr(found, name), found.made):
+                    self.assertEqual(its, Counter(row.tolist()[: int(made)]))
+
+        self.left_alone(5, check, collect="histogram", durations=True, workers=1)
+
+    def test_a_file_has_nothing_of_a_call_that_is_left(self):
+        with tempfile.TemporaryDirectory() as folder:
+            file = f"{folder}/chains.sqlite"
+            self.left_alone(7, lambda found: None, checkpoint=file, workers=2)
+            self.assertEqual(numbers(plays(checkpoint=file)), numbers(plays()))
 
     def test_chains_that_had_not_begun_have_their_starts(self):
         def stop(done, total):

@@ -455,8 +455,8 @@ def drops(
         Whether to return which vertices each drop fires, and how often. This takes the library and NumPy.
     durations : bool, optional
         Whether to return for how many rounds each drop lasts, in each of which each legal vertex fires once. This takes
-        the library. A vertex with many chips fires one time after another then, and an interrupt waits for the end of
-        a drop.
+        the library. A vertex with many chips fires one time after another then. An interrupt that finds a long drop is
+        raised within a second; a thread ends the drop, and nobody gets what comes of it.
     progress : bool, optional
         Whether progress is shown, by tqdm or in lines on `sys.stderr`: how many of the drops are made.
     program : path, optional

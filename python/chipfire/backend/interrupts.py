@@ -2,19 +2,23 @@
 
 from __future__ import annotations
 
+import functools
 import inspect
 import queue
 import signal
 import threading
 import time
 from collections.abc import Callable, Iterable
-from concurrent.futures import Future, ThreadPoolExecutor
+from concurrent.futures import Executor, Future, ThreadPoolExecutor
 from typing import Any, TypeVar
 
 T = TypeVar("T")
 
 #: How many seconds pass at most until a signal is handled.
 WAIT = 0.1
+
+#: How many seconds a thread has to end its call after an interrupt. Then it is left, and ends it for nobody.
+GRACE = 0.5
 
 #: After how many seconds a signal that waits is handled by the next one like it.
 _PATIENCE = 1.0
@@ -67,6 +71,42 @@ class Interrupts:
         while self._came:
             number, _ = self._came.popitem()
             self._handlers[number](number, inspect.currentframe())
+
+
+class Threads(Executor):
+    """So many threads that do one work after another. The end of the process waits for none of them."""
+
+    def __init__(self, count: int) -> None:
+        self._works: queue.SimpleQueue[tuple[Future[Any], Callable[[], Any]] | None]
+        self._works = queue.SimpleQueue()
+        self._threads = [
+            threading.Thread(target=self._work, name="chipfire", daemon=True) for _ in range(count)
+        ]
+        for thread in self._threads:
+            thread.start()
+
+    def submit(self, call: Callable[..., T], /, *arguments: Any, **named: Any) -> Future[T]:
+        """Has a thread make a call, behind all calls before."""
+        future: Future[T] = Future()
+        self._works.put((future, functools.partial(call, *arguments, **named)))
+        return future
+
+    def _work(self) -> None:
+        while work := self._works.get():
+            future, call = work
+            if future.set_running_or_notify_cancel():
+                try:
+                    future.set_result(call())
+                except BaseException as error:
+                    future.set_exception(error)
+            del work, future, call
+
+    def shutdown(self, wait: bool = True, *, cancel_futures: bool = False) -> None:
+        """Ends the threads behind all calls, and waits for that if it is said."""
+        for _ in self._threads:
+            self._works.put(None)
+        for thread in self._threads if wait else ():
+            thread.join()
 
 
 def on_threads(

@@ -6,19 +6,23 @@ import contextlib
 import ctypes
 import operator
 import os
+import threading
 import time
 import weakref
 from array import array
 from collections.abc import Callable, Sequence
-from typing import Any, NamedTuple, TYPE_CHECKING
+from typing import Any, NamedTuple, TYPE_CHECKING, TypeVar
 
 from chipfire.backend import library
-from chipfire.backend.portions import PORTION
+from chipfire.backend.interrupts import GRACE
+from chipfire.backend.portions import apart, PORTION
 from chipfire.backend.process import refused
 from chipfire.utils import numpy_in_use
 
 if TYPE_CHECKING:
     from chipfire.graphs.graph import Graph
+
+T = TypeVar("T")
 
 #: The numbers of the faults that a call on a pile may have here: the limit has stopped a play; there is no memory.
 STOPPED, NO_MEMORY = 13, 90
@@ -75,7 +79,8 @@ class KeptPile:
     freed when nothing refers to this object any more, by whatever thread finds that, or by `free`. One thread at a time
     may call it; who shares it has a lock. A call returns the number of a fault, or 0.
 
-    A play is made in portions. Between two of them an interrupt is seen, and `between` is called with the pile.
+    A play is made in portions. Between two of them an interrupt is seen, and `between` is called with the pile. Drops whose
+    durations are measured are made by a thread, if the main thread asks for them and they may be long.
 
     A drop is made in one call, which no interrupt ends, or in portions, which take passes over the graph. It is made in
     portions if it has many chips, or if the drop before it was long. Then all chips are put on the library's pile, whose
@@ -91,6 +96,7 @@ class KeptPile:
         at = ctypes.addressof(self._told)
         self._words = [at + 8 * it for it in range(4)]
         self._process = os.getpid()
+        self._is_left = False
         # (the graph may keep the pile)
         self._graph = weakref.ref(graph)
         self.vertices = graph.vertices
@@ -115,8 +121,8 @@ class KeptPile:
 
     @property
     def is_own(self) -> bool:
-        """Whether this process made it, and has not freed it."""
-        return self.free.alive and self._process == os.getpid()
+        """Whether this process made it, and has neither freed it nor left it to a thread."""
+        return self.free.alive and self._process == os.getpid() and not self._is_left
 
     @property
     def size(self) -> int:
@@ -259,7 +265,37 @@ class KeptPile:
             for slices in ((at, amounts), (until.marks, *three, duration, *room))
         )
         words = (*drops, until.loses, *others, self._words[3])
-        return int(self._found.chipfire_pile_measure(self._at, *words)), self._told[3]
+        held = (at, amounts, until, columns, room)
+
+        def call() -> tuple[int, Any]:
+            return int(self._found.chipfire_pile_measure(self._at, *words)), held
+
+        number, _ = self._apart(call) if len(duration) and self._may_be_long(amounts) else call()
+        return number, self._told[3]
+
+    def _may_be_long(self, amounts: Any) -> bool:
+        """Whether the main thread asks for drops of these amounts, of which one may be long."""
+        if threading.current_thread() is not threading.main_thread():
+            return False
+        return self.vertices > _MANY_VERTICES or max(amounts, default=0) > self.light
+
+    def _apart(self, call: Callable[[], T]) -> T:
+        """Has a thread make a call, so that an interrupt is seen, and what `between` raises. A call that goes on for long after
+        that has the pile alone, and what it writes to."""
+        is_over = threading.Event()
+
+        def work() -> T:
+            try:
+                return call()
+            finally:
+                is_over.set()
+
+        try:
+            return apart(work, lambda: self.between(self))
+        except BaseException:
+            self._is_left = True
+            self._is_left = not is_over.wait(GRACE)
+            raise
 
     def draw(self, seed: int, first: int, chips: array[int]) -> tuple[int, int]:
         """Fills the chips with random recurrent configurations of the graph, from this number on; and the place of a fault."""
@@ -271,6 +307,10 @@ class KeptPile:
     def chips(self) -> array[int]:
         """The chips of each vertex."""
         return self._copied(self._found.chipfire_pile_chips)
+
+    def copy_chips(self, numbers: Any) -> None:
+        """Writes the chips of each vertex over as many other numbers."""
+        self._found.chipfire_pile_chips(self._at, *library.slice_of("numbers", numbers))
 
     def fired(self) -> array[int]:
         """How often each vertex has fired in all."""

@@ -66,10 +66,10 @@ class Portions:
             raise Stopped
 
 
-def apart(work: Callable[[], T]) -> T:
+def apart(work: Callable[[], T], between: Callable[[], object] = lambda: None) -> T:
     """Returns the result of work that is not made in portions. A thread does it, so that an interrupt
-    is seen at once. The work then goes on to its end, and its result is dropped: it must write to
-    nothing that others have."""
+    is seen at once, and what `between` raises, which is called about as often as between portions. The work then goes
+    on to its end, and its result is dropped: it must write to nothing that others have."""
     found: list[T] = []
     errors: list[BaseException] = []
 
@@ -81,7 +81,9 @@ def apart(work: Callable[[], T]) -> T:
 
     thread = threading.Thread(target=do, name="chipfire", daemon=True)
     thread.start()
-    thread.join()
+    while thread.is_alive():
+        thread.join(PORTION)
+        between()
     if errors:
         raise errors[0]
     return found[0]

@@ -309,8 +309,10 @@ def chains(
         A file to which parts are written as they are done. Another call with the same arguments, or with more chains,
         goes on from it. Its numbers are believed, so nobody else should be able to write to it.
     partial : bool, optional
-        Whether an interrupt returns what was made until then, in place of KeyboardInterrupt. Chains that had not begun
-        have the chips of their starts, which are drawn then if need be. A second interrupt is raised.
+        Whether an interrupt returns what was made until then, in place of KeyboardInterrupt. Both come within about a
+        second. A long drop, and those of the same call of the library, which were to take a tenth of a second, are not
+        there if they have not ended by then: a thread ends them, and nobody gets what comes of them. Chains that had
+        not begun have the chips of their starts, which are drawn then if need be. A second interrupt is raised.
 
     Returns
     -------

@@ -267,8 +267,7 @@ def fall(
 ) -> tuple[int, int]:
     """Drops on a pile, whose numbers go into the columns, the durations too if there is a fourth, and what they fire into the
     room, if there is one: the number of a fault, or 0, and how many were made, or the place of the fault. Fewer are made if
-    one ends the run, or is `Stopped`. Between two portions of a drop of many chips an interrupt is seen, but not while
-    durations are measured.
+    one ends the run, or is `Stopped`. A drop of many chips is made in portions, but not if durations are measured.
     """
     if len(columns) > 3:
         return _fall_at_once(pile, room, at, amounts, columns, until)

@@ -371,8 +371,10 @@ class Pile:
             return found
         except BaseException:
             self._game, self._total, self._is_stopped = game, total, False
-            if pile.is_own:
-                pile.put(*before)
+            if not pile.is_own:
+                # (a thread ends its drop)
+                self._kept = pile = kept.KeptPile(library.loaded(), self._free, before[0], game[1])
+            pile.put(*before)
             raise
 
     def _by_program(self, at: array[int], amounts: array[int]) -> Drops:

@@ -169,13 +169,19 @@ class Table:
             self.parts.setdefault(start, []),
         )
 
-    def rows(self, chain: int, start: int, stop: int) -> list[Any]:
-        """Where the numbers of these drops of a chain go, by columns."""
-        first = chain * self.drops
-        return [memoryview(it)[first + start : first + stop] for it in self.columns]
+    def chips_of(self, chain: int) -> memoryview:
+        """What lies on each vertex after the last drop of a chain."""
+        return memoryview(self.chips)[chain * self.width : (chain + 1) * self.width]
+
+    def rows(self, count: int) -> list[Any]:
+        """Where the numbers of so many drops stand until they are taken, by columns."""
+        return [_zeros(count) for _ in self.columns]
 
     def add(self, chain: int, rows: list[Any], made: int) -> None:
-        """Takes the first drops whose numbers stand in rows, which are made."""
+        """Takes the first drops whose numbers stand in rows, which a chain made behind those before."""
+        first = chain * self.drops + int(self.made[chain])
+        for numbers, row in zip(self.columns, rows):
+            _copy(memoryview(numbers)[first : first + made], row[:made])
         self.made[chain] += made
 
     def put(self, start: int, stop: int, other: Table) -> None:
@@ -242,9 +248,13 @@ class Tally:
             memoryview(self.chips)[start * self.width : stop * self.width],
         )
 
-    def rows(self, chain: int, start: int, stop: int) -> list[Any]:
-        """Where the numbers of drops stand until they are counted, by columns."""
-        return [_zeros(stop - start) for _ in self.counts[chain]]
+    def chips_of(self, chain: int) -> memoryview:
+        """What lies on each vertex after the last drop of a chain."""
+        return memoryview(self.chips)[chain * self.width : (chain + 1) * self.width]
+
+    def rows(self, count: int) -> list[Any]:
+        """Where the numbers of so many drops stand until they are counted, by columns."""
+        return [_zeros(count) for _ in self.counts[0]]
 
     def add(self, chain: int, rows: list[Any], made: int) -> None:
         """Counts the first drops whose numbers stand in rows, which are made."""
@@ -291,8 +301,11 @@ class Watch:
 
     def __init__(self) -> None:
         self._lock = threading.Lock()
+        self._locks: list[threading.Lock] = []
         self.made = 0
         self.is_stopped = False
+        #: Whether the tables are as they will be, although threads may not have ended their calls.
+        self.is_left = False
         #: How many drops the first call of the next chain makes.
         self.drops_of_call = 1
 
@@ -300,6 +313,18 @@ class Watch:
         """Counts drops that are made."""
         with self._lock:
             self.made += made
+
+    def lock(self) -> threading.Lock:
+        """A lock that one thread holds while it writes to its table, unless that `is_left`."""
+        self._locks.append(threading.Lock())
+        return self._locks[-1]
+
+    def leave(self) -> None:
+        """Has no thread write to a table any more. Those that write come to the end of that first."""
+        self.is_left = True
+        for lock in self._locks:
+            with lock:
+                pass
 
 
 def table_of(plan: Plan) -> AnyTable:
@@ -337,6 +362,7 @@ class _Player:
         self.plan = plan
         self.table = table
         self.watch = watch
+        self.lock = watch.lock()
         self.graph = plan.graph.loop_free
         self.seeds = plan.seeds
         self.draw = random.Random(0)
@@ -350,11 +376,9 @@ class _Player:
 
     def play(self) -> None:
         """Plays all chains to their ends, or until they are to stop."""
-        width = self.graph.vertices
         pile = None
         for chain in range(self.plan.n):
-            chips = memoryview(self.table.chips)[chain * width : (chain + 1) * width]
-            start = array("Q", bytes(chips))
+            start = array("Q", bytes(self.table.chips_of(chain)))
             if pile is None:
                 found = library.loaded()
                 pile = kept.KeptPile(found, self.graph, start, MAX_LIMIT)
@@ -362,7 +386,6 @@ class _Player:
             else:
                 self._put(pile, start)
             self._play_on(pile, chain)
-            _copy(chips, pile.chips())
             if self.watch.is_stopped:
                 break
         if pile is not None:
@@ -401,39 +424,43 @@ class _Player:
         """Plays a chain, some drops at a time."""
         self._begin(chain)
         for start, stop in _stretches(self.plan):
-            rows = self.table.rows(chain, start, stop)
-            made = self._drops(pile, self.plan.amounts_of(start, stop), rows)
-            self.table.add(chain, rows, made)
+            made = self._drops(pile, chain, self.plan.amounts_of(start, stop))
             if made < stop - start or self.is_over:
                 break
 
-    def _drops(self, pile: kept.KeptPile, amounts: array[int], rows: list[Any]) -> int:
-        """Makes drops of these amounts on a pile, until they are to stop; how many were made. The first call has as many
-        as the last one before."""
+    def _drops(self, pile: kept.KeptPile, chain: int, amounts: array[int]) -> int:
+        """Makes the next drops of a chain, which have these amounts, until they are to stop; how many were made. The first
+        call has as many as the last one before."""
         made = 0
 
-        def call(where: Any, many: Any, columns: list[Any]) -> bool:
+        def call(where: Any, many: Any, rows: list[Any]) -> bool:
             nonlocal made
             if self.watch.is_stopped:
                 return False
-            more = self._call(pile, where, many, columns)
+            more = self._call(pile, chain, where, many, rows)
             made += more
             self.watch.add(more)
             return not self.is_over and not self.watch.is_stopped
 
-        at = self._drawn(len(amounts))
+        at, rows = self._drawn(len(amounts)), self.table.rows(len(amounts))
         of_call = in_calls(call, at, amounts, rows, self.watch.drops_of_call)
         self.watch.drops_of_call = of_call or self.watch.drops_of_call
         return made
 
-    def _call(self, pile: kept.KeptPile, at: Any, amounts: Any, columns: list[Any]) -> int:
-        """Makes drops up to one that ends the chain, or one that is stopped; how many."""
-        number, made = fall(pile, self.room, at, amounts, columns, self.until)
+    def _call(self, pile: kept.KeptPile, chain: int, at: Any, amounts: Any, rows: list[Any]) -> int:
+        """Makes drops up to one that ends the chain, or one that is stopped, and writes to the table what came of them,
+        unless that is left; how many."""
+        number, made = fall(pile, self.room, at, amounts, rows, self.until)
         if number:
             raise refused(number, made, self.graph)
-        self.is_over = ends_run(self.until, self.room, columns, made)
-        if self.room and self.plan.fired:
-            self.table.fired.append((self.next, self.room.taken()))
+        with self.lock:
+            if self.watch.is_left:
+                return 0
+            self.table.add(chain, rows, made)
+            pile.copy_chips(self.table.chips_of(chain))
+            if self.room and self.plan.fired:
+                self.table.fired.append((self.next, self.room.taken()))
+        self.is_over = ends_run(self.until, self.room, rows, made)
         self.next += made
         return made
 

@@ -3,11 +3,12 @@
 from __future__ import annotations
 
 import queue
+import time
 from collections.abc import Iterator, Mapping
-from concurrent.futures import Executor, Future, ThreadPoolExecutor
+from concurrent.futures import Executor, Future
 from typing import Any
 
-from chipfire.backend.interrupts import Interrupts, WAIT
+from chipfire.backend.interrupts import GRACE, Interrupts, Threads, WAIT
 from chipfire.ensembles.checkpoint import Checkpoint
 from chipfire.ensembles.player import AnyTable, begin, Plan, play, played, Table, Watch
 from chipfire.progress import Progress
@@ -50,6 +51,8 @@ class Spread:
         #: The parts that are not taken yet, and those of them that are done, which other threads tell.
         self.futures: dict[Place, Future[AnyTable]] = {}
         self.done: queue.SimpleQueue[Place] = queue.SimpleQueue()
+        #: Whether a thread has not ended its call, and writes nothing any more.
+        self.is_left = False
 
     def play(self, progress: Progress, partial: bool) -> None:
         """Plays what is left. After an interrupt all stops soon: that is an error, unless it is `partial`."""
@@ -105,12 +108,12 @@ class Spread:
             self._begin(gap)
 
     def _by_threads(self, calls: Calls, progress: Progress, interrupts: Interrupts) -> None:
-        pool = ThreadPoolExecutor(self.workers)
+        pool = Threads(self.workers)
         try:
             self._by_executor(pool, calls, progress, interrupts)
         finally:
-            # (after a second interrupt threads may still play)
-            pool.shutdown(wait=not self.futures)
+            # (after an interrupt threads may still play)
+            pool.shutdown(wait=not self.futures and not self.is_left)
 
     def _by_executor(
         self, executor: Executor, calls: Calls, progress: Progress, interrupts: Interrupts
@@ -150,19 +153,26 @@ class Spread:
             self.checkpoint.put(*place, part)
 
     def _stop(self, interrupts: Interrupts) -> None:
-        """Has threads stop soon, and waits for them; or takes what an executor has done until now."""
+        """Has threads stop soon, and leaves those that do not; or takes what an executor has done until now."""
+        self.futures = {place: it for place, it in self.futures.items() if not it.cancel()}
         if self.executor is None:
-            self.watch.is_stopped = True
-        is_left = {place: it for place, it in self.futures.items() if not it.cancel()}
-        self.futures = is_left
-        while is_left and self.executor is None:
-            if done := self._next_done():
-                is_left.pop(done, None)
-            interrupts.handle()
-        self.futures = {}
-        for place, future in is_left.items():
+            self._stop_threads(interrupts)
+            return
+        for place, future in self.futures.items():
             if future.done() and not future.exception():
                 self._take(place, future.result())
+        self.futures = {}
+
+    def _stop_threads(self, interrupts: Interrupts) -> None:
+        """Has threads stop, and leaves those that are in a call for long: what comes of that goes nowhere."""
+        self.watch.is_stopped = True
+        end = time.monotonic() + GRACE
+        while self.futures and time.monotonic() < end:
+            if done := self._next_done():
+                self.futures.pop(done, None)
+            interrupts.handle()
+        self.watch.leave()
+        self.is_left, self.futures = bool(self.futures), {}
 
 
 def _parts(start: int, stop: int, count: int) -> Iterator[Place]:

@@ -1,7 +1,8 @@
 -- Serves Computation.antt, Ending.antt.
 -- The effect of an event on the counts of an edge, and sums over all edges.
-use Rattle.std.proofs.Common.{◌≡◌, ◌≢◌, ◌⊎◌, ℕ, zero, suc, ◌+◌, ◌-◌, ◌<◌, ◌≤◌, cond, eqb, inl, inr, subst, arith}
+use Rattle.std.proofs.Common.{◌≡◌, ◌≢◌, ◌⊎◌, ℕ, zero, suc, ◌+◌, ◌-◌, ◌<◌, ◌≤◌, cond, eqb, inl, inr, arith}
 use Rattle.std.proofs.Common.{rules}
+use Rattle.std.specs.Prelude.{nat_lt}
 use Rattle.std.proofs.lemmas.Bool.Decides.{nat_tests}
 use mathlib.Core.Logic.{dite}
 use native.Mathlib.Decide.{ℕ_discrete}
@@ -53,15 +54,14 @@ module _ (net : Network) (old new : World) where
 
 -- ---- sums
 
-pub less_at : (n : ℕ) (f g : ℕ → ℕ) → ((i : ℕ) → i < n → g i ≤ f i) → sum_to n g ≤ sum_to n f
-less_at zero f g less = omega arith
-less_at (suc n) f g less = let a = less n (omega arith) in let b = less_at n f g (λ i l. less i (omega arith)) in omega arith
+-- term e loses a and gains at most b, and no other term grows: so it is with the sum
+pub sum_moved : (n : ℕ) (f g : ℕ → ℕ) (e a b : ℕ) → ((i : ℕ) → i < n → g i + cond (eqb e i) a 0 ≤ f i + cond (eqb e i) b 0)
+    → sum_to n g + cond (nat_lt e n) a 0 ≤ sum_to n f + cond (nat_lt e n) b 0
+sum_moved zero f g e a b moved = grind (arith, nat_tests)
+sum_moved (suc n) f g e a b moved =
+    grind (arith, nat_tests, moved n (omega arith), sum_moved n f g e a b (λ i l. moved i (omega arith)))
 
 pub less_sum : (n : ℕ) (f g : ℕ → ℕ) → ((i : ℕ) → i < n → g i ≤ f i) → (e : ℕ) → e < n → g e < f e
     → sum_to n g < sum_to n f
-less_sum zero f g less e l lower = absurd (omega arith)
-less_sum (suc n) f g less e l lower = dite (ℕ_discrete e n)
-    (λ z. let a = less_at n f g (λ i l. less i (omega arith)) in
-    let b : g n < f n = subst (λ (i : ℕ). g i < f i) z lower in omega arith)
-    (λ other. let a = less n (omega arith) in
-    let b = less_sum n f g (λ i l. less i (omega arith)) e (omega arith) lower in omega arith)
+less_sum n f g less e l lower =
+    grind (arith, nat_tests, sum_moved n f g e 1 0 (λ i m. grind (arith, nat_tests, less i m)))

@@ -6,3 +6,4 @@ pub mod DepthLemmas
 pub mod DueLemmas
 pub mod WasteLemmas
 pub mod CountedLemmas
+pub mod WorkedLemmas

@@ -1,8 +1,8 @@
 -- Serves Cut.antt.
 -- A claim has the same causal past in rows that were done as in the whole log.
-use Rattle.chip_log.proofs.Names.{◌≡◌, ℕ, true, List, [], ◌∷◌, ◌++◌, length, refl, sym, ap, ◌∙◌, arith, subst, append_assoc}
+use Rattle.chip_log.proofs.Names.{◌≡◌, ℕ, true, List, [], ◌∷◌, ◌++◌, refl, sym, ◌∙◌, arith, subst, append_assoc}
 use Rattle.chip_log.proofs.Names.{steps_of, begins_active, HasEnds, IsInterleaving, IsProgress, IsBefore, IsPast, IsRight}
-use Rattle.chip_log.proofs.Names.{is_claim, length-append, LogRow, Step, Active, Over}
+use Rattle.chip_log.proofs.Names.{is_claim, length-append, nat_tests, LogRow, Step, Active, Over}
 use Rattle.chip_log.specs.Cut.{CutKeepsVerdicts}
 use Rattle.chip_log.proofs.PastLemmas.{least_past}
 use Rattle.chip_log.proofs.SilentLemmas.{silent_is_right}
@@ -27,7 +27,7 @@ module _ (log : List LogRow) (ends : HasEnds log) (xs : List LogRow) (all : IsIn
         met = are_met_as part log (λ q. sym (begins q)) [] front is.whole.met;
       } in
       let on = goes_on log ends front first log xs (λ q. refl) (whole_progress log xs all) all.whole (λ q.
-      omega (arith, ap length (first.own q), ap length (all.whole q), length-append (steps_of q front) (first.left q))) in
+      grind (arith, length-append, first.own q, all.whole q)) in
       record { after = is.after ++ on.0; whole = rw append_assoc at on.1; place = is.place }
 
   -- the causal past in the log comes before it there
@@ -36,14 +36,8 @@ module _ (log : List LogRow) (ends : HasEnds log) (xs : List LogRow) (all : IsIn
       let front = past ++ claim ∷ [] in
       let whole = whole_progress log (past ++ claim ∷ least.here.after) least.here.whole in
       let first = first_of log front least.here.after (rw append_assoc whole) in
-      let on = goes_on log ends front first part part begins done (λ q. refl) (λ q. omega (
-        arith,
-        least.least before (to_log before is) q,
-        rows-append q past (claim ∷ []),
-        rows-append q before (claim ∷ is.after),
-        rows-append q (claim ∷ []) is.after,
-        ap length (is.whole.whole q),
-      )) in
+      let on = goes_on log ends front first part part begins done (λ q. refl) (λ q.
+      grind (arith, nat_tests, rows-append, least.least before (to_log before is) q, is.whole.whole q)) in
       record { after = on.0; whole = rw append_assoc at on.1; place = least.here.place }
 
   -- a causal past there is one in the log
@@ -71,9 +65,7 @@ module _ (log : List LogRow) (ends : HasEnds log) (xs : List LogRow) (all : IsIn
 -- what is left does not say how a process begins, since a step that does is made
 begins_from : (xs left all : List Step) → xs ++ left ≡ all → ((later : List Step) → left ≡ Active ∷ later → ⊥)
     → begins_active all ≡ begins_active xs
-begins_from [] (Active ∷ later) all same never = absurd (never later refl)
-begins_from (Active ∷ xs) left all same never = rw (← same) refl
-begins_from xs left all same never = rw (← same) refl
+begins_from xs left all same never = grind (arith, never)
 
 pub cut_keeps_verdicts : CutKeepsVerdicts
 cut_keeps_verdicts with_past log cut used xs c ends is most all claimed judged =

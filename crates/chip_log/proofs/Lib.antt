@@ -10,13 +10,13 @@ pub mod BooksLemmas
 pub mod LoopLemmas
 pub mod JudgeLemmas
 mod SameLemmas
-mod RightLemmas
+pub mod RightLemmas
 mod PlacesLemmas
 mod QueuesLemmas
 mod OrderingLemmas
 mod ProgressLemmas
 mod OrderLemmas
-mod OneLemmas
+pub mod OneLemmas
 mod FirstLemmas
-mod MissingLemmas
+pub mod MissingLemmas
 mod CutLemmas

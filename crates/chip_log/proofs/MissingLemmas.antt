@@ -1,14 +1,13 @@
 -- Serves Missing.antt.
 -- Along an interleaving the rows that stay are enabled in what is left. Where that is quiescent, so is the log.
-use Rattle.chip_log.proofs.Names.{◌≡◌, ℕ, zero, suc, ◌+◌, ◌≤◌, Bool, true, false, cond, List, [], ◌∷◌, ◌++◌, refl, eqb, sym}
-use Rattle.chip_log.proofs.Names.{◌∙◌, subst, arith, append-nil, append_assoc, ltb-true, nat_tests, dite, ℕ_discrete}
+use Rattle.chip_log.proofs.Names.{◌≡◌, ℕ, zero, suc, ◌+◌, ◌≤◌, Bool, true, false, cond, List, [], ◌∷◌, ◌++◌, refl, eqb}
+use Rattle.chip_log.proofs.Names.{◌∙◌, ap, subst, arith, append-nil, append_assoc, nat_tests}
 use Rattle.chip_log.proofs.Names.{steps_of, is_out, is_in, outs, ins, active_after, begins_active, is_active, is_enabled}
-use Rattle.chip_log.proofs.Names.{AreEnabled, IsInterleaving, basic, IsSilent, IsBefore, IsRight, may_send, AreSent}
+use Rattle.chip_log.proofs.Names.{AreEnabled, IsInterleaving, basic, IsSilent, IsBefore, IsRight, AreSent}
 use Rattle.chip_log.proofs.Names.{IsProgress, HasEnds, LogRow, Stream, Step, Out, In, Over}
-use Rattle.std.proofs.Common.{lt-ltb, add-one}
+use Rattle.std.proofs.Common.{add-one}
 use Rattle.chip_log.specs.Missing.{staying, stay_below, IsWithout, RightWithoutRows, SentWhileActive}
-use Rattle.chip_log.proofs.CountLemmas.{rows-append, steps_of-append, active_after-append, steps_own, steps_other, steps_push}
-use Rattle.chip_log.proofs.CountLemmas.{steps_push_other}
+use Rattle.chip_log.proofs.CountLemmas.{rows-append, steps_of-append, active_after-append}
 use Rattle.chip_log.proofs.MetLemmas.{same_self}
 use Rattle.chip_log.proofs.PastLemmas.{are_met_second, are_met_both, met_le, least_past}
 use Rattle.chip_log.proofs.SilentLemmas.{silent_is_right}
@@ -24,27 +23,20 @@ below_next stays n = rw add-one refl
 -- all of them, if each stays
 below_all : (stays : ℕ → Bool) → ((n : ℕ) → stays n ≡ true) → (n : ℕ) → stay_below stays n ≡ n
 below_all stays all zero = refl
-below_all stays all (suc n) = let a = below_all stays all n in let b = all n in grind arith
+below_all stays all (suc n) = grind (arith, below_all stays all n, all n)
 
 -- of more numbers no fewer
 below_more : (stays : ℕ → Bool) (m n : ℕ) → m ≤ n → stay_below stays m ≤ stay_below stays n
-below_more stays m zero le = let e : m ≡ 0 = omega arith in rw e (omega arith)
-below_more stays m (suc n) le =
-    let a = below_more stays m n in
-    let b : m ≡ suc n → stay_below stays m ≡ stay_below stays (suc n) = λ e. rw e refl in grind arith
+below_more stays m zero le = grind arith
+below_more stays m (suc n) le = grind (arith, below_more stays m n, λ (e : m ≡ suc n). ap (stay_below stays) e)
 
 -- ---- one more row, that stays or not
 
 -- a process that is no more active without the missing rows is no more active after one more, unless that gets a message
 low_step : (own b was now : Bool) (x : Step) → (now ≡ false → was ≡ false) → (b ≡ false → (c : ℕ) → is_in (basic c) x ≡ false)
     → active_after now (cond own (cond b (x ∷ []) []) []) ≡ false → active_after was (cond own (x ∷ []) []) ≡ false
-low_step own b was now (In s) low none passive = let a = same_self s in let d = none in grind (arith, nat_tests)
+low_step own b was now (In s) low none passive = grind (arith, nat_tests, same_self s, λ (off : b ≡ false). none off s.channel)
 low_step own b was now _ low none passive = grind arith
-
--- the steps of a row that stays or not
-steps_if : (q : ℕ) (b : Bool) (x : LogRow)
-    → steps_of q (cond b (x ∷ []) []) ≡ cond (eqb x.process q) (cond b (x.step ∷ []) []) []
-steps_if q b x = grind (arith, nat_tests)
 
 module _ (stays : ℕ → ℕ → Bool) (told : Stream → ℕ → Bool) (log left : List LogRow) (ends : HasEnds log)
     (is : IsWithout stays told log left) where
@@ -64,10 +56,8 @@ module _ (stays : ℕ → ℕ → Bool) (told : Stream → ℕ → Bool) (log le
       (on : stays x.process (rows x.process pre) ≡ b) where
     -- a row that gets a message stays only if that is told
     heard_as : (s : Stream) → is_in s x.step ≡ true → b ≡ true → told s (ins s pre) ≡ true
-    heard_as s got =
-        let a = (owner_of log (is_in s) (ends.receiver s) (ends.gets s) pre [] x now got).1 in
-        let c = is.hears x.process s (steps_of x.process pre) x.step (now.left x.process) (next_own log pre [] x now) got in
-        λ stay. rw a (c (on ∙ stay))
+    heard_as s got stay = rw (owner_of log (is_in s) (ends.receiver s) (ends.gets s) pre [] x now got).1
+        (is.hears x.process s (steps_of x.process pre) x.step (now.left x.process) (next_own log pre [] x now) got (on ∙ stay))
 
     -- if the row stays, it is enabled there
     enabled : (step : Step) → x.step ≡ step → b ≡ true → is_enabled log pre x.process step ≡ true
@@ -77,15 +67,11 @@ module _ (stays : ℕ → ℕ → Bool) (told : Stream → ℕ → Bool) (log le
         let behind = staying (stays p) (rows p pre + 1) (now.left p) in
         let all : steps_of p acc ++ Out s ∷ behind ≡ steps_of p left =
         rw (on, stay, e) at (was.own p (x.step ∷ now.left p) (next_own log pre [] x now)) in
-        sent_at (begins_active (steps_of p left)) (steps_of p acc) (Out s) behind
-        (subst (AreSent (begins_active (steps_of p left))) (sym all) (is.sent p))
+        sent_at (begins_active (steps_of p left)) (steps_of p acc) (Out s) behind (rw all (is.sent p))
     enabled (In s) e stay met =
-        let a = ltb-true (ins s pre) (outs s pre) met in
-        let c = heard_as s (rw e (same_self s)) stay in
-        let d = below_more (told s) (suc (ins s pre)) (outs s pre) a in
-        let g = was.tells s in
-        let h = was.hears s in
-        lt-ltb (ins s acc) (outs s acc) (grind arith)
+        let a = heard_as s (rw e (same_self s)) stay in
+        let c = below_more (told s) (suc (ins s pre)) (outs s pre) in
+        grind (arith, nat_tests, was.tells s, was.hears s)
     enabled _ e stay met = refl
 
     -- so the rows that stay are
@@ -102,45 +88,27 @@ module _ (stays : ℕ → ℕ → Bool) (told : Stream → ℕ → Bool) (log le
     kept_next = record {
       own = λ q ys whole.
           let a = was.own q (steps_of q (x ∷ []) ++ ys) (rw (steps_of-append, append_assoc) at whole) in
-          let c = own-rows q pre (x ∷ []) in
-          rw (steps_of-append q acc new, append_assoc) (grind (arith, nat_tests));
-      sized = λ q.
-          let a = was.sized q in
-          let c = below_next (stays q) (rows q pre) in
-          rw (own-rows q pre (x ∷ []), own-rows q acc new) (grind (arith, nat_tests));
+          rw (steps_of-append q acc new, append_assoc) (grind (arith, nat_tests, own-rows));
+      sized = λ q. grind (arith, nat_tests, own-rows, below_next, was.sized q);
       met = met_next b refl;
       tells = λ s.
-          let a = was.tells s in
-          let c = below_next (told s) (outs s pre) in
           let d = is.tells x.process s (steps_of x.process pre) x.step (now.left x.process) (next_own log pre [] x now) in
           let e = owner_of log (is_out s) (ends.sender s) (ends.sends s) pre [] x now in
-          rw (rows-append (is_out s) pre (x ∷ []), rows-append (is_out s) acc new) (grind (arith, nat_tests));
-      hears = λ s.
-          let a = was.hears s in
-          let c = below_next (told s) (ins s pre) in
-          let d = heard_as s in
-          rw (rows-append (is_in s) pre (x ∷ []), rows-append (is_in s) acc new) (grind (arith, nat_tests));
+          grind (arith, nat_tests, rows-append, below_next, was.tells s);
+      hears = λ s. grind (arith, nat_tests, rows-append, below_next, was.hears s, heard_as s);
       passive = λ q all low.
           let got : (c : ℕ) → (ins (basic c) pre ≤ ins (basic c) acc) × (b ≡ false → is_in (basic c) x.step ≡ false) = λ c.
-          let a = rows-append (is_in (basic c)) pre (x ∷ []) in
-          let d = rows-append (is_in (basic c)) acc new in
-          let e = was.hears (basic c) in
-          let f = below_all (told (basic c)) (is.basic c) (ins (basic c) pre) in
-          let g = all c in
-          (grind (arith, nat_tests), λ off. grind (arith, nat_tests)) in
+          grind (arith, nat_tests, rows-append, was.hears (basic c), below_all (told (basic c)) (is.basic c), all c) in
           rw (steps_of-append, active_after-append)
           (low_step (eqb x.process q) b (is_active log pre q) (is_active left acc q) x.step
           (was.passive q (λ c. (got c).0)) (λ off c. (got c).1 off)
-          (rw (steps_of-append q acc new, active_after-append, steps_if) at low));
+          (grind (arith, nat_tests, steps_of-append, active_after-append, low)));
     }
 
   -- some rows more, for each row
   next : (pre acc : List LogRow) (x : LogRow) → IsProgress log (pre ++ x ∷ []) → IsKept pre acc
       → (new : List LogRow) × IsKept (pre ++ x ∷ []) (acc ++ new)
-  next pre acc x now was = (
-    cond (stays x.process (rows x.process pre)) (x ∷ []) [],
-    kept_next pre acc x now was (stays x.process (rows x.process pre)) refl,
-  )
+  next pre acc x now was = (_, kept_next pre acc x now was (stays x.process (rows x.process pre)) refl)
 
   -- at the start
   none_kept : IsKept [] []
@@ -150,20 +118,14 @@ module _ (stays : ℕ → ℕ → Bool) (told : Stream → ℕ → Bool) (log le
     met = tt;
     tells = λ s. refl;
     hears = λ s. omega arith;
-    passive = λ q all low. let a = is.begins q in grind arith;
+    passive = λ q all low. grind (arith, is.begins q);
   }
 
   -- where what is left is quiescent, so is the log
   silent_here : (pre acc : List LogRow) → IsProgress log pre → IsKept pre acc → IsSilent left acc → IsSilent log pre
   silent_here pre acc done kept silent =
       let got : (c : ℕ) → (outs (basic c) pre ≡ ins (basic c) pre) × (ins (basic c) pre ≤ ins (basic c) acc) = λ c.
-      let a = met_le (basic c) log [] pre done.met (omega arith) in
-      let b = below_all (told (basic c)) (is.basic c) (outs (basic c) pre) in
-      let d = below_all (told (basic c)) (is.basic c) (ins (basic c) pre) in
-      let e = kept.tells (basic c) in
-      let f = kept.hears (basic c) in
-      let g = silent.quiet c in
-      (omega arith, omega arith) in
+      omega (arith, met_le (basic c) log [] pre done.met, below_all (told (basic c)) (is.basic c), silent.quiet c) in
       record { quiet = λ c. (got c).0; passive = λ q. kept.passive q (λ c. (got c).1) (silent.passive q) }
 
   -- the log is quiescent when the claim is made, since the rows before it that stay come before it in what is left
@@ -204,10 +166,7 @@ sent_by : (log : List LogRow) (p : ℕ) (pre xs : List LogRow) → AreEnabled lo
 sent_by log p pre [] met = tt
 sent_by log p pre (x ∷ xs) met =
     let rest = sent_by log p (pre ++ x ∷ []) xs met.1 in
-    let sent : x.process ≡ p → may_send (is_active log pre p) x.step ≡ true = λ own. (let a = met.0 in grind arith) in
-    dite (ℕ_discrete x.process p)
-    (λ e. rw (steps_own p x xs e) (sent e, rw (steps_push p pre x e, active_after-append) at rest))
-    (λ ne. rw (steps_other p x xs ne) (rw (steps_push_other p pre x ne) at rest))
+    grind (arith, nat_tests, steps_of-append, active_after-append, append-nil)
 
 pub sent_while_active : SentWhileActive
 sent_while_active log xs all p =

@@ -183,7 +183,7 @@ module _ (log : List LogRow) where
   open_end end.Claimed is = inl (refl, is)
   open_end _ is = inr is
 
-  one_end : (e f : LogEnd) → IsEnd log e → IsEnd log f → e ≡ f
+  pub one_end : (e f : LogEnd) → IsEnd log e → IsEnd log f → e ≡ f
   one_end e f a b = elim (open_end e a) as (λ _. e ≡ f) [
     | inl claimed ↦ elim (open_end f b) as (λ _. e ≡ f) [
       | inl other ↦ claimed.0 ∙ sym other.0

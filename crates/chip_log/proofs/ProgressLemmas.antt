@@ -1,6 +1,6 @@
 -- Serves Order.antt.
 -- A list is made along rows that were done; so two of them are joined.
-use Rattle.chip_log.proofs.Names.{◌≡◌, ◌≢◌, ℕ, ◌+◌, ◌≤◌, true, Bool, List, [], ◌∷◌, ◌++◌, length, refl, ap, arith, append-nil}
+use Rattle.chip_log.proofs.Names.{◌≡◌, ◌≢◌, ℕ, ◌+◌, ◌≤◌, true, Bool, List, [], ◌∷◌, ◌++◌, length, refl, arith, append-nil}
 use Rattle.chip_log.proofs.Names.{length-take, append_assoc, take, drop, length-append, take-append-drop, dite, dec_lt}
 use Rattle.chip_log.proofs.Names.{nat_tests, steps_of, is_out, HasEnds, count_steps, count_rows, is_in, is_enabled}
 use Rattle.chip_log.proofs.Names.{AreEnabled, IsInterleaving, IsProgress, LogRow, Step, Out, In, begins_active}
@@ -57,9 +57,7 @@ module _ (log : List LogRow) where
     fewer one two is other few =
         let a = first_own test owner log one is.left is.own only in
         let b = first_own test owner log two other.left other.own only in
-        let c = longer_counts test (steps_of owner one) (is.left owner) (steps_of owner two) (other.left owner)
-        (steps_of owner log) (is.own owner) (other.own owner) few in
-        omega arith
+        omega (arith, longer_counts test _ _ _ _ _ (is.own owner) (other.own owner) few)
 
   -- along a progress, some rows more for each row of it
   pub along : (R : List LogRow → List LogRow → Type 0)
@@ -110,26 +108,20 @@ module _ (log : List LogRow) (ends : HasEnds log) (front : List LogRow) (first :
       (λ less. (
         [],
         rw append-nil (record {
-          own = λ q. let a = made.own q in let b = rows-append q pre (x ∷ []) in grind (arith, nat_tests);
+          own = λ q. grind (arith, nat_tests, rows-append, made.own q);
           met = made.met;
         }),
       ))
       (λ more.
-      let same : steps_of x.process pre ≡ steps_of x.process acc =
-      (let a = made.own x.process in let b = was x.process in grind arith) in
-      let few : (q : ℕ) → rows q pre ≤ rows q acc =
-      λ q. rw (made.own q) (let a = ap length (was q) in omega (arith, length-take {A = Step})) in
+      let same : steps_of x.process pre ≡ steps_of x.process acc = grind (arith, made.own x.process, was x.process) in
+      let few : (q : ℕ) → rows q pre ≤ rows q acc = λ q. grind (arith, made.own q, was q, length-take {A = Step}) in
       let met = still_met pre acc x now (progress_of pre acc made) few same x.step refl
       (are_met_second log [] pre (x ∷ []) now.met).0 in (
         x ∷ [],
         record {
           own = λ q.
-              let a = made.own q in
-              let b = rows-append q pre (x ∷ []) in
-              let c = first_rows log (pre ++ x ∷ []) now q in
-              let d = was q in
-              let e = steps_of-append q pre (x ∷ []) in
-              rw (steps_of-append q acc (x ∷ [])) (grind (arith, nat_tests, append-nil {A = Step}));
+              let a = first_rows log (pre ++ x ∷ []) now q in
+              grind (arith, nat_tests, steps_of-append, rows-append, append-nil {A = Step}, made.own q, was q);
           met = are_met_both log [] acc (x ∷ []) made.met (met, tt);
         },
       ))
@@ -140,7 +132,7 @@ module _ (log : List LogRow) (ends : HasEnds log) (front : List LogRow) (first :
   -- a progress goes on with the rows of another
   pub joined : (xs : List LogRow) → IsProgress log xs → (more : List LogRow) × Joins xs (front ++ more)
   joined xs is = along log Joins join_next [] xs front is
-      (record { own = λ q. let a = first_rows log front first q in grind arith; met = first.met })
+      (record { own = λ q. grind (arith, first_rows log front first q); met = first.met })
 
   -- to an interleaving of a log that has the rows of the other
   pub goes_on : (other xs : List LogRow) → ((q : ℕ) → begins_active (steps_of q log) ≡ begins_active (steps_of q other))
@@ -150,7 +142,7 @@ module _ (log : List LogRow) (ends : HasEnds log) (front : List LogRow) (first :
       let on = joined xs is in (
         on.0,
         record {
-          whole = λ q. let a = on.1.own q in let b = first_rows log xs is q in let c = same q in let d = few q in grind arith;
+          whole = λ q. grind (arith, on.1.own q, first_rows log xs is q, same q, few q);
           met = are_met_as log other begins [] (front ++ on.0) on.1.met;
         },
       )

@@ -83,7 +83,7 @@ module _ (log : List LogRow) (ends : HasEnds log) (p i j : ℕ) (is : is_claim l
     behind = λ before between after whole place. silent_later before (claim ∷ between) after place whole;
   }
 
-over_at : (xs ys : List Step) → is_over_at (xs ++ Over ∷ ys) (length xs) ≡ true
+pub over_at : (xs ys : List Step) → is_over_at (xs ++ Over ∷ ys) (length xs) ≡ true
 over_at [] ys = refl
 over_at (x ∷ xs) ys = over_at xs ys
 

@@ -2,7 +2,7 @@
 -- In each order in which the rows of a run are enabled, the last row is the only claim, and all is over before it.
 use Rattle.std.proofs.Common.{◌≡◌, ◌≢◌, ℕ, zero, suc, ◌+◌, ◌-◌, ◌<◌, ◌≤◌, Bool, true, false, cond, List, [], ◌∷◌, ◌++◌}
 use Rattle.std.proofs.Common.{refl, sym, ◌∙◌, subst, arith, rules, replicate, eq-eqb, append-nil, append_assoc}
-use Rattle.std.proofs.Common.{None, ⊎_elim, length, length-append, get_or}
+use Rattle.std.proofs.Common.{None, Some, ⊎_elim, length, length-append, get_or}
 use Rattle.std.specs.Prelude.{not, ◌==◌, if◌then◌else◌}
 use Rattle.std.proofs.lemmas.Bool.{ne_eqb}
 use Rattle.std.proofs.lemmas.Bool.Decides.{nat_tests}
@@ -24,24 +24,25 @@ use Rattle.chip_diffusing.specs.Computation.{Leads, IsLegalLog, HasClosedRoot, p
 use Rattle.chip_diffusing.proofs.KeptLemmas.{IsKept, opens_kept, kept_after, acked_most, may_call, who_inside}
 use Rattle.chip_diffusing.proofs.OrderLemmas.{no_parents, settled_up, closed_silent}
 use Rattle.chip_log.specs.Log.{steps_of, is_out, is_in, count_steps, sends, gets, count_rows, outs, ins, active_after}
-use Rattle.chip_log.specs.Log.{begins_active, is_active, is_enabled, AreEnabled, IsInterleaving}
+use Rattle.chip_log.specs.Log.{begins_active, is_enabled, AreEnabled, IsInterleaving}
 use Rattle.chip_log.specs.Books.{IsOf}
 use Rattle.chip_log.specs.Claims.{basic, IsSilent, IsRight}
-use Rattle.chip_log.specs.Judged.{control, is_over, is_over_at, IsEnd}
-use Rattle.chip_log.specs.Order.{AreSent}
+use Rattle.chip_log.specs.Judged.{control, is_over}
 use Rattle.chip_log.specs.Past.{Fits, FitsRow}
 use Rattle.chip_log.specs.declared.row.LogRow.{LogRow}
 use Rattle.chip_log.specs.declared.row.Stream.{Stream}
 use Rattle.chip_log.specs.declared.row.Step.{Step}
 use Rattle.chip_log.specs.declared.row.Step.TheVariants.{Out, In, Passive, Active, Over}
-use Rattle.chip_log.specs.declared.judged.LogEnd.{LogEnd}
 use Rattle.chip_log.specs.declared.judged.LogEnd.TheVariants as end
 use Rattle.chip_log.specs.declared.verdict.Verdict.TheVariants as verdict
-use Rattle.chip_log.proofs.CountLemmas.{all_own, count-append, rows-append, steps_of-append, active_after-append, steps_own, steps_other}
-use Rattle.chip_log.proofs.CountLemmas.{steps_push, steps_push_other}
-use Rattle.chip_log.proofs.MetLemmas.{count_yes, push_yes, push_no, push_le, same_self}
+use Rattle.chip_log.proofs.CountLemmas.{all_own, count-append, rows-append, steps_of-append, active_after-append, steps_own}
+use Rattle.chip_log.proofs.CountLemmas.{steps_push}
+use Rattle.chip_log.proofs.MetLemmas.{push_yes, push_le, same_self}
 use Rattle.chip_log.proofs.PastLemmas.{are_met_both, are_met_first, met_le}
 use Rattle.chip_log.proofs.VerdictLemmas.{one_verdict}
+use Rattle.chip_log.proofs.RightLemmas.{over_at}
+use Rattle.chip_log.proofs.OneLemmas.{one_end}
+use Rattle.chip_log.proofs.MissingLemmas.{sent_while_active}
 use Rattle.chip_judged.specs.Rows.{messages_of, steps_by, log_row, rows_by, rows_until, rows_of_run}
 use Rattle.chip_judged.specs.Laws.{network_sizes, AreJudgedRight, EveryLogIsJudgedRight, EveryAnswerIsRight}
 
@@ -73,15 +74,11 @@ count-replicate : (test : Step → Bool) (n : ℕ) (step : Step) → count_steps
 count-replicate test zero step = grind (arith, nat_tests)
 count-replicate test (suc n) step = let a = count-replicate test n step in grind (arith, nat_tests)
 
--- messages sent change no activity
-active_after-outs : (b : Bool) (n : ℕ) (s : Stream) → active_after b (replicate n (Out s)) ≡ b
-active_after-outs b zero s = refl
-active_after-outs b (suc n) s = active_after-outs b n s
-
--- control messages that are got change none either
-active_after-hears : (b : Bool) (n e : ℕ) → active_after b (replicate n (In (control e))) ≡ b
-active_after-hears b zero e = refl
-active_after-hears b (suc n) e = active_after-hears b n e
+-- a step that changes no activity changes none many times
+active_after-replicate : (b : Bool) (n : ℕ) (step : Step) → active_after b (step ∷ []) ≡ b → active_after b (replicate n step) ≡ b
+active_after-replicate b zero step same = refl
+active_after-replicate b (suc n) step same =
+    rw (active_after-append b (step ∷ []) (replicate n step), same) (active_after-replicate b n step same)
 
 -- steps begin as their first part does, if none of the second begins active
 begins-append : (xs ys : List Step) → count_steps (λ y. begins_active (y ∷ [])) ys ≡ 0 → begins_active (xs ++ ys) ≡ begins_active xs
@@ -91,17 +88,6 @@ begins-append xs ys none = grind (arith, nat_tests)
 steps_of-rows_by : (p q : ℕ) (steps : List Step) → steps_of q (rows_by p steps) ≡ (if p == q then steps else [])
 steps_of-rows_by p q [] = grind (arith, nat_tests)
 steps_of-rows_by p q (step ∷ steps) = let a = steps_of-rows_by p q steps in grind (arith, nat_tests)
-
--- in rows that are enabled each basic message is sent while active
-sent_by : (rows : List LogRow) (p : ℕ) (pre xs : List LogRow) → AreEnabled rows pre xs
-    → AreSent (is_active rows pre p) (steps_of p xs)
-sent_by rows p pre [] met = tt
-sent_by rows p pre (x ∷ xs) met = dite (ℕ_discrete x.process p)
-    (λ z. rw (steps_own p x xs z) (
-      (let a = rw z at met.0 in grind arith),
-      rw (steps_push p pre x z, active_after-append) at (sent_by rows p (pre ++ x ∷ []) xs met.1),
-    ))
-    (λ other. rw (steps_other p x xs other) (rw (steps_push_other p pre x other) at (sent_by rows p (pre ++ x ∷ []) xs met.1)))
 
 -- the claim of p
 abbrev claim : ℕ → LogRow
@@ -150,26 +136,23 @@ module _ (net : Network) (is : IsNetwork net) (log : Log) (last : World) (legal 
     -- what an event logs says whether its part is active then
     active_then : (x : Event) → Happens net old x new
         → active_after (not (old (process_of net x)).passive) (steps_by net old x new) ≡ not (new (process_of net x)).passive
-    active_then x step = grind (arith, nat_tests, active_after-append, active_after-outs, active_after-hears, step.wakes)
+    active_then x step = grind (arith, nat_tests, active_after-append, active_after-replicate, step.wakes)
 
     -- a part that the event leaves not engaged was passive, and told last
     told_then : (x : Event) → Happens net old x new → process_of net x ≢ net.root → (new (process_of net x)).books.parent ≡ None
         → (before : Bool) → ((old (process_of net x)).books.parent ≡ None → before ≡ true) → last_tells before (steps_by net old x new) ≡ true
-    told_then (Ack e n) step other free before told = ⊎_elim
-        (λ none. grind (arith, nat_tests, last_tells-append, last_tells-replicate, kept.neutral (net.head e) (is.heads e step.may.0) other none, told none))
-        (λ some.
-        let final = neutral_only_when_done (old (net.head e)).books (new (net.head e)).books (Acked e n)
+    told_then (Ack e n) step other free before told =
+        let b = (old (net.head e)).books in
+        let final = λ (q : ℕ) (some : b.parent ≡ Some q). neutral_only_when_done b (new (net.head e)).books (Acked e n)
         (kept.sound (net.head e) (is.heads e step.may.0)) (may_call net is old kept (Ack e n) step.may) step.notes
-        (rw some.1 refl) (rw free refl) in
-        grind (arith, nat_tests, last_tells-append, last_tells-replicate, final.step, final.refused_active, step.may.1))
-        (cases_option (old (net.head e)).books.parent)
+        (rw some refl) (rw free refl) in
+        let rest = kept.neutral (net.head e) (is.heads e step.may.0) other in
+        grind (arith, nat_tests, last_tells-append, last_tells-replicate, rest, told, final, step.may.1, cases_option b.parent)
     told_then (Settle e word) step other free before told =
-        let none = sym step.notes.parent ∙ free in
-        let rest = kept.neutral (net.tail e) (is.tails e step.may.0) other none in
-        let a = open_within_total (old (net.tail e)).books.outs e in
-        let b = acked_most net is old kept e step.may.0 in
-        let nothing : word - settled_on net old e ≡ 0 = omega (arith, a, b, rest.1, kept.got e step.may.0, step.may.2) in
-        rw (nothing, rest.0) (told none)
+        let rest = kept.neutral (net.tail e) (is.tails e step.may.0) other (sym step.notes.parent ∙ free) in
+        let within = open_within_total (old (net.tail e)).books.outs e in
+        let most = acked_most net is old kept e step.may.0 in
+        grind (arith, nat_tests, within, most, rest, kept.got e step.may.0, step.may.2, told (sym step.notes.parent ∙ free))
     told_then x step other free before told = let p = process_of net x in
         grind (arith, nat_tests, kept.neutral p (who_inside net is old x step.may) other, cases_option (old p).books.parent)
 
@@ -188,18 +171,16 @@ module _ (net : Network) (is : IsNetwork net) (log : Log) (last : World) (legal 
   -- ---- all events
 
   -- the row that the root begins active, if it does, shows how each part opens
-  opens : (p : ℕ) → p < net.parts → (b : Bool) → (legal.first p).passive ≡ b
-      → Shows 0 p (if b then [] else Active ∷ []) (legal.first p)
-  opens p l b passive = let o = legal.opens p l in search (rules, arith, nat_tests, o.fresh.ins.messages, o.passive)
+  opens : (p : ℕ) → p < net.parts
+      → Shows 0 p (if net.root == p then (if (legal.first net.root).passive then [] else Active ∷ []) else []) (legal.first p)
+  opens p l = let o = legal.opens p l in search (rules, arith, nat_tests, o.fresh.ins.messages, o.passive)
 
   -- the rows so far show each moment of the run
   so_far : (past : Log) (now : World) (way : Leads net legal.first past now) → Show 0 (rows_until net legal.first past now way) now
   so_far [] now at_once = subst (Show 0 (rows_until net legal.first [] legal.first refl)) at_once (record {
     kept = opens_kept net is legal.first legal.opens;
-    shows = λ p l. dite (ℕ_discrete p net.root)
-        (λ z. rw (z, steps_of-rows_by, eq-eqb net.root net.root refl) (opens net.root is.root (legal.first net.root).passive refl))
-        (λ other. rw (steps_of-rows_by, ne_eqb net.root p (λ z. other (sym z))) (opens p l true ((legal.opens p l).passive other)));
-    outside = λ p beyond. rw (steps_of-rows_by, ne_eqb net.root p (λ z. omega (arith, is.root))) refl;
+    shows = λ p l. rw steps_of-rows_by (opens p l);
+    outside = λ p beyond. grind (arith, nat_tests, steps_of-rows_by, is.root);
   })
   so_far (x ∷ past) now (old, way, step) =
       let s = so_far past old way in
@@ -210,20 +191,23 @@ module _ (net : Network) (is : IsNetwork net) (log : Log) (last : World) (legal 
         shows = λ p l. dite (ℕ_discrete p q)
             (λ z. rw (z, steps_of-append, steps_of-rows_by, eq-eqb q q refl) (shows_then old s.kept now x step (steps_of q _) (s.shows q inside)))
             (λ n. rw (steps_of-append, steps_of-rows_by, ne_eqb q p (λ z. n (sym z)), append-nil, step.others p n) (s.shows p l));
-        outside = λ p beyond. rw (steps_of-append, steps_of-rows_by, ne_eqb q p (λ z. omega arith), append-nil) (s.outside p beyond);
+        outside = λ p beyond. grind (arith, nat_tests, steps_of-append, steps_of-rows_by, s.outside p beyond);
       }
 
   abbrev run : List LogRow
   run = rows_until net legal.first log last legal.leads
 
-  -- all rows show its last world
-  ended : Show 1 rows last
-  ended = let s = so_far log last legal.leads in record {
+  -- all rows, in any order, show its last world
+  ended : (xs : List LogRow) → ((p : ℕ) → steps_of p xs ≡ steps_of p rows) → Show 1 xs last
+  ended xs whole = let s = so_far log last legal.leads in record {
     kept = s.kept;
-    shows = λ p l. let t = s.shows p l in rw (same p, steps_of-append)
+    shows = λ p l. let t = s.shows p l in rw (whole p, same p, steps_of-append)
         (search (rules, arith, nat_tests, count-append, begins-append, active_after-append, last_tells-append, t.counts, t.told));
-    outside = λ p beyond. rw (same p, steps_of-append, s.outside p beyond) (steps_other p (claim net.root) [] (λ z. omega (arith, is.root)));
+    outside = λ p beyond. rw (whole p, same p) (grind (arith, nat_tests, steps_of-append, s.outside p beyond, is.root));
   }
+
+  full : Show 1 rows last
+  full = ended rows (λ p. refl)
 
   -- ---- streams
 
@@ -283,17 +267,11 @@ module _ (net : Network) (is : IsNetwork net) (log : Log) (last : World) (legal 
       (fits xs (λ p beyond. let a = outside p beyond in grind (arith, nat_tests)) (λ d s past. omega (arith, none d s past)))
     where
       channel : (step : Step) → x.step ≡ step → IsOf net.edges step
-      channel (Out s) at = grind (arith, none true s, count_yes (is_out s x.step) (rw at (same_self s)))
-      channel (In s) at = grind (arith, none false s, count_yes (is_in s x.step) (rw at (same_self s)))
+      channel (Out s) at = grind (arith, nat_tests, same_self s, none true s)
+      channel (In s) at = grind (arith, nat_tests, same_self s, none false s)
       channel _ at = tt
 
   -- ---- each row is enabled
-
-  -- both lists of rows are enabled, so either is
-  if_met : (p : ℕ) (pre : List LogRow) (b : Bool) (xs ys : List Step) → AreEnabled rows pre (rows_by p xs)
-      → AreEnabled rows pre (rows_by p ys) → AreEnabled rows pre (rows_by p (if b then xs else ys))
-  if_met p pre true xs ys one other = one
-  if_met p pre false xs ys one other = other
 
   -- a step that is always enabled is so many times
   repeat_met : (p n : ℕ) (step : Step) (pre : List LogRow) → ((pre : List LogRow) → is_enabled rows pre p step ≡ true)
@@ -307,14 +285,14 @@ module _ (net : Network) (is : IsNetwork net) (log : Log) (last : World) (legal 
   ins_met p zero s pre enough = tt
   ins_met p (suc n) s pre enough = let x = log_row p (In s) in (
     grind (arith, nat_tests),
-    ins_met p n s (pre ++ x ∷ []) (omega (arith, push_yes (is_in s) pre x (same_self s), push_no (is_out s) pre x refl)),
+    ins_met p n s (pre ++ x ∷ []) (grind (arith, nat_tests, rows-append, same_self)),
   )
 
   -- the messages of an event are enabled
   messages_met : (old : World) (pre : List LogRow) → Show 0 pre old → (x : Event) → May net old x
       → AreEnabled rows pre (rows_by (process_of net x) (messages_of net old x))
   messages_met old pre show (Send e) may = let l = is.tails e may.0 in
-      (rw ((ended.shows (net.tail e) l).begins, (show.shows (net.tail e) l).active, may.1) refl, tt)
+      (rw ((full.shows (net.tail e) l).begins, (show.shows (net.tail e) l).active, may.1) refl, tt)
   messages_met old pre show (Get e) may =
       ins_met (net.head e) 1 (basic e) pre (omega (arith, on_edge show e may.0, may.1))
   messages_met old pre show (Ack e n) may = repeat_met (net.head e) n (Out (control e)) pre (λ now. refl)
@@ -324,12 +302,12 @@ module _ (net : Network) (is : IsNetwork net) (log : Log) (last : World) (legal 
 
   -- so are all rows so far
   met : (past : Log) (new : World) (way : Leads net legal.first past new) → AreEnabled rows [] (rows_until net legal.first past new way)
-  met [] new way = if_met net.root [] (legal.first net.root).passive [] (Active ∷ []) tt (refl, tt)
+  met [] new way = grind (arith, nat_tests)
   met (x ∷ past) new (old, way, step) =
       let pre = rows_until net legal.first past old way in
       are_met_both rows [] pre (rows_by (process_of net x) (steps_by net old x new)) (met past old way)
       (rw map-append (are_met_both rows pre (rows_by (process_of net x) (messages_of net old x)) _
-      (messages_met old pre (so_far past old way) x step.may) (if_met (process_of net x) _ _ (Passive ∷ []) [] (refl, tt) tt)))
+      (messages_met old pre (so_far past old way) x step.may) (grind (arith, nat_tests))))
 
   -- the rows of the run are an order of all rows
   order : IsInterleaving rows (rows_of_run net log last legal)
@@ -341,13 +319,8 @@ module _ (net : Network) (is : IsNetwork net) (log : Log) (last : World) (legal 
   -- ---- any order
 
   module _ {xs : List LogRow} (any : IsInterleaving rows xs) where
-    -- the rows in any order show the last world
     show_any : Show 1 xs last
-    show_any = record {
-      kept = ended.kept;
-      shows = λ p l. rw (any.whole p) (ended.shows p l);
-      outside = λ p beyond. any.whole p ∙ ended.outside p beyond;
-    }
+    show_any = ended xs any.whole
 
     -- all that was sent was got
     got_all : (s : Stream) → outs s xs ≡ ins s xs
@@ -368,17 +341,15 @@ module _ (net : Network) (is : IsNetwork net) (log : Log) (last : World) (legal 
     silent = record {
       quiet = λ c. got_all (basic c);
       passive = λ p. dite (dec_lt p net.parts)
-          (λ l. rw ((ended.shows p l).begins, (show_any.shows p l).active) (rw ((closed_silent net is log last legal closed).passive p l) refl))
-          (λ no. rw (show_any.outside p (omega arith), ended.outside p (omega arith)) refl);
+          (λ l. rw ((full.shows p l).begins, (show_any.shows p l).active) (rw ((closed_silent net is log last legal closed).passive p l) refl))
+          (λ no. rw (show_any.outside p (omega arith), full.outside p (omega arith)) refl);
     }
 
   -- the last row sends no message, since each was got
   not_out : (pre : List LogRow) (y : LogRow) → IsInterleaving rows (pre ++ y ∷ []) → (s : Stream) → y.step ≡ Out s → ⊥
   not_out pre y any s at =
-      let a = push_yes (is_out s) pre y (rw at (same_self s)) in
-      let b = push_no (is_in s) pre y (rw at refl) in
-      let c = met_le s rows [] pre (are_met_first rows [] pre (y ∷ []) any.met) in
-      omega (arith, got_all any s)
+      let a = met_le s rows [] pre (are_met_first rows [] pre (y ∷ []) any.met) in
+      grind (arith, nat_tests, rows-append, same_self, got_all any s)
 
   -- the last row is the claim, since its part has told last
   last_over : (pre : List LogRow) (y : LogRow) → IsInterleaving rows (pre ++ y ∷ []) → y.step ≡ Over
@@ -405,19 +376,13 @@ module _ (net : Network) (is : IsNetwork net) (log : Log) (last : World) (legal 
   right : (p i : ℕ) → IsRight rows p i
   right p i = record {
     at = λ before here. let s = behind p before [] here.after (rw append_assoc here.whole) in record {
-      quiet = λ c. let a = push_no (is_out (basic c)) before (claim p) refl in
-          let b = push_no (is_in (basic c)) before (claim p) refl in omega (arith, s.quiet c);
-      passive = λ q. let a = rw (steps_of-append q before (claim p ∷ []), active_after-append) at (s.passive q) in grind (arith, nat_tests);
+      quiet = λ c. grind (arith, nat_tests, rows-append, s.quiet c);
+      passive = λ q. grind (arith, nat_tests, steps_of-append, active_after-append, s.passive q);
     };
     behind = λ before between after any place. behind p before between after any;
   }
 
   -- ---- the judge
-
-  -- a claim after other steps is found at its place
-  over_at : (xs : List Step) → is_over_at (xs ++ Over ∷ []) (length xs) ≡ true
-  over_at [] = refl
-  over_at (x ∷ xs) = over_at xs
 
   -- the rows are judged right
   judged_right : AreJudgedRight net rows
@@ -426,26 +391,21 @@ module _ (net : Network) (is : IsNetwork net) (log : Log) (last : World) (legal 
       ends = record {
         sender = end_of true;
         receiver = end_of false;
-        sends = λ s p other. none_else ended true s p (λ z. other (sym z.1));
-        gets = λ s p other. none_else ended false s p (λ z. other (sym z.1));
+        sends = λ s p other. none_else full true s p (λ z. other (sym z.1));
+        gets = λ s p other. none_else full false s p (λ z. other (sym z.1));
       };
-      sent = λ p. rw (← same p) at (sent_by rows p [] (rows_of_run net log last legal) order.met);
-      fits = fits rows ended.outside (none_past ended);
+      sent = sent_while_active rows (rows_of_run net log last legal) order;
+      fits = fits rows full.outside (none_past full);
     };
     ordered = (rows_of_run net log last legal, order);
     none_early = λ with_past p i claims. right p i;
     claimed = (
       net.root,
       i,
-      rw (same net.root, steps_of-append, steps_own net.root (claim net.root) [] refl) (over_at (steps_of net.root run)),
+      rw (same net.root, steps_of-append, steps_own net.root (claim net.root) [] refl) (over_at (steps_of net.root run) []),
       right net.root i,
     );
   }
-
--- a log with a right claim has no other end
-ends_claimed : (rows : List LogRow) → IsEnd rows end.Claimed → (e : LogEnd) → IsEnd rows e → e ≡ end.Claimed
-ends_claimed rows claimed end.Claimed is = refl
-ends_claimed rows claimed _ is = absurd (is.0 claimed.0 claimed.1 claimed.2 claimed.3)
 
 pub every_log_is_judged_right : EveryLogIsJudgedRight
 every_log_is_judged_right net is log w legal closed rows same = judged_right net is log w legal closed rows same
@@ -456,5 +416,5 @@ every_answer_is_right net is log w legal closed rows same with_past judged answe
       λ k c inside. let here = get_or judged.claims.items k c in
           one_verdict rows are.well_formed.ends here.process here.row here.verdict verdict.Right
           (answer.claims.each k c inside).verdict (right net is log w legal closed rows same here.process here.row),
-      ends_claimed rows are.claimed judged.end answer.end,
+      one_end rows judged.end end.Claimed answer.end are.claimed,
     )

@@ -9,7 +9,7 @@ use Rattle.chip_detect.specs.Books.{owed, all_owed, deficit}
 use Rattle.chip_detect.specs.Acknowledging.{may_ack}
 use Rattle.chip_detect.proofs.AllowedLemmas.{within_owed}
 use Rattle.chip_diffusing.specs.Network.{Network, IsNetwork}
-use Rattle.chip_diffusing.specs.Computation.{World, Event, Send, Get, Ack, Settle, Work, Log, May, Happens, Leads}
+use Rattle.chip_diffusing.specs.Computation.{World, Event, Get, Ack, Settle, Log, May, Happens, Leads}
 use Rattle.chip_diffusing.specs.Computation.{IsLegalLog, IsQuiescent, HasClosedRoot, sent_on, got_on, acked_on, settled_on}
 use Rattle.chip_diffusing.specs.Ending.{HasMomentRounds, MayTell, left, LeadsDue}
 use Rattle.chip_diffusing.specs.Laws.{NeverStuck}
@@ -106,22 +106,14 @@ module _ (net : Network) (is : IsNetwork net) where
     due_falls : (x : Event) → MayTell net old x → Happens net old x new → left net new < left net old
     due_falls (Ack e n) due step =
         let b = (old (net.head e)).books in
-        let k = counted net old new (Ack e n) step e in
         let most = within_owed e b.parent (owed b e) (all_owed b) (deficit b) (old (net.head e)).passive in
-        let allowed = step.may.1 in
-        let g = kept.got e step.may.0 in
-        let some : 0 < n = due.1 in
-        falls (one_later net is old kept silent new (Ack e n) step) e step.may.0 (grind (arith, nat_tests))
+        falls (one_later net is old kept silent new (Ack e n) step) e step.may.0
+        (grind (arith, nat_tests, counted net old new (Ack e n) step e, kept.got e step.may.0, step.may.1, due.1))
     due_falls (Settle e word) due step =
-        let k = counted net old new (Settle e word) step e in
-        let g = kept.got e step.may.0 in
-        let h = acked_most net is old kept e step.may.0 in
-        let most = step.may.2 in
-        let some : settled_on net old e < word = due.1 in
-        falls (one_later net is old kept silent new (Settle e word) step) e step.may.0 (grind (arith, nat_tests))
-    due_falls (Send e) due step = absurd due.1
-    due_falls (Get e) due step = absurd due.1
-    due_falls (Work p) due step = absurd due.1
+        let most = acked_most net is old kept e step.may.0 in
+        falls (one_later net is old kept silent new (Settle e word) step) e step.may.0
+        (grind (arith, nat_tests, counted net old new (Settle e word) step e, kept.got e step.may.0, step.may.2, due.1))
+    due_falls _ due step = absurd due.1
 
   leads_due : (w : World) (xs : Log) (new : World) → LeadsDue net w xs new → Leads net w xs new
   leads_due w [] new same = same

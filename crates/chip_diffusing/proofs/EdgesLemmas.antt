@@ -41,16 +41,10 @@ module _ (net : Network) (old new : World) where
   acts_or_stays x step p = dite (ℕ_discrete p (process_of net x)) (λ z. inl z) (λ n. inr (n, step.others p n))
 
   pub counted : (x : Event) → Happens net old x new → (i : ℕ) → AreEqual (counts net new i) (after x i (counts net old i))
-  counted (Send e) step i = let t = acts_or_stays (Send e) step (net.tail i) in
-      let h = acts_or_stays (Send e) step (net.head i) in search (rules, arith, nat_tests)
-  counted (Get e) step i = let t = acts_or_stays (Get e) step (net.tail i) in
-      let h = acts_or_stays (Get e) step (net.head i) in search (rules, arith, nat_tests)
-  counted (Ack e n) step i = let t = acts_or_stays (Ack e n) step (net.tail i) in
-      let h = acts_or_stays (Ack e n) step (net.head i) in search (rules, arith, nat_tests)
-  counted (Settle e word) step i = let t = acts_or_stays (Settle e word) step (net.tail i) in
-      let h = acts_or_stays (Settle e word) step (net.head i) in search (rules, arith, nat_tests)
-  counted (Work p) step i = let t = acts_or_stays (Work p) step (net.tail i) in
-      let h = acts_or_stays (Work p) step (net.head i) in search (rules, arith, nat_tests)
+  counted x step i =
+      let t = acts_or_stays x step (net.tail i) in
+      let h = acts_or_stays x step (net.head i) in
+      search (rules, arith, nat_tests)
 
 -- ---- sums
 

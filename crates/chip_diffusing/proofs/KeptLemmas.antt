@@ -10,11 +10,10 @@ use Rattle.std.proofs.lemmas.List.Elements.{Contains-append_right}
 use mathlib.Core.Logic.{dite}
 use native.Mathlib.Decide.{ℕ_discrete}
 use Rattle.chip_detect.specs.Tally.{edges_of, all_open, message_limit}
-use Rattle.chip_detect.specs.Books.{Books, IsSound, in_edges, out_edges, got_of, acked_of, sent_of, settled_of, owed}
-use Rattle.chip_detect.specs.Books.{all_owed, deficit}
+use Rattle.chip_detect.specs.Books.{Books, IsSound, in_edges, out_edges, got_of, acked_of, sent_of, settled_of}
+use Rattle.chip_detect.specs.Books.{deficit}
 use Rattle.chip_detect.specs.Acknowledging.{or_else, parent_while_owed, acknowledgeable_count}
 use Rattle.chip_detect.specs.Steps.{Step, Got, Acked, Sent, Settled, MayBeMade, Makes}
-use Rattle.chip_detect.specs.Laws.{IsLastAcknowledgement}
 use Rattle.chip_detect.proofs.ChangesLemmas.{answers_total}
 use Rattle.chip_detect.proofs.SoundnessLemmas.{steps_keep_soundness, neutral_only_when_done}
 use Rattle.chip_diffusing.specs.Network.{Network, IsNetwork, AreAll, IsInto, IsOutOf}
@@ -57,11 +56,7 @@ pub record Grows (a b : Books) : Type 0 where
   pub settled : (e : ℕ) → settled_of a e ≤ settled_of b e
 
 books_grow : (a b : Books) (x : Event) → NotesEvent a x b → Grows a b
-books_grow a b (Send i) n = search (rules, arith, nat_tests)
-books_grow a b (Get i) n = search (rules, arith, nat_tests)
-books_grow a b (Ack i k) n = search (rules, arith, nat_tests)
-books_grow a b (Settle i word) n = search (rules, arith, nat_tests)
-books_grow a b (Work p) n = search (rules, arith, nat_tests)
+books_grow a b x n = search (rules, arith, nat_tests)
 
 module _ (net : Network) where
   pub record IsKept (w : World) : Type 0 where
@@ -78,11 +73,7 @@ module _ (net : Network) where
 
   module _ (is : IsNetwork net) where
     pub who_inside : (w : World) (x : Event) → May net w x → process_of net x < net.parts
-    who_inside w (Send e) may = is.tails e may.0
-    who_inside w (Get e) may = is.heads e may.0
-    who_inside w (Ack e n) may = is.heads e may.0
-    who_inside w (Settle e word) may = is.tails e may.0
-    who_inside w (Work p) may = may
+    who_inside w x may = grind (arith, is.tails, is.heads)
 
     -- the call of `Detect` may be made
     module _ (w : World) (kept : IsKept w) where
@@ -93,22 +84,10 @@ module _ (net : Network) where
       acked_most e l = (kept.sound (net.head e) (is.heads e l)).ins.answered e
 
       pub may_call : (x : Event) → May net w x → IfSome (call_of x) (MayBeMade (w (process_of net x)).books)
-      may_call (Send e) may = ((kept.outs (net.tail e) (is.tails e may.0)).all e (may.0, refl), may.2)
-      may_call (Get e) may = (
-        (kept.ins (net.head e) (is.heads e may.0)).all e (may.0, refl),
-        (let a = may.1 in let b = sent_most e may.0 in omega arith),
-      )
-      may_call (Ack e n) may = let b = (w (net.head e)).books in (
-        (kept.ins (net.head e) (is.heads e may.0)).all e (may.0, refl),
-        (let a = may.1 in
-            let c = more_when_passive e b.parent (owed b e) (all_owed b) (deficit b) (w (net.head e)).passive in omega arith),
-      )
-      may_call (Settle e word) may = (
-        (kept.outs (net.tail e) (is.tails e may.0)).all e (may.0, refl),
-        may.1,
-        (let a = may.2 in let b = acked_most e may.0 in let c = kept.got e may.0 in omega arith),
-      )
-      may_call (Work p) may = tt
+      may_call x may =
+          let out = λ (e : ℕ) (l : e < net.edges). (kept.outs (net.tail e) (is.tails e l)).all e (l, refl) in
+          let into = λ (e : ℕ) (l : e < net.edges). (kept.ins (net.head e) (is.heads e l)).all e (l, refl) in
+          grind (arith, out, into, sent_most, more_when_passive, acked_most, kept.got)
 
     -- ---- one event
 
@@ -140,11 +119,7 @@ module _ (net : Network) where
         where
           was : (x : Event) → NotesEvent (mine old x) x (mine new x) → ((e : ℕ) → x ≡ Get e → ⊥) → (q : ℕ)
               → (mine new x).parent ≡ Some q → (mine old x).parent ≡ Some q
-          was (Send e) n other q at = cc
-          was (Get e) n other q at = absurd (other e refl)
-          was (Ack e k) n other q at = still (mine old (Ack e k)).parent (owed (mine new (Ack e k))) q (sym n.parent ∙ at)
-          was (Settle e word) n other q at = cc
-          was (Work p) n other q at = cc
+          was x n other q at = grind (arith, still, other)
 
       -- invariants of a process by its books alone
       pub record Own (p : ℕ) (b : Books) : Type 0 where
@@ -185,24 +160,11 @@ module _ (net : Network) where
       -- no settle goes beyond what was acknowledged before
       heard_after : (x : Event) → Happens net old x new → (e : ℕ) → e < net.edges
           → settled_on net new e ≤ acked_on net new e
-      heard_after (Send i) step e l = let k = counted net old new (Send i) step e in let was = kept.heard e l in omega arith
-      heard_after (Get i) step e l = let k = counted net old new (Get i) step e in let was = kept.heard e l in omega arith
-      heard_after (Ack i n) step e l = let k = counted net old new (Ack i n) step e in let was = kept.heard e l in
-          grind (arith, nat_tests)
-      heard_after (Settle i word) step e l = let k = counted net old new (Settle i word) step e in
-          let was = kept.heard e l in let least = step.may.1 in let most = step.may.2 in grind (arith, nat_tests)
-      heard_after (Work p) step e l = let k = counted net old new (Work p) step e in let was = kept.heard e l in omega arith
+      heard_after x step e l = grind (arith, nat_tests, counted net old new x step e, kept.heard e l, step.may)
 
       -- and nothing is got that was not sent before
       got_after : (x : Event) → Happens net old x new → (e : ℕ) → e < net.edges → got_on net new e ≤ sent_on net new e
-      got_after (Send i) step e l = let k = counted net old new (Send i) step e in let was = kept.got e l in
-          grind (arith, nat_tests)
-      got_after (Get i) step e l = let k = counted net old new (Get i) step e in let was = kept.got e l in
-          let some = step.may.1 in grind (arith, nat_tests)
-      got_after (Ack i n) step e l = let k = counted net old new (Ack i n) step e in let was = kept.got e l in omega arith
-      got_after (Settle i word) step e l = let k = counted net old new (Settle i word) step e in let was = kept.got e l in
-          omega arith
-      got_after (Work p) step e l = let k = counted net old new (Work p) step e in let was = kept.got e l in omega arith
+      got_after x step e l = grind (arith, nat_tests, counted net old new x step e, kept.got e l, step.may)
 
       -- ---- neutral processes
 
@@ -216,15 +178,7 @@ module _ (net : Network) where
           let last = neutral_only_when_done (mine old (Ack e n)) (mine new (Ack e n)) (Acked e n)
           (kept.sound (net.head e) (is.heads e step.may.0)) (may_call old kept (Ack e n) step.may)
           step.notes (ap (λ (o : Option ℕ). is_some o) was) (ap (λ (o : Option ℕ). is_some o) gone) in
-          (step.wakes (was_passive (old (net.head e)).passive refl last), last.no_deficit)
-        where
-          was_passive : (b : Bool) → (old (net.head e)).passive ≡ b
-              → IsLastAcknowledgement (mine old (Ack e n)) (mine new (Ack e n)) (Acked e n)
-              → (old (net.head e)).passive ≡ true
-          was_passive true was last = was
-          was_passive false was last =
-              let same = last.step in let one : last.edge ≡ e = cc in let two : last.count ≡ n = cc in
-              let more = last.refused_active in let few = step.may.1 in absurd (grind arith)
+          (step.wakes (grind (arith, last.step, last.refused_active, step.may.1)), last.no_deficit)
 
       mine_rests : (x : Event) → Happens net old x new
           → ((mine old x).parent ≡ None → Rests (old (process_of net x)))
@@ -240,11 +194,9 @@ module _ (net : Network) where
           let was = rest (sym step.notes.parent ∙ none) in
           let b : Books = mine old (Settle e word) in
           let may = may_call old kept (Settle e word) step.may in
-          let least = may.1 in
-          let most = may.2 in
           let less = answers_total b.outs (mine new (Settle e word)).outs e (word - settled_of b e)
-          (kept.sound (net.tail e) (is.tails e step.may.0)).outs step.notes.outs (omega arith) may.0 in
-          (step.wakes was.0, (let d = was.1 in omega arith))
+          (kept.sound (net.tail e) (is.tails e step.may.0)).outs step.notes.outs (omega (arith, may.1, may.2)) may.0 in
+          (step.wakes was.0, omega (arith, was.1))
       mine_rests (Work p) step rest none =
           let was = rest (ap (λ (b : Books). b.parent) (sym step.notes) ∙ none) in
           (step.wakes was.0, ap deficit step.notes ∙ was.1)
@@ -257,14 +209,7 @@ module _ (net : Network) where
       -- ---- the root
 
       free_after : (x : Event) → Happens net old x new → (new net.root).books.parent ≡ None
-      free_after (Send e) step = stays (Send e) step (λ s. s.books.parent) step.notes.parent net.root ∙ kept.free
-      free_after (Get e) step = ap (λ (s : PartState). s.books.parent)
-          (step.others net.root (λ z. is.none_to_root e step.may.0 (sym z))) ∙ kept.free
-      free_after (Ack e n) step = ap (λ (s : PartState). s.books.parent)
-          (step.others net.root (λ z. is.none_to_root e step.may.0 (sym z))) ∙ kept.free
-      free_after (Settle e word) step = stays (Settle e word) step (λ s. s.books.parent) step.notes.parent net.root ∙ kept.free
-      free_after (Work p) step = stays (Work p) step (λ s. s.books.parent) (ap (λ (b : Books). b.parent) step.notes) net.root
-          ∙ kept.free
+      free_after x step = grind (arith, nat_tests, kept.free, step.notes, step.others net.root, is.none_to_root, step.may)
 
       pub kept_after : (x : Event) → Happens net old x new → IsKept new
       kept_after x step = record {

@@ -11,7 +11,7 @@ use Rattle.chip_detect.specs.Books.{Books, in_edges, owed, deficit}
 use Rattle.chip_detect.specs.Acknowledging.{or_else}
 use Rattle.chip_detect.proofs.ChangesLemmas.{open_within_total}
 use Rattle.chip_diffusing.specs.Network.{Network, IsNetwork, IsInto}
-use Rattle.chip_diffusing.specs.Computation.{PartState, World, Event, Send, Get, Ack, Settle, Work, Log, Happens, Leads}
+use Rattle.chip_diffusing.specs.Computation.{PartState, World, Event, Get, Log, Happens, Leads}
 use Rattle.chip_diffusing.specs.Computation.{IsLegalLog, IsQuiescent, HasClosedRoot, sent_on, acked_on, settled_on}
 use Rattle.chip_diffusing.specs.Ending.{IsEngagementTree, IsEngagementOrder, IsSettledUp}
 use Rattle.chip_diffusing.specs.Laws.{IsOver}
@@ -93,10 +93,6 @@ module _ (net : Network) (is : IsNetwork net) where
     )
 
     rank_step : (x : Event) → Happens net old x new → Ranked old → Ranked new
-    rank_step (Send e) step r = none_engaged (Send e) step (λ i z. absurd (cc)) r
-    rank_step (Settle e word) step r = none_engaged (Settle e word) step (λ i z. absurd (cc)) r
-    rank_step (Work p) step r = none_engaged (Work p) step (λ i z. absurd (cc)) r
-    rank_step (Ack e n) step r = none_engaged (Ack e n) step (λ i z. absurd (cc)) r
     rank_step (Get e) step r = ⊎_elim
         (λ was. engaged e step was.0 (step.notes.parent ∙ was.1) r)
         (λ same. (
@@ -105,6 +101,7 @@ module _ (net : Network) (is : IsNetwork net) where
               (step.notes.parent ∙ same) p) ∙ at),
         ))
         (or_else_cases (parents old (net.head e)) e)
+    rank_step x step r = none_engaged x step (λ i z. absurd (cc)) r
 
   ranked : (first : World) → IsKept net first → Ranked first → (log : Log) (w : World) → Leads net first log w → Ranked w
   ranked first kept r [] w same = subst Ranked same r

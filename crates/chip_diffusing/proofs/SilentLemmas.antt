@@ -1,11 +1,10 @@
 -- Serves Computation.antt, Laws.antt. What may still happen once no message is in transit and every process is passive.
 use Rattle.std.proofs.Common.{◌≡◌, ℕ, ◌≤◌, true, [], ◌∷◌, ◌++◌}
-use Rattle.std.proofs.Common.{Some, refl, sym, ap, ◌∙◌, subst, arith, true≢false}
-use Rattle.chip_detect.specs.Tally.{messages_on}
-use Rattle.chip_detect.specs.Books.{Books, got_of, acked_of, sent_of, settled_of, deficit, outstanding, out_edges}
+use Rattle.std.proofs.Common.{Some, refl, sym, ◌∙◌, subst, arith, true≢false}
+use Rattle.chip_detect.specs.Books.{got_of, acked_of, sent_of, settled_of, deficit, outstanding, out_edges}
 use Rattle.chip_detect.proofs.ChangesLemmas.{open_within_total}
 use Rattle.chip_diffusing.specs.Network.{Network, IsNetwork}
-use Rattle.chip_diffusing.specs.Computation.{PartState, World, Event, Send, Get, Ack, Settle, Work, Log, Happens, Leads}
+use Rattle.chip_diffusing.specs.Computation.{PartState, World, Event, Send, Get, Log, Happens, Leads}
 use Rattle.chip_diffusing.specs.Computation.{process_of, IsLegalLog, IsQuiescent}
 use Rattle.chip_diffusing.specs.Laws.{ClosedForGood}
 use Rattle.chip_diffusing.proofs.KeptLemmas.{IsKept, grows, each, was_parent, kept_after, legal_kept, sum_none}
@@ -35,20 +34,15 @@ module _ (net : Network) (is : IsNetwork net) where
     still : (x : Event) → Happens net old x new → IsStill (old (process_of net x)) (new (process_of net x))
     still (Send i) step e = absurd (no_send i step)
     still (Get i) step e = absurd (no_get i step)
-    still (Ack i n) step e = (ap (λ ts. messages_on ts e) step.notes.outs, step.notes.ins.messages e)
-    still (Settle i word) step e = (step.notes.outs.messages e, ap (λ ts. messages_on ts e) step.notes.ins)
-    still (Work q) step e = (ap (λ (b : Books). sent_of b e) step.notes, ap (λ (b : Books). got_of b e) step.notes)
+    still _ step e = grind (arith, step.notes)
 
     all_still : (x : Event) → Happens net old x new → (p : ℕ) → IsStill (old p) (new p)
     all_still x step = each net is old kept new IsStill x step (λ s e. (refl, refl)) (still x step)
 
     mine_passive : (x : Event) → Happens net old x new → (old (process_of net x)).passive ≡ true
         → (new (process_of net x)).passive ≡ true
-    mine_passive (Send i) step was = step.wakes was
     mine_passive (Get i) step was = absurd (no_get i step)
-    mine_passive (Ack i n) step was = step.wakes was
-    mine_passive (Settle i word) step was = step.wakes was
-    mine_passive (Work q) step was = step.wakes was
+    mine_passive _ step was = step.wakes was
 
     pub one_later : (x : Event) → Happens net old x new → IsLater old new
     one_later x step = record {

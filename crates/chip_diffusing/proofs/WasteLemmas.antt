@@ -38,8 +38,9 @@ module _ (net : Network) (is : IsNetwork net) where
       ≤ sum_to net.edges (to_do old) + 3 * cond (is_send x) 1 0
   one_event old kept new x step =
       let after = kept_after net is old kept new x step in
-      let moved = sum_moved net.edges (to_do old) (to_do new) (edge_of x) (cond (advances net old x) 1 0) (3 * cond (is_send x) 1 0)
-      (λ i l. grind (arith, nat_tests, counted net old new x step i, after.got i l, after.heard i l, acked_most net is new after i l)) in
+      let moved = sum_moved net.edges (to_do old) (to_do new) (edge_of x) (cond (advances net old x) 1 0)
+      (3 * cond (is_send x) 1 0) (λ i l. let most = acked_most net is new after i l in
+      grind (arith, nat_tests, counted net old new x step i, after.got i l, after.heard i l, most)) in
       grind (arith, nat_tests, step.may)
 
   all_events : (first : World) → IsKept net first → (log : Log) (w : World) (way : Leads net first log w)
@@ -57,8 +58,12 @@ no_waste net is log w legal = (
   omega (
     arith,
     all_events net is legal.first (opens_kept net is legal.first legal.opens) log w legal.leads,
-    zero_sum net.edges (to_do net is legal.first) (λ e l. omega (arith, (legal.opens (net.tail e) (is.tails e l)).fresh.outs.messages e)),
+    zero_sum net.edges (to_do net is legal.first)
+        (λ e l. omega (arith, (legal.opens (net.tail e) (is.tails e l)).fresh.outs.messages e)),
   ),
   λ rest none. ⊎_elim (λ due. grind (arith, nat_tests, none due.0 due.1.0)) (λ closed. closed)
-      (due_or_closed net is log w legal (record { delivered = λ e l. let n = none (Get e) in grind (arith, nat_tests); passive = rest })),
+      (due_or_closed net is log w legal (record {
+        delivered = λ e l. let n = none (Get e) in grind (arith, nat_tests);
+        passive = rest;
+      })),
 )

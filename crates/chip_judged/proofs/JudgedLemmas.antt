@@ -327,8 +327,7 @@ module _ (net : Network) (is : IsNetwork net) (log : Log) (last : World) (legal 
     got_all s =
         let itself : s ≡ record { channel = s.channel; is_control = s.is_control } = refl in
         let up = settled_up net is log last legal closed s.channel in
-        let past = λ (d : Bool). none_past show_any d s in
-        grind (arith, nat_tests, on_edge show_any s.channel, up, past true, past false)
+        grind (arith, nat_tests, on_edge show_any s.channel, up, none_past show_any true s, none_past show_any false s)
 
     -- there is one claim
     one_claim : count_rows is_over xs ≡ 1

@@ -2,7 +2,7 @@ mod ChainLemmas
 pub mod StageLemmas
 mod GuessLemmas
 mod VerifyLemmas
-mod DropLemmas
+pub mod DropLemmas
 mod DropRowLemmas
 mod SameLemmas
 mod ScheduleLemmas

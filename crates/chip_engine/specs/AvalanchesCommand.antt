@@ -10,7 +10,7 @@ use Rattle.chip_graph.specs.declared.fault.GameFault.TheVariants.{Total}
 use Rattle.chip_file.specs.DropsText.{drops_of_text, drops_text_fault}
 use Rattle.chip_sequence.specs.Play.{IsPlayed}
 use Rattle.chip_sequence.specs.declared.outcome.Outcome.{Outcome}
-use Rattle.chip_sequence.specs.Firing.{IsStable}
+use Rattle.chip_sequence.specs.Sequence.{IsWholePlay, HasEnded}
 use Rattle.chip_engine.specs.DropRows.{TellsRows, FailsOut, rows_text}
 use Rattle.chip_report.specs.ReportText.{is_closed, report_text}
 use Rattle.chip_report.specs.Written.{WritesAll}
@@ -32,10 +32,11 @@ reading_drops limits drops g =
           ⊎ ((ds : List (ℕ × ℕ)) × named.gives ds × (max_total < sum g.start + all_brought ds) × (fault ≡ Game Total));
     }
 
--- the limit does not stop the play of the game with these drops: it ends with no vertex legal
+-- the limit does not stop the play of the game with these drops: some play to its end within the limit leaves no vertex
+-- legal
 abbrev pub Closes : ChipGame → List (ℕ × ℕ) → Type 0
-Closes g ds = (g' : ChipGame) × HasMore g ds g'
-    × ((outcome : Outcome) → IsPlayed g' outcome → IsStable g'.graph (slice_index outcome.chips.items))
+Closes g ds = (g' : ChipGame) × HasMore g ds g' × ((vs : List ℕ)
+    × IsWholePlay g'.graph (slice_index g'.start) g'.limit vs × HasEnded g'.graph (slice_index g'.start) vs)
 
 -- a text has the rows of these drops on the game, each the avalanche on what the drop before it left, and the limit
 -- stops none of their plays

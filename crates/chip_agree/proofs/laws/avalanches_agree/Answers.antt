@@ -1,44 +1,34 @@
 -- Drops have one list of avalanches, and the limit stops the play of one of them or of none. So the rows that
 -- `avalanches` writes are those of the library.
-use Rattle.std.proofs.Common.{◌≡◌, ℕ, zero, suc, ◌+◌, ◌^◌, ◌<◌, ◌≤◌, Bool, true, false, not, ◌&&◌, eqb, leb, cond}
-use Rattle.std.proofs.Common.{List, [], ◌∷◌, ◌++◌, length, map, take, slice_index}
-use Rattle.std.proofs.Common.{refl, sym, ap, ◌∙◌, arith, rules, inl, inr, ⊎_elim, ◌⊎◌}
-use Rattle.std.proofs.lemmas.Bool.{true_from_ne_false}
+use Rattle.std.proofs.Common.{◌≡◌, ℕ, zero, suc, ◌+◌, ◌<◌, ◌≤◌, eqb, cond, List, [], ◌∷◌, ◌++◌, length, map, take}
+use Rattle.std.proofs.Common.{slice_index, refl, sym, ap, ◌∙◌, arith, rules, inl, inr, ⊎_elim, ◌⊎◌, false}
 use Rattle.std.proofs.lemmas.Bool.Decides.{nat_tests}
-use Rattle.std.proofs.lemmas.List.{get_or_past, take_all, take_more, take-take}
-use Rattle.std.proofs.lemmas.List.Elements.{All-take}
-use Rattle.std.proofs.lemmas.List.FromFn.{length-map-range_with_len, get_or-map-range_with_len}
+use Rattle.std.proofs.lemmas.List.{get_or_past, take_more, take-take}
 use Rattle.std.proofs.lemmas.List.Sums.{sum_by-le, sum_by-take-le}
 use Rattle.std.proofs.lemmas.Slice.Zip.{length-zip, get_or-zip}
-use Rattle.std.specs.List.{range_with_len, zip}
-use Rattle.std.specs.declared.alloc.Global.{Global}
-use Rattle.std.specs.declared.vec.Vec.{Vec}
+use Rattle.std.specs.List.{zip}
 use mathlib.Core.Logic.{dite}
 use native.Mathlib.Decide.{dec_lt}
-use Rattle.chip_graph.proofs.PickLemmas.{length-picked}
-use Rattle.chip_graph.proofs.SumLemmas.{sum_below_ext, sum_by_place, sum_small}
 use Rattle.chip_graph.specs.ChipGame.{ChipGame, IsGame}
 use Rattle.chip_graph.specs.More.{HasMore, AreOfVertices, brought_to}
-use Rattle.chip_graph.specs.Multigraph.{Multigraph, IsGraph, degree}
-use Rattle.chip_sequence.proofs.BoundLemmas.{chips_are_kept}
-use Rattle.chip_sequence.proofs.CertificateLemmas.{inflow_outside}
-use Rattle.chip_sequence.proofs.EndLemmas.{continued, least_action, one_end}
-use Rattle.chip_sequence.proofs.FiringLemmas.{counts-append, counts_outside, more_chips, position_is, sequence-append}
+use Rattle.chip_graph.specs.Multigraph.{Multigraph}
+use Rattle.chip_sequence.proofs.EndLemmas.{least_action}
+use Rattle.chip_sequence.proofs.FiringLemmas.{counts-append, more_chips, sequence-append}
 use Rattle.chip_sequence.proofs.StageLemmas.{played_is_stage}
-use Rattle.chip_sequence.specs.Firing.{IsStable, legal_vertices}
+use Rattle.chip_sequence.specs.Firing.{IsStable}
 use Rattle.chip_sequence.specs.Play.{IsPlayed}
-use Rattle.chip_sequence.specs.Sequence.{position_after, counts}
 use Rattle.chip_sequence.specs.declared.outcome.Outcome.{Outcome}
 use Rattle.chip_fire.proofs.DropLemmas.{drops_add_up}
 use Rattle.chip_fire.specs.Avalanches.{AreAvalanches}
-use Rattle.chip_report.specs.ReportText.{is_closed, is_empty}
+use Rattle.chip_report.specs.ReportText.{is_closed}
 use Rattle.chip_command.proofs.OneReportLemmas.{one_game, one_more, same_numbers}
 use Rattle.chip_command.specs.Reports.{plain_status}
+use Rattle.chip_engine.proofs.DropLemmas.{closes}
 use Rattle.chip_engine.specs.AvalanchesCommand.{Closes, DropsComeTo}
 use Rattle.chip_engine.specs.DropRows.{rows_text}
-use Rattle.chip_library.proofs.DropLemmas.{all_more, outcome_ends, pile_ends, rests_there, some_stopped, stopped_there}
+use Rattle.chip_library.proofs.DropLemmas.{all_more, outcome_ends, pile_ends, stopped_there}
 use Rattle.chip_library.proofs.KeptLemmas.{drops_follow}
-use Rattle.chip_library.specs.Drops.{Told, drops_of, AreOn, AreMade, ComesToRest, IsFaultOfDrops, IsStopped, game_of}
+use Rattle.chip_library.specs.Drops.{Told, drops_of, AreOn, AreMade, IsFaultOfDrops, IsStopped, game_of}
 use Rattle.chip_library.specs.declared.fault.CallFault.TheVariants.{Stopped}
 use Rattle.chip_library.specs.KeptGames.{KeptGame, IsKept}
 use Rattle.chip_library.specs.declared.kept.PileState.TheVariants.{Halted}
@@ -46,62 +36,6 @@ use Rattle.chip_agree.specs.DropsReported.{Agree, AgreeOnAll, AgreeBefore}
 use Rattle.chip_agree.proofs.laws.avalanches_agree.Goals as goal
 
 -- ---- plays
-
--- a vector of these numbers in place of another
-abbrev vector_of : Vec ℕ Global → (xs : List ℕ) → length xs < 2 ^ 63 → Vec ℕ Global
-vector_of v xs few =
-    record v { len = length xs; cap = length xs; items = xs; ok = (refl, omega arith); small = few }
-
--- the first n values of a function
-abbrev listed : ℕ → (ℕ → ℕ) → List ℕ
-listed n f = map f (range_with_len 0 n)
-
--- they are all values if the others are 0
-at_listed : (n : ℕ) (f : ℕ → ℕ) → ((u : ℕ) → n ≤ u → f u ≡ 0) → (u : ℕ) → slice_index (listed n f) u ≡ f u
-at_listed n f none u =
-    let long = length-map-range_with_len f 0 n in
-    grind (arith, get_or-map-range_with_len f 0 n u u 0, get_or_past (listed n f) u 0, none u)
-
--- each game has an outcome
-some_outcome : (g : ChipGame) → IsGraph g.graph → length g.start ≡ g.graph.vertices → Vec ℕ Global
-    → (o : Outcome) × IsPlayed g o
-some_outcome g fits each v =
-    let n : ℕ = g.graph.vertices in
-    let few = fits.few_vertices in
-    let (vs, whole) = continued g.graph (slice_index g.start) g.limit [] tt (λ u. omega arith) in
-    let left : ℕ → ℕ = position_after g.graph (slice_index g.start) vs in
-    let test : ℕ → Bool = λ w. not (eqb w g.graph.sink) && leb (degree g.graph w) (slice_index (listed n left) w) in
-    let fired_at = at_listed n (counts vs) (λ u past. counts_outside g.graph vs _ u whole.sequence past) in
-    let chips_at = at_listed n left (λ u past. let led = position_is g.graph vs _ whole.sequence u in
-    let none = inflow_outside g.graph fits (counts vs) u past in grind (arith, get_or_past g.start u 0)) in
-    let fired_each = length-map-range_with_len (counts vs) 0 n in
-    let chips_each = length-map-range_with_len left 0 n in (
-      record {
-        fired = vector_of v (listed n (counts vs)) (omega arith);
-        chips = vector_of v (listed n left) (omega arith);
-        over = vector_of v (legal_vertices g.graph (slice_index (listed n left)))
-            (let a = length-picked test n in let b = sum_small n 1 test (λ e. 1) (λ e l. omega arith) in omega arith);
-        sealed = vector_of v [] (omega arith);
-      },
-      record {
-        ends = (vs, whole);
-        fired_each = fired_each;
-        chips_each = chips_each;
-        counted = λ ws play u. fired_at u ∙ (one_end g.graph _ g.limit vs ws whole play).0 u;
-        position = λ ws play u. chips_at u ∙ (one_end g.graph _ g.limit vs ws whole play).1 u;
-        low_counts = λ u. let a = fired_at u in let b = whole.within u in omega arith;
-        kept = let a = chips_are_kept g.graph fits (slice_index g.start) vs whole.sequence in
-            let b = sum_below_ext n (slice_index (listed n left)) left (λ u l. chips_at u) in
-            cc (sum_by_place (listed n left), sum_by_place g.start);
-        over = refl {A = List ℕ};
-        sealed = refl;
-      },
-    )
-
--- the limit has stopped a vertex of an outcome that is not closed
-some_over : (over : List ℕ) → (is_empty over && true) ≡ false → 0 < length over
-some_over [] going = cc going
-some_over (v ∷ over) going = omega arith
 
 -- the chips at the start with drops on vertices
 start_is : (g : ChipGame) → IsGame g → (ds : List (ℕ × ℕ)) → AreOfVertices g ds → (more : ChipGame) → HasMore g ds more
@@ -141,10 +75,8 @@ drops_are told at amounts on = rw (← on.vertices, ← on.chips) (pairs told)
 -- the first pairs are those of the first numbers
 take_zip : (n : ℕ) (at amounts : List ℕ) → zip (take n at) (take n amounts) ≡ take n (zip at amounts)
 take_zip zero at amounts = refl
-take_zip (suc n) [] amounts = refl
-take_zip (suc n) (v ∷ at) [] = refl
-take_zip (suc n) (v ∷ at) (count ∷ amounts) =
-    ap (λ (ds : List (ℕ × ℕ)). (v, count) ∷ ds) (take_zip n at amounts)
+take_zip (suc n) (v ∷ at) (count ∷ amounts) = cc (take_zip n at amounts)
+take_zip (suc n) _ _ = refl
 
 module _ (g : ChipGame) (at amounts : List ℕ) where
   -- the drops
@@ -155,22 +87,14 @@ module _ (g : ChipGame) (at amounts : List ℕ) where
   abbrev Stops : ℕ → Type 0
   Stops n = (few : ChipGame) × HasMore g (take n ds) few × IsStopped few
 
-  -- the limit does not stop it
-  abbrev Rests : ℕ → Type 0
-  Rests n = (all : ChipGame) × HasMore g (take n ds) all × ComesToRest all
-
   -- these avalanches on an outcome of the game left y
   abbrev Fell : List Told → (ℕ → ℕ) → Type 0
   Fell told y = (o : Outcome) × IsPlayed g o × AreAvalanches g.graph (slice_index o.chips.items) told y
 
   -- the limit stops the game, and no drop was made; or it stops the play of drop n, and those before it were made
   abbrev Halts : List Told → Type 0
-  Halts told = (Stops 0 × (told ≡ [])) ⊎ ((n : ℕ) × (n < length ds) × Stops (n + 1) × Rests n
-      × (drops_of told ≡ take n ds) × (y : ℕ → ℕ) × Fell told y)
-
-  -- all drops are the first
-  all_first : take (length ds) ds ≡ ds
-  all_first = take_all (length ds) ds (omega arith)
+  Halts told = (Stops 0 × (told ≡ [])) ⊎ ((n : ℕ) × (n < length ds) × Stops (n + 1)
+      × Closes g (take n ds) × (drops_of told ≡ take n ds) × (y : ℕ → ℕ) × Fell told y)
 
   -- drops on the game have one list of avalanches
   one_fall : (told others : List Told) (y z : ℕ → ℕ) → Fell told y → Fell others z → drops_of told ≡ drops_of others
@@ -185,126 +109,106 @@ module _ (g : ChipGame) (at amounts : List ℕ) where
   stops : (n : ℕ) (few : ChipGame) → HasMore g (take n ds) few → (o : Outcome) → IsPlayed few o → is_closed o ≡ false
       → Stops n
   stops n few more o played going =
-      let legal = some_stopped few o played (some_over o.over.items (rw played.sealed at going)) in
-      (few, more, stopped_there few o.chips.items (outcome_ends few o played) legal)
+      let (vs, play) = played.ends in
+      (few, more, (vs, play, λ ended. cc (closes g _ few o more played (few, more, (vs, play, ended)), going)))
 
-  module _ (game : IsGame g) (inside : AreOfVertices g ds) where
-    -- a game that the limit stops is stopped with more drops: a vertex that is legal at the end of its play has fired
-    -- as often as the limit allows, and fires once more with more chips
-    apart : (m n : ℕ) → m ≤ n → Stops m → Rests n → ⊥
-    apart m n l (few, one, (vs, play, going)) (all, two, (ws, whole, ended)) =
-        let within = λ (k : ℕ). All-take (λ (d : ℕ × ℕ). d.0 < g.graph.vertices) k ds inside in
-        let less : (u : ℕ) → slice_index few.start u ≤ slice_index all.start u = (λ u.
-        let a = start_is g game (take m ds) (within m) few one u in
-        let b = start_is g game (take n ds) (within n) all two u in
-        let c = sum_by-take-le (λ (d : ℕ × ℕ). cond (eqb d.0 u) d.1 0) (take n ds) m in
-        let d = rw (take-take m n ds l) at c in omega arith) in
-        let p = rw (one.same_graph, one.same_limit) at play in
-        let q = rw (two.same_graph, two.same_limit) at whole in
-        let rest = rw two.same_graph at ended in
-        going (rw one.same_graph (λ v can.
-        let once = more_chips g.graph _ _ less _ (sequence-append g.graph vs (v ∷ []) _ p.sequence (can, tt)) in
-        let fired = least_action g.graph _ (g.limit + 1) ws q.sequence (λ u l. absurd (rest u l)) (vs ++ v ∷ []) once
-        (λ u. grind (arith, nat_tests, counts-append vs (v ∷ []) u, p.within u)) v in
-        let full = p.ended v can in let low = q.within v in grind (arith, nat_tests, counts-append vs (v ∷ []) v)))
+  -- a game that the limit stops is stopped with more drops: a vertex that is legal at the end of its play has fired as
+  -- often as the limit allows, and fires once more with more chips
+  apart : (m : ℕ) (es : List (ℕ × ℕ)) → take m es ≡ take m ds → Stops m → Closes g es → ⊥
+  apart m es first (few, one, (vs, play, going)) (all, two, (ws, whole, ended)) =
+      let same = one.same_graph ∙ sym two.same_graph in
+      let p = rw (same, one.same_limit ∙ sym two.same_limit) at play in
+      let less : (u : ℕ) → slice_index few.start u ≤ slice_index all.start u = (λ u.
+      let a = sum_by-take-le (λ (d : ℕ × ℕ). cond (eqb d.0 u) d.1 0) es m in
+      let b = rw first at a in
+      grind (arith, one.start u, two.start u, get_or_past few.start u 0)) in
+      going (rw same (λ v can.
+      let once = more_chips all.graph _ _ less _ (sequence-append all.graph vs (v ∷ []) _ p.sequence (can, tt)) in
+      let fired = least_action all.graph _ (all.limit + 1) ws whole.sequence (λ u l. absurd (ended u l)) (vs ++ v ∷ [])
+      once (λ u. grind (arith, nat_tests, counts-append vs (v ∷ []) u, p.within u)) v in
+      let full = p.ended v can in let low = whole.within v in grind (arith, nat_tests, counts-append vs (v ∷ []) v)))
 
-    -- where the plays of all outcomes have ended, there is one
-    rests : (n : ℕ) → Outcome → Closes g (take n ds) → Rests n
-    rests n any (few, more, stable) =
-        let (o, played) = some_outcome few (rw more.same_graph game.graph_fits)
-        (rw (more.same_graph, more.start_each) game.start_fits) any.fired in
-        (few, more, rests_there few o.chips.items (outcome_ends few o played) (stable o played))
+  -- the drops before the play that is stopped have one list of avalanches
+  one_stop : (told others : List Told) → Halts told → Halts others → told ≡ others
+  one_stop told others (inl game) (inl also) = game.1 ∙ sym also.1
+  one_stop told others (inl game) (inr drop) = absurd (apart 0 (take drop.0 ds) refl game.0 drop.3)
+  one_stop told others (inr drop) (inl game) = absurd (apart 0 (take drop.0 ds) refl game.0 drop.3)
+  one_stop told others (inr (n, l, stopped, rested, drops, y, fell)) (inr (m, l', also, rest, named, z, fall)) =
+      let below : n < m → ⊥ = (λ less. apart (n + 1) (take m ds) (take-take (n + 1) m ds (omega arith)) stopped rest) in
+      let above : m < n → ⊥ = (λ less. apart (m + 1) (take n ds) (take-take (m + 1) n ds (omega arith)) also rested) in
+      let level : n ≡ m = omega arith in
+      one_fall told others y z fell fall (drops ∙ ap (λ (k : ℕ). take k ds) level ∙ sym named)
 
-    -- the drops before the play that is stopped have one list of avalanches
-    one_stop : (told others : List Told) → Halts told → Halts others → told ≡ others
-    one_stop told others (inl game) (inl also) = game.1 ∙ sym also.1
-    one_stop told others (inl game) (inr drop) = absurd (apart 0 drop.0 (omega arith) game.0 drop.3)
-    one_stop told others (inr drop) (inl game) = absurd (apart 0 drop.0 (omega arith) game.0 drop.3)
-    one_stop told others (inr (n, l, stopped, rested, drops, y, fell)) (inr (m, l', also, rest, named, z, fall)) =
-        let below : n < m → ⊥ = (λ less. apart (n + 1) m (omega arith) stopped rest) in
-        let above : m < n → ⊥ = (λ less. apart (m + 1) n (omega arith) also rested) in
-        let level : n ≡ m = omega arith in
-        one_fall told others y z fell fall (drops ∙ ap (λ (k : ℕ). take k ds) level ∙ sym named)
+  -- where the limit stops a play, `avalanches` tells the drops before it
+  halts_agree : (told : List Told) → Halts told → (rows : List ℕ) (last : ChipGame) (o : Outcome)
+      → DropsComeTo g ds rows last o → IsPlayed last o → (rows ≡ rows_text told) × (plain_status o ≡ 2)
+  halts_agree told halts rows last o (inl (tells, more)) played =
+      absurd (⊎_elim (λ game. apart 0 ds refl game.0 tells.0) (λ drop. apart (drop.0 + 1) ds refl drop.2 tells.0) halts)
+  halts_agree told halts rows last o
+      (inr (inl (j, l, (rested, p, also, left, (others, named, are, text)), more, going))) played =
+      let stopped = stops (j + 1) last more o played going in
+      let same = one_stop others told (inr (j, l, stopped, rested, named, left, (p, also, are))) halts in
+      (text ∙ ap rows_text same, rw going refl)
+  halts_agree told halts rows last o (inr (inr (text, same, going))) played =
+      let none = one_stop [] told (inl (stops 0 last (rw same (search rules)) o played going, refl)) halts in
+      (text ∙ ap rows_text none, rw going refl)
 
-    -- where the limit stops a play, `avalanches` tells the drops before it
-    halts_agree : (told : List Told) → Halts told → (rows : List ℕ) (last : ChipGame) (o : Outcome)
-        → DropsComeTo g ds rows last o → IsPlayed last o → (rows ≡ rows_text told) × (plain_status o ≡ 2)
-    halts_agree told halts rows last o (inl (tells, more)) played =
-        let all = rests (length ds) o (rw all_first tells.0) in
-        absurd (⊎_elim (λ game. apart 0 (length ds) (omega arith) game.0 all)
-        (λ drop. apart (drop.0 + 1) (length ds) (omega arith) drop.2 all) halts)
-    halts_agree told halts rows last o
-        (inr (inl (j, l, (closes, p, also, left, (others, named, are, text)), more, going))) played =
-        let stopped = stops (j + 1) last more o played going in
-        let same = one_stop others told (inr (j, l, stopped, rests j o closes, named, left, (p, also, are))) halts in
-        (text ∙ ap rows_text same, rw going refl)
-    halts_agree told halts rows last o (inr (inr (text, same, going))) played =
-        let none = one_stop [] told (inl (stops 0 last (rw same (search rules)) o played going, refl)) halts in
-        (text ∙ ap rows_text none, rw going refl)
+  module _ (game : IsGame g) (told : List Told) (chips : List ℕ) (each : length chips ≡ g.graph.vertices)
+      (on : AreOn told at amounts) (made : AreMade g told (slice_index chips)) where
+    -- the limit does not stop the game with all drops
+    rest : Closes g ds
+    rest = (made.rest.0, rw (← drops_are told at amounts on) made.rest.1, made.rest.3)
 
-    module _ (told : List Told) (chips : List ℕ) (each : length chips ≡ g.graph.vertices) (on : AreOn told at amounts)
-        (made : AreMade g told (slice_index chips)) where
-      -- the limit does not stop the game with all drops
-      rest : Rests (length ds)
-      rest = (made.rest.0, rw (all_first, ← drops_are told at amounts on) made.rest.1, made.rest.3)
+    -- the chips that the drops left are those of the game with all of them
+    chips_are : (o : Outcome) → IsPlayed made.rest.0 o → chips ≡ o.chips.items
+    chips_are o played =
+        let (all, more, is, (vs, play, ended)) = made.rest in
+        let (q, begun, fall) = made.avalanches in
+        let stable : IsStable g.graph (slice_index q.chips.items) = (λ v can. apart 0 ds refl
+        (g, search rules, stopped_there g q.chips.items (outcome_ends g q begun) (λ stable. stable v can)) rest) in
+        let sums = drops_add_up g.graph game.graph_fits _ _ _ (played_is_stage g q begun) stable told _ fall _
+        (start_is g game (drops_of told) made.vertices all more) vs (rw more.same_graph at play.sequence)
+        (rw more.same_graph at ended) in
+        same_numbers chips o.chips.items (each ∙ sym (rw more.same_graph at played.chips_each))
+        (λ v l. sums.1 v ∙ sym (rw more.same_graph at (played.position vs play v)))
 
-      -- the chips that the drops left are those of the game with all of them
-      chips_are : (o : Outcome) → IsPlayed made.rest.0 o → chips ≡ o.chips.items
-      chips_are o played =
-          let (all, more, is, (vs, play, ended)) = made.rest in
-          let (q, begun, fall) = made.avalanches in
-          let stable : IsStable g.graph (slice_index q.chips.items) = (λ v can. apart 0 (length ds) (omega arith)
-          (g, search rules, stopped_there g q.chips.items (outcome_ends g q begun) (λ stable. stable v can)) rest) in
-          let sums = drops_add_up g.graph game.graph_fits (slice_index g.start) (slice_index q.fired.items)
-          (slice_index q.chips.items) (played_is_stage g q begun) stable told (slice_index chips) fall
-          (slice_index all.start) (start_is g game (drops_of told) made.vertices all more) vs
-          (rw more.same_graph at play.sequence) (rw more.same_graph at ended) in
-          same_numbers chips o.chips.items (each ∙ sym (rw more.same_graph at played.chips_each))
-          (λ v l. sums.1 v ∙ sym (rw more.same_graph at (played.position vs play v)))
-
-      -- where it stops none, `avalanches` tells all drops
-      made_agree : (rows : List ℕ) (last : ChipGame) (o : Outcome) → DropsComeTo g ds rows last o → IsPlayed last o
-          → (rows ≡ rows_text told) × ((plain_status o ≡ 0) × (chips ≡ o.chips.items))
-      made_agree rows last o (inl ((closes, p, also, left, (others, named, are, text)), more)) played =
-          let drops = drops_are told at amounts on in
-          let closed = true_from_ne_false _ (λ going. apart (length ds) (length ds) (omega arith)
-          (stops (length ds) last (rw all_first more) o played going) rest) in
-          let same = one_fall others told left _ (p, also, are) made.avalanches (named ∙ sym drops) in
-          let is = rw (one_more g ds last made.rest.0 more (rw drops at made.rest.1)) at played in
-          (text ∙ ap rows_text same, (rw closed refl, chips_are o is))
-      made_agree rows last o (inr (inl (j, l, tells, more, going))) played =
-          absurd (apart (j + 1) (length ds) (omega arith) (stops (j + 1) last more o played going) rest)
-      made_agree rows last o (inr (inr (text, same, going))) played =
-          absurd (apart 0 (length ds) (omega arith) (stops 0 last (rw same (search rules)) o played going) rest)
+    -- where it stops none, `avalanches` tells all drops
+    made_agree : (rows : List ℕ) (last : ChipGame) (o : Outcome) → DropsComeTo g ds rows last o → IsPlayed last o
+        → (rows ≡ rows_text told) × ((plain_status o ≡ 0) × (chips ≡ o.chips.items))
+    made_agree rows last o (inl ((rested, p, also, left, (others, named, are, text)), more)) played =
+        let drops = drops_are told at amounts on in
+        let same = one_fall others told left _ (p, also, are) made.avalanches (named ∙ sym drops) in
+        let is = rw (one_more g ds last made.rest.0 more (rw drops at made.rest.1)) at played in
+        (text ∙ ap rows_text same, (rw (closes g ds last o more played rested) refl, chips_are o is))
+    made_agree rows last o (inr (inl (j, l, tells, more, going))) played =
+        absurd (apart (j + 1) ds refl (stops (j + 1) last more o played going) rest)
+    made_agree rows last o (inr (inr (text, same, going))) played =
+        absurd (apart 0 ds refl (stops 0 last (rw same (search rules)) o played going) rest)
 
   -- what holds of all that the drops come to holds of what `avalanches` wrote
-  agree : (told : List Told) (IsEnd : Outcome → Type 0) → (IsGame g → AreOfVertices g ds → (rows : List ℕ)
-      (last : ChipGame) (o : Outcome) → DropsComeTo g ds rows last o → IsPlayed last o
-      → (rows ≡ rows_text told) × IsEnd o) → Agree g at amounts told IsEnd
+  agree : (told : List Told) (IsEnd : Outcome → Type 0) → ((rows : List ℕ) (last : ChipGame) (o : Outcome)
+      → DropsComeTo g ds rows last o → IsPlayed last o → (rows ≡ rows_text told) × IsEnd o) → Agree g at amounts told IsEnd
   agree told IsEnd ends limits graph_text chips_text drops_text rows asked report ended means named wrote =
       ⊎_elim (λ none. absurd none) (λ (h, gave, es, gives, fell). ⊎_elim
       (λ (o, (text, last, comes, played, out), answer).
-      let same : h ≡ g = one_game limits limits graph_text chips_text g.limit h g
-      (gave.means graph_text refl chips_text refl) means in
+      let same = one_game limits limits _ _ _ h g (gave.means graph_text refl chips_text refl) means in
       let also = rw same at (gives.0 drops_text refl).1 in
       let drops : es ≡ ds = cc in
       let text_is : rows ≡ text = out in
-      let come = rw (same, drops, ← text_is) at comes in
-      let end = ends means.game (rw (same, drops) at gives.1) rows last o come played in
+      let end = ends rows last o (rw (same, drops, ← text_is) at comes) played in
       (end.0, o, end.1, answer)) (λ none. absurd none) fell) wrote
 
   -- a call that made all drops agrees
-  agree_made : (told : List Told) (chips : List ℕ) → length chips ≡ g.graph.vertices → AreOn told at amounts
+  agree_made : IsGame g → (told : List Told) (chips : List ℕ) → length chips ≡ g.graph.vertices → AreOn told at amounts
       → AreMade g told (slice_index chips) → AgreeOnAll g at amounts chips told
-  agree_made told chips each on made =
-      (on, agree told _ (λ game inside. made_agree game inside told chips each on made))
+  agree_made game told chips each on made = (on, agree told _ (made_agree game told chips each on made))
 
   -- so does one that the limit stopped at the game
   agree_none : (i : ℕ) → i ≡ 0 → IsStopped g → AgreeBefore g at amounts i []
   agree_none i first stopped =
       let halts : Halts [] = inl ((g, search rules, stopped), refl) in
       let on : AreOn [] (take i at) (take i amounts) = rw first (record { vertices = refl; chips = refl }) in
-      (sym first, on, agree [] _ (λ game inside. halts_agree game inside [] halts))
+      (sym first, on, agree [] _ (halts_agree [] halts))
 
   -- and one that it stopped at drop i
   agree_before : (told : List Told) (y : ℕ → ℕ) (i : ℕ) → length told ≡ i → AreMade g told y
@@ -314,12 +218,12 @@ module _ (g : ChipGame) (at amounts : List ℕ) where
   agree_before told y i long made on aligned l all adds stopped =
       let many = length-zip at amounts in
       let drops = drops_are told (take i at) (take i amounts) on ∙ take_zip i at amounts in
-      let next = take_more ds i (0, 0) (omega arith)
-      ∙ ap (λ (d : ℕ × ℕ). take i ds ++ d ∷ []) (get_or-zip at amounts i (0, 0) l (omega arith)) in
-      let stops : Stops (i + 1) = (all, rw (next, ← drops) adds, stopped) in
-      let rests : Rests i = (made.rest.0, rw (← drops) made.rest.1, made.rest.3) in
+      let next = take_more ds i (0, 0) (omega arith) in
+      let last = get_or-zip at amounts i (0, 0) l (omega arith) in
+      let stops : Stops (i + 1) = (all, rw (next, last, ← drops) adds, stopped) in
+      let rests : Closes g (take i ds) = (made.rest.0, rw (← drops) made.rest.1, made.rest.3) in
       let halts : Halts told = inr (i, omega arith, stops, rests, drops, y, made.avalanches) in
-      (long, on, agree told _ (λ game inside. halts_agree game inside told halts))
+      (long, on, agree told _ (halts_agree told halts))
 
   -- a call names that drop
   agree_stopped : (i : ℕ) → length amounts ≡ length at → IsFaultOfDrops g at amounts (Stopped i)
@@ -340,7 +244,7 @@ halted_there k kept is =
 
 pub returns-clause-all : goal.returns-clause-all
 returns-clause-all c lists limit at amounts old new (aligned, game, each, told, on, tells, made) =
-    (told, tells, agree_made (game_of lists limit old) at amounts told new.chips (each ∙ game.start_fits) on made)
+    (told, tells, agree_made (game_of lists limit old) at amounts game told new.chips (each ∙ game.start_fits) on made)
 
 pub returns-clause-stopped : goal.returns-clause-stopped
 returns-clause-stopped c lists limit at amounts old new i (same, fault) = ⊎_elim (λ is. absurd (cc is.0))
@@ -354,7 +258,7 @@ returns-clause-kept c g k new at amounts before after begins
     let each : length new.pile.chips.items ≡ g.graph.vertices =
     rw (← game, ← leaves.game.same_graph) leaves.pile.begun.in_range.chips_each in
     let made = drops_follow g k played begins plays told new.pile leaves in
-    (told, tells, agree_made g at amounts told new.pile.chips.items each on made)
+    (told, tells, agree_made g at amounts begins.is_game told new.pile.chips.items each on made)
 
 pub returns-clause-kept_stopped : goal.returns-clause-kept_stopped
 returns-clause-kept_stopped c g k new at amounts before after i begins kept (aligned, falls, inl (first, same, plays)) =

@@ -3,6 +3,7 @@
 ghost use Rattle.std.specs.Prelude.{◌≡◌, ◌++◌, ◌^◌, ◌<◌, IfOk, codes, flat_map, length, string_bytes};
 ghost use Rattle.std.specs.List.{list_any};
 ghost use Rattle.chip_command.specs.CommandAnswers.{GivesAnswer};
+ghost use Rattle.chip_log.specs.Judge.{AreBeginners};
 ghost use Rattle.chip_log.specs.Judged.{is_early};
 ghost use Rattle.chip_log.specs.Order.{IsWellFormed};
 ghost use Rattle.chip_engine.specs.JudgeCommand.{JudgeAnswers, judging, judging_from, claim_text, verdict_text, past_text, end_text};
@@ -12,8 +13,8 @@ use chip_command::{Answer, Ended, Fault, Status, deliver};
 use chip_file::read_log_within;
 use chip_graph::Limits;
 use chip_log::{
-    ClaimVerdict, ClaimWatch, JudgedLog, LogEnd, LogRow, PastRows, Sizes, Verdict, beginners,
-    first_absent, first_early, judge_log,
+    ClaimVerdict, ClaimWatch, JudgedLog, LogEnd, LogRow, PastRows, Sizes, Verdict, first_absent,
+    first_early, judge_log,
 };
 use std::alloc::{AllocError, Global};
 use std::io::{Read, Write};
@@ -57,7 +58,7 @@ fn judge<L: Read, P: ClaimWatch>(
     ensures { GivesAnswer (judging_from options (L.remaining log.old)) result }
 {
     let log = read_log_within(alloc, options.limits, log)?;
-    judge_rows(alloc, log.sizes, &log.rows, options, watch)
+    judge_rows(alloc, log.sizes, &log.rows, &log.beginners, options, watch)
 }
 
 /// The verdicts on the claims of these rows, if each expected process has one.
@@ -65,26 +66,27 @@ fn judge_rows<P: ClaimWatch>(
     alloc: Global,
     sizes: Sizes,
     rows: &[LogRow],
+    beginners: &[Option<bool>],
     options: JudgeOptions,
     watch: &mut P,
 ) -> Result<Answer, Fault>
     requires well_formed { IsWellFormed sizes rows.now }
     requires few { length rows.now < 2 ^ 32 }
+    requires beginners { AreBeginners sizes rows.now beginners.now }
     ensures { GivesAnswer (judging options rows.now) result }
 {
-    let beginners = beginners(alloc, sizes, rows)?;
-    if let Some(process) = first_absent(&beginners, options.processes) {
+    if let Some(process) = first_absent(beginners, options.processes) {
         return Err(Fault::Absent(process));
     }
     if options.first {
-        if let Some(claim) = first_early(alloc, sizes, rows, &beginners, options.past, watch)? {
+        if let Some(claim) = first_early(alloc, sizes, rows, beginners, options.past, watch)? {
             return Ok(Answer {
                 text: text_of_early(alloc, &claim)?.into_bytes(),
                 status: Status::Halted,
             });
         }
     }
-    let judged = judge_log(alloc, sizes, rows, &beginners, options.past, watch)?;
+    let judged = judge_log(alloc, sizes, rows, beginners, options.past, watch)?;
     let text = text_of(alloc, &judged)?;
     Ok(Answer {
         text: text.into_bytes(),

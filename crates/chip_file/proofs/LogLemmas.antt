@@ -11,6 +11,7 @@ use Rattle.chip_file.proofs.Names.{gets, active_after, begins_active, AreSent, I
 use Rattle.chip_file.proofs.Names.{FitsRow, steps_of-append, active_after-append, same_stream_is, count_no, FileFault}
 use Rattle.chip_file.proofs.Names.{Row, records_of, rows_under_header, NotesAt, end_number, activity, active_behind}
 use Rattle.chip_file.proofs.Names.{AreHolders, AreActive, IsFaultless, uses, MayMake, AreAllowed, IsSoundLog, IsSoFar}
+use Rattle.chip_file.proofs.Names.{AreBeginners, begins_with, first_step, begins_with-append}
 use Rattle.chip_file.specs.declared.log.LogSoFar.{LogSoFar}
 use Rattle.chip_file.specs.LogText.{channels_to, processes_of, channels_of, sizes_of, same_end, holder, may_hold}
 use Rattle.chip_file.specs.LogText.{may_begin, lone_row_fault, placed_fault, log_row_fault, log_row_in}
@@ -189,6 +190,25 @@ active_noted log x now old new are may behind noted p =
     (sym (activity-push (steps_of x.process log) x.step may)))
     ∙ ap activity (sym (steps_of-append p log (x ∷ [])))
 
+-- ---- how processes begin
+
+begins_by : (own : Bool) (steps : List Step) (step : Step) (now h : Option Bool) → h ≡ begins_with None steps
+    → (own ≡ true → now ≡ first_step (begins_with None steps) step)
+    → (if own then now else h) ≡ begins_with None (steps ++ (if own then step ∷ [] else []))
+begins_by true steps step now h same is = is refl ∙ sym (begins_with-append None steps (step ∷ []))
+begins_by false steps step now h same is = rw append-nil same
+
+pub begins_noted : (log : List LogRow) (x : LogRow) (now : Bool) (old new : List (Option Bool))
+    → AreBeginners (sizes_of log) log old → Some now ≡ first_step (slice_index_or old x.process None) x.step
+    → NotesAt x.process now old new → length new ≡ max (length old) (x.process + 1)
+    → AreBeginners (sizes_of (log ++ x ∷ [])) (log ++ x ∷ []) new
+begins_noted log x now old new are is noted more = record {
+  each = more ∙ ap (λ n. max n (x.process + 1)) are.each ∙ sym (processes_of-push log x);
+  begins = λ q. noted q ∙ begins_by (x.process == q) (steps_of q log) x.step (Some now) _ (are.begins q)
+      (λ own. rw (← eqb-true x.process q own, ← are.begins x.process) is)
+      ∙ ap (begins_with None) (sym (steps_of-append q log (x ∷ [])));
+}
+
 -- ---- what holds of the rows
 
 held_before : (end : Step) (log : List LogRow) (x : LogRow) (p : ℕ) → holder end log ≡ Some p
@@ -244,12 +264,13 @@ sound_push log x sound placed = record {
 -- ---- one more row
 
 pub none_so_far : (s : LogSoFar) → s.log.rows.items ≡ [] → s.log.sizes ≡ record { processes = 0; channels = 0 }
-    → s.holders.items ≡ [] → s.active.items ≡ [] → IsSoFar [] s
-none_so_far s rows sizes holders active = record {
+    → s.holders.items ≡ [] → s.active.items ≡ [] → s.log.beginners.items ≡ [] → IsSoFar [] s
+none_so_far s rows sizes holders active beginners = record {
   rows = rows;
   sizes = sizes;
   holders = λ step e is. rw holders refl;
   active = λ p. rw active refl;
+  beginners = record { each = rw beginners refl; begins = λ q. rw beginners refl };
   sound = sound_none;
 }
 
@@ -258,14 +279,15 @@ pub one_more : (log : List LogRow) (x : LogRow) (old new : LogSoFar) → IsSoFar
     → new.log.sizes.processes ≡ max old.log.sizes.processes (x.process + 1)
     → new.log.sizes.channels ≡ max old.log.sizes.channels (channels_to x.step)
     → AreHolders (log ++ x ∷ []) new.holders.items → AreActive (log ++ x ∷ []) new.active.items
-    → IsSoFar (log ++ x ∷ []) new
-one_more log x old new is placed rows processes channels holders active = record {
+    → AreBeginners (sizes_of (log ++ x ∷ [])) (log ++ x ∷ []) new.log.beginners.items → IsSoFar (log ++ x ∷ []) new
+one_more log x old new is placed rows processes channels holders active beginners = record {
   rows = rows ∙ ap (λ xs. xs ++ x ∷ []) is.rows;
   sizes = same_sizes _ _ _
       (processes ∙ ap (λ (z : Sizes). max z.processes (x.process + 1)) is.sizes ∙ sym (processes_of-push log x))
       (channels ∙ ap (λ (z : Sizes). max z.channels (channels_to x.step)) is.sizes ∙ sym (channels_of-push log x));
   holders = holders;
   active = active;
+  beginners = beginners;
   sound = sound_push log x is.sound placed;
 }
 

@@ -50,7 +50,9 @@ pub use Rattle.chip_graph.specs.declared.edge.Edge.{Edge}
 pub use Rattle.chip_graph.specs.declared.fault.GraphFault.{GraphFault}
 pub use Rattle.chip_link.specs.declared.trace.TraceRow.{TraceRow}
 pub use Rattle.chip_log.proofs.CountLemmas.{steps_of-append, active_after-append, same_stream_is}
+pub use Rattle.chip_log.proofs.JudgeLemmas.{begins_with-append}
 pub use Rattle.chip_log.proofs.MetLemmas.{count_no, count_yes, same_self}
+pub use Rattle.chip_log.specs.Judge.{AreBeginners, begins_with, first_step}
 pub use Rattle.chip_log.specs.Log.{steps_of, same_stream, sends, gets, active_after, begins_active, is_active}
 pub use Rattle.chip_log.specs.Order.{AreSent, IsWellFormed, may_send}
 pub use Rattle.chip_log.specs.Past.{Fits, FitsRow}

@@ -4,6 +4,7 @@ use Rattle.std.specs.Prelude.{Option, None, Some, unwrap_or, true, false}
 use Rattle.chip_log.specs.declared.row.LogRow.{LogRow}
 use Rattle.chip_log.specs.declared.row.Step.{Step}
 use Rattle.chip_log.specs.declared.row.Step.TheVariants as step
+use Rattle.chip_log.specs.Judge.{AreBeginners}
 use Rattle.chip_log.specs.Log.{steps_of, active_after, begins_active, is_active}
 use Rattle.chip_log.specs.Order.{may_send}
 use Rattle.chip_file.specs.declared.log.LogSoFar.{LogSoFar}
@@ -73,4 +74,5 @@ pub record IsSoFar (log : List LogRow) (s : LogSoFar) : Type 0 where
   pub sizes : s.log.sizes ≡ sizes_of log
   pub holders : AreHolders log s.holders.items
   pub active : AreActive log s.active.items
+  pub beginners : AreBeginners (sizes_of log) log s.log.beginners.items
   pub sound : IsSoundLog log

@@ -5,12 +5,13 @@ ghost use Rattle.std.specs.Prelude.{slice_index_or, Some, None, IfOk, IfErr, Mat
 ghost use Rattle.std.specs.Prelude.{if◌then◌else◌};
 ghost use Rattle.csv.specs.Records.{fields_of};
 ghost use Rattle.chip_log.specs.declared.row.LogRow.{LogRow};
+ghost use Rattle.chip_log.specs.Judge.{AreBeginners, first_step};
 ghost use Rattle.chip_log.specs.Log.{steps_of};
 ghost use Rattle.chip_log.specs.Order.{IsWellFormed};
 ghost use Rattle.chip_file.specs.Answer.{Gives, ReadsText};
 ghost use Rattle.chip_file.specs.LogText.{stream, step_of_kind, log_row_in, channels_to, most_processes, most_channels};
 ghost use Rattle.chip_file.specs.LogText.{lone_row_fault, placed_fault, log_row_fault, log_text_fault, log_of_text};
-ghost use Rattle.chip_file.specs.LogText.{holder, may_hold, may_begin};
+ghost use Rattle.chip_file.specs.LogText.{holder, may_hold, may_begin, sizes_of};
 ghost use Rattle.chip_file.specs.LogSoFar.{NotesAt, end_number, active_behind, AreHolders, AreActive, IsFaultless, IsSoFar};
 ghost use Rattle.chip_file.specs.Source.{IsFresh, ReadsSource};
 
@@ -91,6 +92,8 @@ fn stream(channel: u64, is_control: bool, channels: u64) -> Option<Stream>
 pub struct Log {
     pub rows: Vec<LogRow>,
     pub sizes: Sizes,
+    /// Of each process whether it begins active; `None` if it has no row.
+    pub beginners: Vec<Option<bool>>,
 }
 
 /// The rows of a log so far, and what the checks of the next one need.
@@ -130,6 +133,7 @@ impl LogSoFar {
                     processes: 0,
                     channels: 0,
                 },
+                beginners: Vec::new(alloc),
             },
             holders: Vec::new(alloc),
             active: Vec::new(alloc),
@@ -174,6 +178,7 @@ impl LogSoFar {
     {
         hold(&mut self.holders, row)?;
         act(&mut self.active, row)?;
+        begin(&mut self.log.beginners, row)?;
         self.log.sizes = with_room(self.log.sizes, row);
         self.log.rows.push(row)?;
         Ok(())
@@ -200,6 +205,17 @@ fn act(active: &mut Vec<Option<bool>>, row: LogRow) -> Result<(), AllocError>
     let process = row.process as usize;
     let now = active_behind(known(active, process), row.step);
     note(active, process, now)?;
+    Ok(())
+}
+
+/// Notes whether the row's process begins active.
+fn begin(beginners: &mut Vec<Option<bool>>, row: LogRow) -> Result<(), AllocError>
+    ensures { IfOk result (λ _. (log : List LogRow) → AreBeginners (sizes_of log) log beginners.old.items
+        → AreBeginners (sizes_of (log ++ row ∷ [])) (log ++ row ∷ []) beginners.new.items) }
+{
+    let process = row.process as usize;
+    let begins = begins_active(known(beginners, process), row.step);
+    note(beginners, process, begins)?;
     Ok(())
 }
 
@@ -230,7 +246,8 @@ fn known<T: Copy>(list: &[Option<T>], place: usize) -> Option<T>
 /// Writes an entry into a list, which is extended if needed.
 fn note<T: Copy>(list: &mut Vec<Option<T>>, place: usize, value: T) -> Result<(), AllocError>
     requires { place < 2 ^ 40 }
-    ensures { IfOk result (λ _. NotesAt place value list.old.items list.new.items) }
+    ensures notes { IfOk result (λ _. NotesAt place value list.old.items list.new.items) }
+    ensures extends { IfOk result (λ _. length list.new.items ≡ max (length list.old.items) (place + 1)) }
 {
     if list.len() <= place {
         list.resize(place + 1, None)?;
@@ -262,6 +279,13 @@ fn active_behind(was: Option<bool>, step: Step) -> bool
     }
 }
 
+/// Whether a process begins active, by what its rows before say, if it has any, or else by its first step.
+fn begins_active(was: Option<bool>, step: Step) -> bool
+    ensures { Some result ≡ first_step was step }
+{
+    was.unwrap_or(matches!(step, Step::Active))
+}
+
 /// The number of channels up to that of a step.
 fn channels_to(step: Step) -> u32
     requires { channels_to step < 2 ^ 32 }
@@ -285,6 +309,7 @@ pub fn read_log_within<R: Read>(
     ensures reads { ReadsText limits (λ text log. log_of_text limits text ≡ Some (log.rows.items, log.sizes))
         (λ text f. log_text_fault limits text ≡ Some f) (R.remaining reader.old) (R.remaining reader.new) result }
     ensures well_formed { IfOk result (λ log. IsWellFormed log.sizes log.rows.items) }
+    ensures beginners { IfOk result (λ log. AreBeginners log.sizes log.rows.items log.beginners.items) }
     ensures few { IfOk result (λ log. length log.rows.items < 2 ^ 32) }
 {
     log_of_source(alloc, limits, &mut Source::new(reader))
@@ -302,6 +327,7 @@ pub fn log_of_source<R: Read>(
         (λ text log. log_of_text limits text ≡ Some (log.rows.items, log.sizes))
         (λ text f. log_text_fault limits text ≡ Some f) source.old source.new result }
     ensures well_formed { IfOk result (λ log. IsWellFormed log.sizes log.rows.items) }
+    ensures beginners { IfOk result (λ log. AreBeginners log.sizes log.rows.items log.beginners.items) }
     ensures few { IfOk result (λ log. length log.rows.items < 2 ^ 32) }
 {
     let text = read_source(alloc, limits, source)?;
@@ -313,6 +339,7 @@ pub fn log_of_text(alloc: Global, limits: Limits, text: &[u8]) -> Result<Log, Fi
     ensures means { Gives (λ log. log_of_text limits text.now ≡ Some (log.rows.items, log.sizes))
         (λ f. log_text_fault limits text.now ≡ Some f) result }
     ensures well_formed { IfOk result (λ log. IsWellFormed log.sizes log.rows.items) }
+    ensures beginners { IfOk result (λ log. AreBeginners log.sizes log.rows.items log.beginners.items) }
     ensures few { IfOk result (λ log. length log.rows.items ≤ length text.now) }
 {
     let so_far = visit_text(alloc, text, &HEADER, &limits, LogSoFar::new(alloc))?;

@@ -1,19 +1,18 @@
 -- Serves Judge.antt.
 -- What is left, by books.
 use Rattle.chip_log.proofs.Names.{◌≡◌, ℕ, ◌≤◌, ◌<◌, Bool, true, false, List, [], ◌∷◌, ◌++◌, refl, ap, ◌∙◌, arith}
-use Rattle.chip_log.proofs.Names.{length-set, get_or_past, All-head, All-tail, slice_index_or}
-use Rattle.chip_log.proofs.Names.{slice_set, Option, Some, None, MatchBool, dite, dec_lt, said_before, said_of, IsOf}
+use Rattle.chip_log.proofs.Names.{get_or_past, All-head, All-tail, slice_index_or}
+use Rattle.chip_log.proofs.Names.{Option, Some, None, MatchBool, dite, dec_lt, said_before, said_of, IsOf}
 use Rattle.chip_log.proofs.Names.{said_by, basic, IsVerdict, stream_of, NoWay, IsFirstWay, first_step, begins_with}
 use Rattle.chip_log.proofs.Names.{AreBeginners, busy_at, is_busy, IsLeftOver, AreCounts, AreRowsOf, IsOpenEnd, AreShown}
 use Rattle.chip_log.proofs.Names.{steps_of, is_out, outs, ins, sends, nat_tests, active_after, begins_active, is_active}
 use Rattle.chip_log.proofs.Names.{AreKept, IsLog, Fits, FitsRow, AreSized, IsPastOf, Books, Said, PastRows, ClaimPlace}
 use Rattle.chip_log.proofs.Names.{Sizes, LogRow, Step, Out, In, Active, Over, Stream, Verdict}
-use Rattle.chip_log.proofs.CountLemmas.{count-append, steps_of-append, active_after-append, own_few}
+use Rattle.chip_log.proofs.CountLemmas.{count-append, active_after-append, own_few}
 use Rattle.chip_log.proofs.MetLemmas.{count_no}
 use Rattle.chip_log.proofs.PastLemmas.{met_le, rest_of, now_le, outs_by}
 use Rattle.chip_log.proofs.SilentLemmas.{silent_is_right}
 use Rattle.chip_log.proofs.LeftLemmas.{IsLeftBehind}
-use Rattle.chip_log.proofs.QueuesLemmas.{set_at}
 use Rattle.chip_log.specs.declared.books.Said.TheVariants as said
 use Rattle.chip_log.specs.declared.verdict.Verdict.TheVariants as verdict
 use Rattle.chip_log.specs.declared.judged.LogEnd.TheVariants as end
@@ -24,22 +23,6 @@ pub begins_with-append : (begins : Option Bool) (xs ys : List Step)
     → begins_with begins (xs ++ ys) ≡ begins_with (begins_with begins xs) ys
 begins_with-append begins [] ys = refl
 begins_with-append begins (x ∷ xs) ys = begins_with-append (first_step begins x) xs ys
-
--- one more row
-pub more_beginners : (sizes : Sizes) (pre : List LogRow) (x : LogRow) (beginners : List (Option Bool))
-    → AreBeginners sizes pre beginners → x.process < sizes.processes
-    → AreBeginners sizes (pre ++ x ∷ [])
-    (slice_set beginners x.process (first_step (slice_index_or beginners x.process None) x.step))
-more_beginners sizes pre x beginners was within = record {
-  each = rw length-set was.each;
-  begins = λ q.
-      let a = set_at beginners x.process q (first_step (slice_index_or beginners x.process None) x.step) None
-      (let b = was.each in omega arith) in
-      let b = steps_of-append q pre (x ∷ []) in
-      let c = begins_with-append None (steps_of q pre) (steps_of q (x ∷ [])) in
-      let d = was.begins q in
-      grind (arith, nat_tests);
-}
 
 -- the same rows, mixed in another way
 pub beginners_as : (sizes : Sizes) (log other : List LogRow) → ((q : ℕ) → steps_of q other ≡ steps_of q log)

@@ -12,7 +12,7 @@ pub mod JudgeLemmas
 mod SameLemmas
 pub mod RightLemmas
 mod PlacesLemmas
-mod QueuesLemmas
+pub mod QueuesLemmas
 mod OrderingLemmas
 mod ProgressLemmas
 mod OrderLemmas

@@ -3,10 +3,10 @@
 ghost use Rattle.std.specs.Prelude.{◌≡◌, ◌^◌, ◌<◌, not, [], length, IfOk, MatchBool, MatchResult};
 ghost use Rattle.std.specs.List.{list_any};
 ghost use Rattle.std.specs.Option.{ForSome};
-ghost use Rattle.chip_log.specs.Past.{IsInOrder, Fits, IsPlace, AreSized};
+ghost use Rattle.chip_log.specs.Past.{IsInOrder, IsPlace, AreSized};
 ghost use Rattle.chip_log.specs.Order.{IsWellFormed, IsOrderFault};
 ghost use Rattle.chip_log.specs.Judged.{is_early, AreJudged, IsOpenEnd, IsJudgedLog};
-ghost use Rattle.chip_log.specs.Judge.{IsFirstWay, first_step, IsFirstBusy, busy_at, AreBeginners, IsLeftOver};
+ghost use Rattle.chip_log.specs.Judge.{IsFirstWay, IsFirstBusy, busy_at, AreBeginners, IsLeftOver};
 ghost use Rattle.chip_log.specs.Judge.{AreCounts, Judges, IsKnown};
 
 use crate::books::{Books, Said};
@@ -15,7 +15,7 @@ use crate::fault::OrderFault;
 use crate::judged::{ClaimVerdict, JudgedLog, LogEnd, PastRows};
 use crate::order::ordered;
 use crate::past::{ClaimPlace, Sizes, books_of_all, past_of};
-use crate::row::{LogRow, Step, Stream};
+use crate::row::{LogRow, Stream};
 use crate::verdict::Verdict;
 use crate::watch::ClaimWatch;
 use std::alloc::{AllocError, Global};
@@ -262,35 +262,5 @@ fn is_busy(said: Said, begins: Option<bool>) -> bool
         Said::Active => true,
         Said::Passive => false,
         Said::Unsaid => begins == Some(true),
-    }
-}
-
-/// Of each process whether it begins active; `None` if it has no row. All judgments of a log take this list.
-pub fn beginners(
-    alloc: Global,
-    sizes: Sizes,
-    rows: &[LogRow],
-) -> Result<Vec<Option<bool>>, AllocError>
-    requires { Fits sizes rows.now }
-    ensures { IfOk result (λ beginners. AreBeginners sizes rows.now beginners.items) }
-{
-    let mut beginners = vec![in alloc; None; sizes.processes as usize]?;
-    for row in rows {
-        let begins = beginners[row.process as usize];
-        beginners[row.process as usize] = first_of(begins, row.step);
-    }
-    Ok(beginners)
-}
-
-/// Whether a process begins active, if it has one more row.
-fn first_of(begins: Option<bool>, step: Step) -> Option<bool>
-    ensures { result ≡ first_step begins step }
-{
-    match begins {
-        Some(begins) => Some(begins),
-        None => match step {
-            Step::Active => Some(true),
-            Step::Out(_) | Step::In(_) | Step::Passive | Step::Over => Some(false),
-        },
     }
 }

@@ -4,7 +4,7 @@
 pub use absent::first_absent;
 pub use fault::OrderFault;
 pub use first::first_early;
-pub use judge::{beginners, judge_log};
+pub use judge::judge_log;
 pub use judged::{ClaimVerdict, JudgedLog, LogEnd, PastRows};
 pub use order::ordered;
 pub use past::Sizes;

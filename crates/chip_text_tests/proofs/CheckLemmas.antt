@@ -2,7 +2,9 @@
 -- What the tests of a log compute.
 use Rattle.std.proofs.Common.{◌≡◌, ◌≢◌, ℕ, ◌<◌, Bool, true, false, cond, All, List, [], ◌∷◌, ◌++◌, length, get_or, Some, Result}
 use Rattle.std.proofs.Common.{Ok, Err}
-use Rattle.std.proofs.Common.{refl, sym, ap, ◌∙◌, subst, arith, eqb-true, ltb-true}
+use Rattle.std.proofs.Common.{refl, sym, ap, ◌∙◌, subst, arith, eqb-true, ltb-true, length-set}
+use Rattle.std.proofs.lemmas.Bool.Decides.{nat_tests}
+use Rattle.std.specs.Prelude.{Option, None, slice_index_or, slice_set}
 use Rattle.std.proofs.lemmas.Bool.{and_parts}
 use Rattle.std.proofs.lemmas.List.Elements.{All-nil, All-cons, All-head, All-tail}
 use Rattle.std.proofs.lemmas.Option.{slice_get-get_or}
@@ -16,12 +18,15 @@ use Rattle.chip_log.specs.declared.row.Step.{Step}
 use Rattle.chip_log.specs.declared.row.Step.TheVariants.{Out, In, Passive, Active, Over}
 use Rattle.chip_log.specs.declared.past.Sizes.{Sizes}
 use Rattle.chip_log.specs.Log.{steps_of, is_out, is_in, sends, gets, active_after, begins_active, is_enabled, AreEnabled}
+use Rattle.chip_log.specs.Judge.{AreBeginners, first_step}
 use Rattle.chip_log.specs.Log.{HasEnds, IsInterleaving}
 use Rattle.chip_log.specs.Books.{IsOf}
 use Rattle.chip_log.specs.Past.{IsLog, Fits, FitsRow}
 use Rattle.chip_log.specs.Order.{may_send, AreSent, IsWellFormed}
-use Rattle.chip_log.proofs.CountLemmas.{same_stream_is, steps_own, steps_other, steps_push, steps_push_other, active_after-append}
+use Rattle.chip_log.proofs.CountLemmas.{steps_of-append, same_stream_is, steps_own, steps_other, steps_push, steps_push_other, active_after-append}
+use Rattle.chip_log.proofs.JudgeLemmas.{begins_with-append}
 use Rattle.chip_log.proofs.MetLemmas.{count_no}
+use Rattle.chip_log.proofs.QueuesLemmas.{set_at}
 use Rattle.chip_text_tests.specs.Checks.{sender_in, receiver_in, is_at_end, have_ends, are_sent, has_channel, fit, may_order}
 
 -- ---- the ends of streams
@@ -118,3 +123,20 @@ well_formed sizes log may =
       sent = λ p. sent_from log [] p log rest.0;
       fits = fits_from sizes log rest.1;
     }
+
+-- ---- how processes begin, after one more row
+
+pub more_beginners : (sizes : Sizes) (pre : List LogRow) (x : LogRow) (beginners : List (Option Bool))
+    → AreBeginners sizes pre beginners → x.process < sizes.processes
+    → AreBeginners sizes (pre ++ x ∷ [])
+    (slice_set beginners x.process (first_step (slice_index_or beginners x.process None) x.step))
+more_beginners sizes pre x beginners was within = record {
+  each = rw length-set was.each;
+  begins = λ q.
+      let a = set_at beginners x.process q (first_step (slice_index_or beginners x.process None) x.step) None
+      (let b = was.each in omega arith) in
+      let b = steps_of-append q pre (x ∷ []) in
+      let c = begins_with-append None (steps_of q pre) (steps_of q (x ∷ [])) in
+      let d = was.begins q in
+      grind (arith, nat_tests);
+}

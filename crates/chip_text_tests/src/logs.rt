@@ -43,12 +43,13 @@ fn reads_each_kind_of_row(rt: HostRuntime) {
     ];
     assert!(rt; log.rows.as_slice() == rows.as_slice());
     assert!(rt; log.sizes.processes == 3 && log.sizes.channels == 5);
+    assert!(rt; log.beginners.as_slice() == [Some(true), None, Some(false)].as_slice());
 }
 
 #[test]
 fn reads_a_log_of_no_rows(rt: HostRuntime) {
     let log = read(rt.alloc(), "process,kind,channel\n").expect(&rt, "a log");
-    assert!(rt; log.rows.is_empty());
+    assert!(rt; log.rows.is_empty() && log.beginners.is_empty());
     assert!(rt; log.sizes.processes == 0 && log.sizes.channels == 0);
 }
 

@@ -1,12 +1,15 @@
 //! Short words for rows, and questions to a log.
 
-ghost use Rattle.std.specs.Prelude.{◌^◌, ◌<◌, IsTrue, length};
+ghost use Rattle.std.specs.Prelude.{◌≡◌, ◌^◌, ◌<◌, IfOk, IsTrue, length};
+ghost use Rattle.chip_log.specs.Judge.{AreBeginners, first_step};
+ghost use Rattle.chip_log.specs.Past.{Fits};
 ghost use Rattle.chip_text_tests.specs.Checks.{may_order};
 
 use chip_log::{
     ClaimVerdict, ClaimWatch, JudgedLog, LogEnd, LogRow, OrderFault, Sizes, Step, Stream,
-    Unwatched, Verdict, beginners, first_absent, first_early, judge_log,
+    Unwatched, Verdict, first_absent, first_early, judge_log,
 };
+use std::alloc::{AllocError, Global};
 use std::process::Abort;
 
 /// A row of a process.
@@ -65,6 +68,26 @@ pub(crate) const SIZES: Sizes = Sizes {
     processes: 3,
     channels: 3,
 };
+
+/// Of each process whether it begins active; `None` if it has no row.
+fn beginners(alloc: Global, sizes: Sizes, rows: &[LogRow]) -> Result<Vec<Option<bool>>, AllocError>
+    requires { Fits sizes rows.now }
+    ensures { IfOk result (λ beginners. AreBeginners sizes rows.now beginners.items) }
+{
+    let mut beginners = vec![in alloc; None; sizes.processes as usize]?;
+    for row in rows {
+        let begins = beginners[row.process as usize];
+        beginners[row.process as usize] = first_of(begins, row.step);
+    }
+    Ok(beginners)
+}
+
+/// Whether a process begins active, if it has one more row.
+fn first_of(begins: Option<bool>, step: Step) -> Option<bool>
+    ensures { result ≡ first_step begins step }
+{
+    Some(begins.unwrap_or(matches!(step, Step::Active)))
+}
 
 /// The judgment of a log, with the causal past of each early claim.
 pub(crate) fn judged<W: ClaimWatch>(

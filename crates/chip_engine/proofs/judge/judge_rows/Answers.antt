@@ -6,22 +6,22 @@ use Rattle.chip_engine.proofs.judge.judge_rows.Goals as goal
 
 pub returns-in-Some : goal.returns-in-Some
 returns-in-Some g c =
-    let absent = c.first_absent.ensures c.args.sizes c.args.rows.now (rw c.deref.ensures.value c.in_ok-beginners.ensures) in
+    let absent = c.first_absent.ensures c.args.sizes c.args.rows.now c.requires.beginners in
     inl (inl (c.in-Some.process, refl, rw c.in-Some.is at absent))
 
 pub returns-in_err-claim : goal.returns-in_err-claim
 returns-in_err-claim g c =
-    let absent = c.first_absent.ensures c.args.sizes c.args.rows.now (rw c.deref.ensures.value c.in_ok-beginners.ensures) in
+    let absent = c.first_absent.ensures c.args.sizes c.args.rows.now c.requires.beginners in
     let none = rw c.in_default.is at absent in search rules
 
 pub returns-in_err-judged : goal.returns-in_err-judged
 returns-in_err-judged g c =
-    let absent = c.first_absent.ensures c.args.sizes c.args.rows.now (rw c.deref.ensures.value c.in_ok-beginners.ensures) in
+    let absent = c.first_absent.ensures c.args.sizes c.args.rows.now c.requires.beginners in
     let none = rw c.in_default.is at absent in search rules
 
 pub returns-in-Some-2 : goal.returns-in-Some-2
 returns-in-Some-2 g c =
-    let absent = c.first_absent.ensures c.args.sizes c.args.rows.now (rw c.deref.ensures.value c.in_ok-beginners.ensures) in (
+    let absent = c.first_absent.ensures c.args.sizes c.args.rows.now c.requires.beginners in (
       rw c.in_default.is at absent,
       rw c.if-options.true (inl (record {
         claim = c.in-Some-2.claim;
@@ -33,7 +33,7 @@ returns-in-Some-2 g c =
 
 pub returns : goal.returns
 returns g c =
-    let absent = c.first_absent.ensures c.args.sizes c.args.rows.now (rw c.deref.ensures.value c.in_ok-beginners.ensures) in
+    let absent = c.first_absent.ensures c.args.sizes c.args.rows.now c.requires.beginners in
     let all : JudgesAll c.args.options.past c.args.rows.now c.into_bytes-2.result.items
     (number_of_status c.status_of_judged.result) = record {
       judged = c.in_ok-judged.judged;

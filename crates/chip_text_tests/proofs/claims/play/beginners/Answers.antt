@@ -1,9 +1,10 @@
-use Rattle.chip_log.proofs.Names.{◌<◌, length, get_or, arith, take}
-use Rattle.chip_log.proofs.Names.{take_more, get_or_default, All-get_or, None}
-use Rattle.chip_log.proofs.Names.{FitsRow}
+use Rattle.std.proofs.Common.{◌<◌, length, get_or, arith, take, None}
+use Rattle.std.proofs.lemmas.List.{take_more, get_or_default}
+use Rattle.std.proofs.lemmas.List.Elements.{All-get_or}
+use Rattle.chip_log.specs.Past.{FitsRow}
 use Rattle.chip_log.proofs.LoopLemmas.{no_row}
-use Rattle.chip_log.proofs.JudgeLemmas.{more_beginners}
-use Rattle.chip_log.proofs.judge.beginners.Goals as goal
+use Rattle.chip_text_tests.proofs.CheckLemmas.{more_beginners}
+use Rattle.chip_text_tests.proofs.claims.play.beginners.Goals as goal
 
 pub loop-row-preserved : goal.loop-row-preserved
 loop-row-preserved c =

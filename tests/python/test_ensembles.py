@@ -10,9 +10,11 @@ import operator
 import os
 import pickle
 import random
+import signal
 import subprocess
 import sys
 import tempfile
+import threading
 import unittest
 from collections import Counter
 from concurrent.futures import ThreadPoolExecutor
@@ -22,7 +24,7 @@ import chipfire
 from chipfire import utils as values
 from chipfire.backend import kept
 from chipfire.backend.portions import Portions
-from chipfire.ensembles import wilson
+from chipfire.ensembles import archive, player, wilson
 from test_counts import slow_report
 from test_drops import rows_of, slow_rows
 from test_package import CHIPS_FILE, TRIANGLE
@@ -34,6 +36,23 @@ IS_HERE = chipfire.find_library() is not None
 MULTIGRAPH = chipfire.Graph.undirected([("a", "b", 2), ("b", "c"), ("a", "s", 3), ("c", "s"), ("c", "b", 2)], "s")
 #: Each square of 2 by 2 dissipates one more chip.
 LOSSY = chipfire.Graph(5, 4, [*chipfire.grid(2, 2).edges, *((vertex, 4) for vertex in range(4))])
+
+
+class Stops(player.Watch):
+    """A watch that has all stop when it was asked so many times."""
+
+    def __init__(self, left):
+        self.left = left
+        super().__init__()
+
+    @property
+    def is_stopped(self):
+        self.left -= 1
+        return self.left < 0
+
+    @is_stopped.setter
+    def is_stopped(self, _):
+        pass
 
 
 class Recurrent(unittest.TestCase):
@@ -103,9 +122,9 @@ class Recurrent(unittest.TestCase):
                 wilson.require_undirected(graph)
                 continue
             tail, head, _ = rows[uneven[0]]
-            told = f"vertex {tail} sends {sent[tail, head]} to {head} and gets {sent[head, tail]} back; and so on$"
+            told = f"vertex {tail} sends {sent[tail, head]} to {head} and gets {sent[head, tail]} back$"
             with self.assertRaisesRegex(ValueError, f"^the graph is directed: {told}"):
-                wilson.require_undirected(graph, "; and so on")
+                wilson.require_undirected(graph)
         self.assertEqual(refused, 4**6 - 6**3)
 
     def test_a_sum_of_chips_may_have_more_than_32_bits(self):
@@ -371,10 +390,6 @@ class Chains(unittest.TestCase):
                                ("for 2 chains", {"chips": [[1] * 3] * 2})]:
             with self.assertRaisesRegex(ValueError, words):
                 chipfire.chains(TRIANGLE, 3, 1, 1, **options)
-        directed = chipfire.Graph(3, 2, [(0, 1, 2), (1, 0), (0, 2)])
-        with self.assertRaisesRegex(ValueError, "directed: vertex 0 sends 2 to 1 and gets 1 back; chains on it take `chips=`$"):
-            chipfire.chains(directed, 1, 1, 1)
-        self.assertEqual(list(chipfire.chains(directed, 1, 1, 1, chips=0).made), [1])
         with self.assertRaisesRegex(ValueError, "only its sink"):
             chipfire.chains(chipfire.Graph(1, 0, []), 1, 1, 1)
         if has("numpy"):
@@ -417,6 +432,213 @@ class Chains(unittest.TestCase):
         found = chipfire.chains(TRIANGLE, 2, 0, 1, chips=[4, 0, 0])
         self.assertEqual(([len(row) for row in found.size], repr(found)), ([0, 0], "<Chains: 2 of up to 0 drops>"))
         self.assertEqual([it.tolist() for it in found.chips], [list(slow_report(TRIANGLE, [4, 0, 0]).chips)] * 2)
+
+
+def most(graph):
+    """The greatest stable chips, and none on the sink; and the most that a vertex sends."""
+    sent = Counter()
+    for tail, _, mult in graph.edges:
+        sent[tail] += mult
+    return [max(sent[it] - 1, 0) for it in range(graph.vertices)], max(sent.values())
+
+
+def played_in(graph, chips, seed, count):
+    """Chips that so many others play in, by the slow player, one after another."""
+    left = list(chips)
+    for vertex in random.Random(seed + " burn-in").choices(range(graph.vertices), k=count):
+        if vertex != graph.sink:
+            left[vertex] += 1
+            left = list(slow_report(graph, left).chips)
+    left[graph.sink] = chips[graph.sink]
+    return left
+
+
+@unittest.skipUnless(IS_HERE, "chains take the library")
+class PlayedIn(unittest.TestCase):
+    #: A wheel that turns one way, one with names whose sink is no last vertex, and one with many ways to its sink.
+    GRAPHS = [chipfire.Graph(4, 3, [(0, 1), (1, 2), (2, 0), (0, 3), (1, 3), (2, 0, 2)]),
+              chipfire.Graph(4, 1, [(0, 2, 2), (2, 3), (3, 0), (3, 1), (2, 1)], ["a", "s", "b", "c"]),
+              chipfire.Graph(5, 4, [(0, 1), (0, 2), (1, 3), (2, 3), (2, 1), (3, 4, 2), (1, 4)])]
+
+    def check_chains(self, graph, found, starts):
+        """Chains have the drops of the slow player from these starts on."""
+        for chain, (seed, start) in enumerate(zip(found.seeds, starts)):
+            drops = [(graph.number(it), 1) for it in chipfire.random_drops(graph, 30, seed)]
+            rows = zip(*(column[chain].tolist() for column in (found.size, found.extent, found.lost)))
+            self.assertEqual(list(rows), list(slow_rows(graph, start, drops)))
+            together = [there + sum(vertex == at for vertex, _ in drops) for at, there in enumerate(start)]
+            self.assertEqual(found.chips[chain].tolist(), list(slow_report(graph, together).chips))
+
+    def test_starts_on_a_directed_graph_are_played_in(self):
+        for graph in self.GRAPHS:
+            greatest, sent = most(graph)
+            count = 2 * graph.vertices * sent**2
+            starts = [played_in(graph, greatest, f"seed {chain}", count) for chain in range(5)]
+            self.assertGreater(len({*map(tuple, starts)}), 1)
+            with mock.patch.object(player, "PART", 7):
+                parts = chipfire.chains(graph, 5, 30, "seed")
+            with ThreadPoolExecutor(2) as executor:
+                for options in ({"workers": 1}, {"workers": 3}, {"executor": executor}):
+                    found = chipfire.chains(graph, 5, 30, "seed", **options)
+                    self.check_chains(graph, found, starts)
+                    self.assertEqual(found.burn_in, count)
+                    self.assertEqual([it.tolist() for it in parts.chips], [it.tolist() for it in found.chips])
+            self.assertEqual(repr(found), f"<Chains: 5 of up to 30 drops, starts played in by {count:,} chips>")
+            none = chipfire.chains(graph, 3, 0, "seed", first=2)
+            self.assertEqual([it.tolist() for it in none.chips], starts[2:])
+
+    def test_so_many_chips_as_are_said_play_in_whatever_starts_there_are(self):
+        graph = self.GRAPHS[0]
+        rows = [[0, 1, 0, 7], [1, 0, 2, 0]]
+        for chips, starts in [(None, [most(graph)[0]] * 2), (rows, rows), (0, [[0] * 4] * 2)]:
+            for count in (0, 1, 20):
+                found = chipfire.chains(graph, 2, 30, 3, chips=chips, burn_in=count)
+                self.check_chains(graph, found, [played_in(graph, *it, count) for it in zip(starts, found.seeds)])
+                self.assertEqual(found.burn_in, count)
+        self.assertEqual(chipfire.chains(graph, 2, 30, 3, chips=0).burn_in, 0)
+        grid = chipfire.grid(3, 2)
+        self.assertEqual(chipfire.chains(grid, 2, 30, 3).burn_in, 0)
+        drawn = [[*it.numbers] for it in chipfire.random_recurrent(grid, 3, 2)]
+        found = chipfire.chains(grid, 2, 30, 3, burn_in=20)
+        self.check_chains(grid, found, [played_in(grid, *it, 20) for it in zip(drawn, found.seeds)])
+
+    def test_loops_keep_their_chips(self):
+        plain = self.GRAPHS[0]
+        one, other = (chipfire.chains(it, 3, 30, 1) for it in (chipfire.Graph(4, 3, plain.edges, loops=[2, 0, 1, 0]), plain))
+        self.assertEqual([it.tolist() for it in one.size], [it.tolist() for it in other.size])
+        self.assertEqual(one.burn_in, other.burn_in)
+        for row, wanted in zip(one.chips, other.chips):
+            self.assertEqual(row.tolist(), [there + its for there, its in zip(wanted.tolist(), (2, 0, 1, 0))])
+
+    def test_starts_are_recurrent_and_even(self):
+        """Of this graph whose vertices send their chips to the sink two at a time, drops leave all chips odd or even."""
+        graph = chipfire.Graph(4, 3, [(0, 1), (0, 2), (1, 3, 2), (2, 1), (2, 3, 2)])
+        there, left = set(), [tuple(most(graph)[0])]
+        while left:
+            chips = left.pop()
+            if chips not in there:
+                there.add(chips)
+                nexts = [list(slow_report(graph, [count + (at == it) for it, count in enumerate(chips)]).chips) for at in range(3)]
+                left += [tuple(it[:3] + [0]) for it in nexts]
+        self.assertEqual(len(there), 12)
+        found = chipfire.chains(graph, 20 * len(there), 0, 5)
+        counts = Counter(tuple(it.tolist()) for it in found.chips)
+        self.assertEqual({*counts}, there)
+        freedom = len(there) - 1
+        squares = sum((count - 20) ** 2 / 20 for count in counts.values())
+        self.assertLess(abs(squares - freedom), 4 * (2 * freedom) ** 0.5)
+
+    @unittest.skipUnless(has("numpy"), "NumPy is not here")
+    def test_the_mean_size_is_that_of_the_inverse_laplacian(self):
+        import numpy
+
+        width, height = 5, 6
+        ends = [(at, at + width, min(at + width, 30), min((at // width + 1) * width + (at + 1) % width, 30)) for at in range(30)]
+        graph = chipfire.Graph(31, 30, [(at, head) for at, _, *heads in ends for head in heads])
+        mean = numpy.linalg.inv(numpy.array(chipfire.reduced_laplacian(graph), float)).sum() / 30
+        self.assertAlmostEqual(mean, (height + 1) / 4)
+        found = chipfire.chains(graph, 300, 60, 1)
+        self.assertLess(abs(found.size.mean() / mean - 1), 0.03)
+        self.assertLess(abs(found.size[:, :6].mean() / mean - 1), 0.1)
+
+    @unittest.skipUnless(has("numpy"), "NumPy is not here")
+    def test_starts_without_numpy_are_the_same(self):
+        graph = self.GRAPHS[1]
+        found = chipfire.chains(graph, 3, 20, 1, burn_in=3000)
+        with contextlib.ExitStack() as hidden:
+            for module in ("chains", "player"):
+                hidden.enter_context(mock.patch(f"chipfire.ensembles.{module}.import_optional", return_value=None))
+            other = chipfire.chains(graph, 3, 20, 1, burn_in=3000)
+        for name in ("size", "chips"):
+            self.assertEqual([it.tolist() for it in getattr(other, name)], getattr(found, name).tolist())
+
+    def test_results_say_how_starts_were_played_in(self):
+        graph = self.GRAPHS[2]
+        for collect in ("columns", "histogram"):
+            whole = chipfire.chains(graph, 4, 9, 1, collect=collect, burn_in=11)
+            one, other, third = (chipfire.chains(graph, 2, 9, 1, first=first, collect=collect, burn_in=count)
+                                 for first, count in ((0, 11), (2, 11), (2, 12)))
+            self.assertEqual(((one + other).burn_in, repr(one + other)), (11, repr(whole)))
+            self.assertTrue(repr(whole).endswith(" drops, starts played in by 11 chips>"))
+            with self.assertRaisesRegex(ValueError, "11 chips play some starts in, and 12 others"):
+                one + third
+            self.assertEqual(pickle.loads(pickle.dumps(whole)).burn_in, 11)
+            if has("numpy"):
+                with tempfile.TemporaryDirectory() as folder:
+                    whole.save(f"{folder}/all.npz")
+                    again = type(whole).load(f"{folder}/all.npz")
+                self.assertEqual((again.burn_in, repr(again)), (11, repr(whole)))
+
+    def test_files_know_how_starts_were_played_in(self):
+        graph = self.GRAPHS[2]
+        with tempfile.TemporaryDirectory() as folder:
+            for chips, counts in ((None, (11, None)), (0, (11, 0)), (0, (0, 11))):
+                file = f"{folder}/{chips}-{counts}"
+                options = {"chips": chips, "checkpoint": file}
+                whole = chipfire.chains(graph, 4, 9, 1, burn_in=counts[0], **options)
+                again = chipfire.chains(graph, 4, 9, 1, burn_in=counts[0], **options)
+                self.assertEqual([it.tolist() for it in whole.chips], [it.tolist() for it in again.chips])
+                with self.assertRaisesRegex(ValueError, "has chains of other burn_in$"):
+                    chipfire.chains(graph, 4, 9, 1, burn_in=counts[1], **options)
+
+    def test_an_older_file_has_no_burn_in(self):
+        found = chipfire.chains(chipfire.grid(2, 2), 1, 3, 1)
+        for kind, collect in ((chipfire.Chains, "columns"), (chipfire.Histograms, "histogram"))[: 2 * has("numpy")]:
+            found = chipfire.chains(chipfire.grid(2, 2), 1, 3, 1, collect=collect)
+            save = archive.save
+            with tempfile.TemporaryDirectory() as folder:
+                with mock.patch.object(archive, "save", lambda file, kind, said, its: (said.pop("burn_in"), save(file, kind, said, its))):
+                    found.save(f"{folder}/old.npz")
+                self.assertEqual(kind.load(f"{folder}/old.npz").burn_in, 0)
+
+    def test_what_stops_before_a_start_is_played_in_has_none(self):
+        graph = self.GRAPHS[0]
+        greatest, _ = most(graph)
+        start = played_in(graph, greatest, "1 0", 4000)
+        seen = set()
+        for left in range(60):
+            with mock.patch.multiple(kept, _FIRST_VISITS=1, _MOST_VISITS=1), mock.patch.object(player, "PART", 500):
+                with mock.patch("chipfire.ensembles.spread.Watch", lambda: Stops(left)):
+                    found = chipfire.chains(graph, 1, 0, 1, workers=1, burn_in=4000)
+            chips = found.chips[0].tolist()
+            self.assertIn(chips, (greatest, start))
+            seen.add(tuple(chips))
+        self.assertEqual(seen, {tuple(greatest), tuple(start)})
+        with mock.patch.object(player, "PART", 500), mock.patch.object(player, "_add_ones") as drawn:
+            with mock.patch("chipfire.ensembles.spread.Watch", lambda: Stops(2)):
+                chipfire.chains(graph, 1, 0, 1, workers=1, burn_in=4000)
+        self.assertEqual(drawn.call_count, 3)
+        with mock.patch.object(player._Player, "_has_begun", lambda *_: False):
+            found = chipfire.chains(graph, 1, 9, 1)
+        self.assertEqual((found.chips[0].tolist(), list(found.made)), (greatest, [0]))
+
+    def test_a_start_that_is_left_is_not_played_in(self):
+        """A thread that plays it in does not come to the end before an interrupt has ended the call."""
+        self.addCleanup(signal.signal, signal.SIGINT, signal.signal(signal.SIGINT, signal.default_int_handler))
+        play, may_end, before = kept.KeptPile.play, threading.Event(), {*threading.enumerate()}
+
+        def endless(pile):
+            number = play(pile)
+            if threading.current_thread() is not threading.main_thread():
+                os.kill(os.getpid(), signal.SIGINT)
+                may_end.wait(100)
+            return number
+
+        graph = self.GRAPHS[0]
+        with mock.patch.object(kept.KeptPile, "play", endless), mock.patch("chipfire.ensembles.spread.GRACE", 0.05):
+            found = chipfire.chains(graph, 1, 9, 1, partial=True, workers=1)
+        may_end.set()
+        for thread in {*threading.enumerate()} - before:
+            thread.join(60)
+        self.assertEqual((found.chips[0].tolist(), list(found.made)), (most(graph)[0], [0]))
+
+    def test_too_many_chips_by_default_are_refused(self):
+        heavy = chipfire.Graph(3, 2, [(0, 1), (1, 0), (0, 2, 2**20), (0, 1)])
+        with self.assertRaisesRegex(ValueError, f"directed, and {6 * (2**20 + 2) ** 2:,} chips .* `burn_in=` may say fewer"):
+            chipfire.chains(heavy, 1, 1, 1)
+        self.assertEqual(list(chipfire.chains(heavy, 1, 1, 1, burn_in=5).made), [1])
+        with self.assertRaisesRegex(ValueError, "chips of a burn-in is below 0: -1"):
+            chipfire.chains(heavy, 1, 1, 1, burn_in=-1)
 
 
 def rounds(graph, chips):

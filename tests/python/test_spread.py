@@ -31,7 +31,7 @@ from chipfire.ensembles import firings, player, spread
 from chipfire.ensembles.checkpoint import Checkpoint
 from chipfire.progress import Progress
 from test_drops import slow_rows
-from test_ensembles import IS_HERE, MULTIGRAPH
+from test_ensembles import IS_HERE, MULTIGRAPH, Stops
 from test_sandpiles import has
 
 COLUMNS = ("size", "extent", "lost", "chips")
@@ -126,23 +126,6 @@ while not interrupted.is_over:
         pass
 print(number > 100, results > number // 2, parts > number // 4)
 """
-
-
-class Stops(player.Watch):
-    """A watch that has all stop when it was asked so many times."""
-
-    def __init__(self, left):
-        self.left = left
-        super().__init__()
-
-    @property
-    def is_stopped(self):
-        self.left -= 1
-        return self.left < 0
-
-    @is_stopped.setter
-    def is_stopped(self, _):
-        pass
 
 
 def interrupted_once(function):

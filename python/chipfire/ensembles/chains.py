@@ -17,11 +17,18 @@ from chipfire.ensembles import archive
 from chipfire.ensembles.checkpoint import opened
 from chipfire.ensembles.drops import column_of, COLUMNS, histogram_of
 from chipfire.ensembles.firings import Firings, firings, firings_of, stored
-from chipfire.ensembles.histograms import following, Histograms, histograms, joined
+from chipfire.ensembles.histograms import (
+    burn_in_of,
+    following,
+    Histograms,
+    histograms,
+    joined,
+    played_in,
+)
 from chipfire.ensembles.player import places_of, Plan, spanning, table_of
 from chipfire.ensembles.power_law import sizes_figure
 from chipfire.ensembles.spread import Spread
-from chipfire.ensembles.wilson import require_undirected
+from chipfire.ensembles.wilson import is_undirected
 from chipfire.graphs.graph import Graph
 from chipfire.progress import AnyProgress, Progress
 from chipfire.utils import (
@@ -39,6 +46,9 @@ from chipfire.utils import (
     WithArea,
 )
 
+
+#: The most chips that play a start in, if nobody says how many.
+_MOST_BURN_IN = 2**32
 
 #: The arrays of all chains beside those of `COLUMNS`.
 _OTHERS = ("made", "chips")
@@ -75,6 +85,8 @@ class Chains(WithArea):
         The number of the first chain of that seed.
     duration : array of shape (n, drops) or None
         For how many rounds each drop lasts, in each of which each legal vertex fires once, if that was asked for.
+    burn_in : int
+        How many chips played the start of each chain in; 0 if starts were given or drawn.
 
     See Also
     --------
@@ -102,6 +114,7 @@ class Chains(WithArea):
     seed: int | float | str | bytes | None = None
     first: int = 0
     duration: Any = None
+    burn_in: int = 0
 
     def __repr__(self) -> str:
         return f"<Chains: {self._title()}>"
@@ -118,7 +131,8 @@ class Chains(WithArea):
         return self
 
     def _title(self) -> str:
-        return f"{len(self.seeds)} of up to {len(self.size[0])} drops"
+        drops = f"{len(self.size[0])} drops{played_in(self.burn_in)}"
+        return f"{len(self.seeds)} of up to {drops}"
 
     def _repr_html_(self) -> str | None:
         """What a notebook shows: how many avalanches have each size, if Matplotlib is there, and else the text."""
@@ -148,6 +162,7 @@ class Chains(WithArea):
         numpy = archive.numpy_of_files()
         seed = archive.plain(self.seed, "the seed")
         said = {"seeds": self.seeds, "seed": seed, "first": self.first, "names": None}
+        said["burn_in"] = self.burn_in
         arrays = {name: numpy.array(getattr(self, name), "i8") for name in (*COLUMNS, *_OTHERS)}
         if self.duration is not None:
             arrays["duration"] = numpy.array(self.duration, "i8")
@@ -177,7 +192,8 @@ def _chains_of(said: dict[str, Any], arrays: dict[str, Any]) -> Chains:
     duration = archive.whole(arrays["duration"], 2) if "duration" in arrays else None
     if duration is not None and duration.shape != size.shape:
         raise ValueError("the columns differ in their shapes")
-    return Chains(seeds, size, extent, lost, made, chips, fired, seed, first, duration)
+    told = (fired, seed, first, duration, burn_in_of(said))
+    return Chains(seeds, size, extent, lost, made, chips, *told)
 
 
 def _sum(one: Chains, other: Chains) -> Chains:
@@ -205,6 +221,7 @@ def chains(
     *,
     first: int = ...,
     chips: Chips | None = ...,
+    burn_in: int | None = ...,
     on: Any = ...,
     amounts: Any = ...,
     workers: int | None = ...,
@@ -229,6 +246,7 @@ def chains(
     *,
     first: int = ...,
     chips: Chips | None = ...,
+    burn_in: int | None = ...,
     on: Any = ...,
     amounts: Any = ...,
     workers: int | None = ...,
@@ -249,6 +267,7 @@ def chains(
     *,
     first: int = 0,
     chips: Chips | None = None,
+    burn_in: int | None = None,
     on: Any = None,
     amounts: Any = None,
     workers: int | None = None,
@@ -281,7 +300,14 @@ def chains(
         The number of the first chain.
     chips : Chips, or array of shape (n, vertices) or (n, vertices - 1), optional
         The start of all chains, or of each of them. By default each begins with a `random_recurrent` configuration of
-        its own, from which on the drops are stationary. Chains on a directed graph need `chips`.
+        its own, from which on the drops are stationary. None can be drawn on a directed graph: there each begins with
+        the greatest stable configuration, which is recurrent, and is played in.
+    burn_in : int, optional
+        How many chips play each start in. They fall before the first drop, each on any vertex, the sink too, drawn
+        evenly: ``random.Random(seeds[k] + " burn-in").choices(range(graph.vertices), k=burn_in)`` has their numbers in
+        chain k. By default there are none, but on a directed graph without `chips` twice as many as the vertices times
+        the square of the most chips that a vertex sends. This follows from a bound of the eigenvalues of such drops:
+        of what the starts' probabilities differ from even ones each part has shrunk below 0.0004 of itself.
     on : iterable of hashable, or mapping of names to weights, optional
         The vertices on which chips fall. By default all but the sink, alike.
     amounts : int or sequence of int, optional
@@ -312,13 +338,14 @@ def chains(
         Whether an interrupt returns what was made until then, in place of KeyboardInterrupt. Both come within about a
         second. A long drop, and those of the same call of the library, which were to take a tenth of a second, are not
         there if they have not ended by then: a thread ends them, and nobody gets what comes of them. Chains that had
-        not begun have the chips of their starts, which are drawn then if need be. A second interrupt is raised.
+        not begun have the chips of their starts, which are drawn then if need be, and not played in. A second interrupt
+        is raised.
 
     Returns
     -------
     Chains or Histograms
         The results, with a row for each chain. A drop takes 24 bytes, or 32 with its duration, and a vertex 8 bytes in
-        each chain. While threads play, a vertex takes up to 24 bytes in each chain, or 32 if `chips` are given.
+        each chain. While threads play, a vertex takes up to 24 bytes in each chain, or 32 unless starts are drawn.
 
     Raises
     ------
@@ -369,6 +396,7 @@ def chains(
         places=places_of(known, on),
         amounts=_amounts(amounts, drops),
         starts=_starts(known, chips, n),
+        burn_in=_burn_in(known, chips, burn_in),
         until=until,
         fired=bool(fired),
         timed=bool(durations),
@@ -431,12 +459,28 @@ def _amounts(amounts: Any, drops: int) -> array[int] | int:
     return array("Q", many)
 
 
+def _burn_in(graph: Graph, chips: Any, burn_in: int | None) -> int:
+    """How many chips play each start in: if no number is given, some on a directed graph whose starts are not given, and
+    else none."""
+    if burn_in is not None:
+        return as_int(burn_in, "the number of chips of a burn-in", 0, MAX_CHIPS)
+    if chips is not None or is_undirected(graph.loop_free):
+        return 0
+    usual = 2 * graph.vertices * max(graph.loop_free.degrees()) ** 2
+    if usual > _MOST_BURN_IN:
+        raise ValueError(
+            f"the graph is directed, and {usual:,} chips would play a start in: `burn_in=` may say fewer"
+        )
+    return usual
+
+
 def _starts(graph: Graph, chips: Any, n: int) -> array[int] | None:
     """The stable chips from which n chains begin, of the rows that were given, or of one form for all; None if each begins
-    with a random recurrent configuration, for which the graph is undirected."""
+    with a random recurrent configuration. Of a directed graph it is the greatest stable one."""
     if chips is None:
-        require_undirected(graph.loop_free, "; chains on it take `chips=`")
-        return None
+        if is_undirected(graph.loop_free):
+            return None
+        chips = graph.max_stable()
     found = read_chips(chips, graph) if isinstance(chips, FILE) else chips
     if getattr(found, "ndim", 1) > 1:
         found = in_order(found, "chips are rows, or those of all chains")
@@ -468,7 +512,7 @@ def _result(plan: Plan, table: Any) -> Chains | Histograms:
     fired = firings(plan.graph, table.columns[1], table.taken()) if plan.fired else None
     duration = timed[0] if timed else None
     rows = (size, extent, lost, made, chips, fired)
-    return Chains(plan.seeds, *rows, plan.seed, plan.first, duration)
+    return Chains(plan.seeds, *rows, plan.seed, plan.first, duration, plan.burn_in)
 
 
 def _are_rows(graph: Graph, chips: Any) -> bool:

@@ -54,6 +54,8 @@ def _said(plan: Plan) -> dict[str, str]:
         "fired": plan.fired,
         "durations": plan.timed,
     }
+    if plan.burn_in:
+        values["burn_in"] = plan.burn_in
     if plan.until == "spans":
         values["shape"] = _digest(spanning(graph))
     return {name: json.dumps(value) for name, value in values.items()}
@@ -104,7 +106,7 @@ class Checkpoint:
 
     def _compare(self, said: dict[str, str]) -> None:
         there = dict(self._rows.execute("SELECT name, value FROM plan"))
-        others = [name for name, value in said.items() if there.get(name) != value]
+        others = [name for name in {**said, **there} if there.get(name) != said.get(name)]
         if others:
             raise ValueError(f"{self.file} has chains of other {', '.join(others)}")
 

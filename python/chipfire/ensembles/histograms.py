@@ -40,6 +40,8 @@ class Histograms(WithArea):
         The number of the first chain of that seed.
     duration : list of Counter or None
         For each chain how many drops last for each number of rounds, if durations were asked for. `sums` have them too.
+    burn_in : int
+        How many chips played the start of each chain in, as in `Chains`.
 
     See Also
     --------
@@ -66,9 +68,11 @@ class Histograms(WithArea):
     seed: int | float | str | bytes | None = None
     first: int = 0
     duration: list[Counter[int]] | None = None
+    burn_in: int = 0
 
     def __repr__(self) -> str:
-        return f"<Histograms: {len(self.seeds)} chains, {sum(map(int, self.made)):,} drops>"
+        drops = f"{sum(map(int, self.made)):,} drops"
+        return f"<Histograms: {len(self.seeds)} chains, {drops}{played_in(self.burn_in)}>"
 
     def __add__(self, other: Histograms) -> Histograms:
         if not isinstance(other, Histograms):
@@ -97,6 +101,7 @@ class Histograms(WithArea):
         sums = [[*map(int, self.sums[pair])] for pair in sorted(self.sums)]
         seed = archive.plain(self.seed, "the seed")
         said = {"seeds": self.seeds, "seed": seed, "first": self.first, "sums": sums}
+        said["burn_in"] = self.burn_in
         archive.save(file, "Histograms", said, arrays)
 
     @classmethod
@@ -163,6 +168,7 @@ def _histograms_of(said: dict[str, Any], arrays: dict[str, Any]) -> Histograms:
         chips=chips,
         seed=seed,
         first=first,
+        burn_in=burn_in_of(said),
     )
 
 
@@ -172,7 +178,7 @@ def histograms(plan: Plan, tally: Tally, made: Any, chips: Any) -> Histograms:
     size, extent, lost, *timed = ([*its] for its in zip(*tally.counts))
     sums = {pair: [its[at] for its in tally.sums] for at, pair in enumerate(pairs_of(names))}
     duration = timed[0] if timed else None
-    told = (plan.seed, plan.first, duration)
+    told = (plan.seed, plan.first, duration, plan.burn_in)
     return Histograms(plan.seeds, size, extent, lost, sums, made, chips, *told)
 
 
@@ -189,10 +195,23 @@ def following(one: Any, other: Any) -> dict[str, Any]:
         raise ValueError(
             f"both results have the chain of seed {min(twice)!r}: it would count twice"
         )
+    if one.burn_in != other.burn_in:
+        raise ValueError(f"{one.burn_in:,} chips play some starts in, and {other.burn_in:,} others")
     is_next = one.seed is not None and one.seed == other.seed
     is_next = is_next and one.first + len(one.seeds) == other.first
     return {
         "seeds": (*one.seeds, *other.seeds),
         "seed": one.seed if is_next else None,
         "first": one.first if is_next else 0,
+        "burn_in": one.burn_in,
     }
+
+
+def played_in(burn_in: int) -> str:
+    """What a title says of starts that so many chips play in; nothing if there are none."""
+    return f", starts played in by {burn_in:,} chips" if burn_in else ""
+
+
+def burn_in_of(said: dict[str, Any]) -> int:
+    """How many chips play starts in, by what is said in a file; older ones say nothing of them."""
+    return as_int(said.get("burn_in", 0), "the number of chips of a burn-in")

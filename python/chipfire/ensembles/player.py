@@ -2,6 +2,7 @@
 
 from __future__ import annotations
 
+import contextlib
 import itertools
 import math
 import operator
@@ -93,6 +94,7 @@ class Plan:
     amounts  how many chips each drop has: one number if all have as many
     starts   the stable chips from which chains begin, by numbers and without those of loops, one chain after another;
              None if each begins with a random recurrent configuration
+    burn_in  how many chips are drawn to play each start in
     until    after which drop a chain ends: "loss", "spans" or None
     fired    whether it is asked what fired
     timed    whether it is asked for durations
@@ -107,6 +109,7 @@ class Plan:
     places: Places
     amounts: array[int] | int
     starts: array[int] | None = None
+    burn_in: int = 0
     until: str | None = None
     fired: bool = False
     timed: bool = False
@@ -370,6 +373,7 @@ class _Player:
         is_asked = plan.fired or plan.until == "spans"
         self.room = Room(self.graph.vertices, plan.fired) if is_asked else None
         self.until = _until(self.graph, plan.until)
+        self.anywhere = Places(array("Q", range(self.graph.vertices)))
         #: The number of the next drop among those of all chains, and whether the chain has ended.
         self.next = 0
         self.is_over = False
@@ -385,7 +389,8 @@ class _Player:
                 pile.between = self._go_on
             else:
                 self._put(pile, start)
-            self._play_on(pile, chain)
+            if self._play_in(pile, chain):
+                self._play_on(pile, chain)
             if self.watch.is_stopped:
                 break
         if pile is not None:
@@ -403,26 +408,55 @@ class _Player:
             raise refused(number, 0, self.graph)
         pile.light = light
 
-    def _begin(self, chain: int) -> None:
-        """Has `_drawn` begin with the first drop of a chain, by NumPy's twister, which is Python's."""
-        self.next = chain * self.plan.drops
-        self.is_over = False
-        self.draw = random.Random(self.seeds[chain])
+    def _seed(self, seed: str) -> None:
+        """Has `_drawn` begin with a seed, by NumPy's twister, which is Python's."""
+        self.draw = random.Random(seed)
         numpy = import_optional("numpy")
         if numpy:
             self.twister = self.twister or numpy.random.RandomState(0)
             state = self.draw.getstate()[1]
             self.twister.set_state(("MT19937", state[:-1], state[-1]))
 
-    def _drawn(self, count: int) -> Any:
-        """The vertices of the next drops, as `random_drops` draws them."""
+    def _drawn(self, places: Places, count: int) -> Any:
+        """The next vertices of some places, as `random_drops` draws them."""
         if self.twister is None:
-            return array("Q", self.plan.places.drawn(self.draw, count))
-        return self.plan.places.at(self.twister.random_sample(count))
+            return array("Q", places.drawn(self.draw, count))
+        return places.at(self.twister.random_sample(count))
+
+    def _play_in(self, pile: kept.KeptPile, chain: int) -> bool:
+        """Plays the start of a chain in, whose chips may all fall together; whether that is done, and no thread is to stop."""
+        if not self.plan.burn_in:
+            return True
+        self._seed(self.seeds[chain] + " burn-in")
+        start = array("Q", bytes(self.table.chips_of(chain)))
+        for part in range(0, self.plan.burn_in, PART):
+            drawn = self._drawn(self.anywhere, min(PART, self.plan.burn_in - part))
+            _add_ones(start, drawn)
+            if self.watch.is_stopped:
+                return False
+        self._put(pile, start)
+        with contextlib.suppress(Stopped):
+            if number := pile.play():
+                raise refused(number, 0, self.graph)
+            return self._has_begun(pile, chain)
+        return False
+
+    def _has_begun(self, pile: kept.KeptPile, chain: int) -> bool:
+        """Has a chain begin with what the pile has, and writes that to the table, unless that is left. The sink has what it had
+        before, and all counts begin with 0."""
+        start, there = pile.chips(), self.table.chips_of(chain)
+        start[self.graph.sink] = there[self.graph.sink]
+        self._put(pile, start)
+        with self.lock:
+            if not self.watch.is_left:
+                _copy(there, start)
+            return not self.watch.is_left
 
     def _play_on(self, pile: kept.KeptPile, chain: int) -> None:
         """Plays a chain, some drops at a time."""
-        self._begin(chain)
+        self._seed(self.seeds[chain])
+        self.next = chain * self.plan.drops
+        self.is_over = False
         for start, stop in _stretches(self.plan):
             made = self._drops(pile, chain, self.plan.amounts_of(start, stop))
             if made < stop - start or self.is_over:
@@ -442,7 +476,7 @@ class _Player:
             self.watch.add(more)
             return not self.is_over and not self.watch.is_stopped
 
-        at, rows = self._drawn(len(amounts)), self.table.rows(len(amounts))
+        at, rows = self._drawn(self.plan.places, len(amounts)), self.table.rows(len(amounts))
         of_call = in_calls(call, at, amounts, rows, self.watch.drops_of_call)
         self.watch.drops_of_call = of_call or self.watch.drops_of_call
         return made
@@ -463,6 +497,17 @@ class _Player:
         self.is_over = ends_run(self.until, self.room, rows, made)
         self.next += made
         return made
+
+
+def _add_ones(chips: array[int], vertices: Any) -> None:
+    """Adds a chip for each of these vertices."""
+    numpy = import_optional("numpy")
+    if numpy:
+        there = numpy.frombuffer(chips, "u8")
+        there += numpy.bincount(vertices.astype("i8"), minlength=len(chips)).astype("u8")
+        return
+    for vertex in vertices:
+        chips[vertex] += 1
 
 
 def _stretches(plan: Plan) -> Iterator[tuple[int, int]]:

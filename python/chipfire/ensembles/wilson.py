@@ -130,15 +130,20 @@ def _drawn(graph: Graph, base: int, first: int, count: int) -> array[int]:
     return array("Q", itertools.chain.from_iterable(rows))
 
 
-def require_undirected(graph: Graph, remedy: str = "") -> None:
-    """Refuses a graph with an edge that has none back, but for those to the sink, by the names of its ends, and says what
-    helps."""
-    if "no edge is one-way" not in graph.answers:
+def require_undirected(graph: Graph) -> None:
+    """Refuses a graph with an edge that has none back, but for those to the sink, by the names of its ends."""
+    if not is_undirected(graph):
+        graph.require()
         edge = _first_one_way(graph)
-        if edge is not None:
-            graph.require()
-            raise ValueError(f"the graph is directed: {_ways_of(graph, edge)}{remedy}")
-        graph.answers["no edge is one-way"] = True
+        assert edge is not None
+        raise ValueError(f"the graph is directed: {_ways_of(graph, edge)}")
+
+
+def is_undirected(graph: Graph) -> bool:
+    """Whether each edge has one back, but for those to the sink."""
+    if "no edge is one-way" not in graph.answers:
+        graph.answers["no edge is one-way"] = _first_one_way(graph) is None
+    return bool(graph.answers["no edge is one-way"])
 
 
 def _first_one_way(graph: Graph) -> int | None:

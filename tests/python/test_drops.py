@@ -1,11 +1,16 @@
 """Chips dropped one after another: against the slow player of examples/play.py, and by hand."""
 import array
 import itertools
+import os
 import random
+import signal
+import sys
+import threading
 import unittest
 from unittest import mock
 
 import chipfire
+from chipfire.backend import kept, portions
 from strategies import drawn
 from test_counts import GRAPHS, slow_report
 from test_package import CHIPS_FILE, TRIANGLE, TRIANGLE_FILE, WithFolder
@@ -113,6 +118,116 @@ class Rows(WithFolder):
         self.assertEqual(repr(found), "<Drops: 5 avalanches, 4 firings>")
         with self.assertRaises(ValueError):
             found.histogram("duration")
+
+
+@unittest.skipUnless(chipfire.find_library(), "the library is not called")
+class Interrupted(unittest.TestCase):
+    """After an interrupt all drops before are there, and what they left."""
+
+    GRID = chipfire.grid(6, 5)
+    NAMES = chipfire.from_edges({"source": "aabb", "target": "abcs", "weight": [2, 1, 3, 1]}, "s", loops="sage")
+
+    def check(self, graph, start, on, amounts, found, has_fired):
+        """What is found has the first drops, by the slow player."""
+        made, free = len(found), graph.loop_free
+        drops = [(graph.number(name), amount) for name, amount in zip(on, amounts)][:made]
+        chips = [there - its for there, its in zip(graph.chips(start), graph.loops or [0] * graph.vertices)]
+        self.assertEqual(rows_of(found), list(slow_rows(free, chips, drops)))
+        together = [there + sum(amount for vertex, amount in drops if vertex == at) for at, there in enumerate(chips)]
+        report = slow_report(free, together)
+        self.assertEqual((found.report.fired, found.report.closed), (report.fired, True))
+        self.assertEqual(found.report.chips, tuple(graph.with_loops(report.chips)))
+        if has_fired:
+            lengths = [end - begin for begin, end in zip(found.fired.offsets.tolist(), found.fired.offsets[1:].tolist())]
+            self.assertEqual((lengths, len(found.fired.vertices)), (found.extent.tolist(), sum(lengths)))
+            self.assertEqual(sum(found.fired.counts.tolist()), sum(found.size.tolist()))
+
+    def test_it_may_come_anywhere(self):
+        """Where one function after another begins or ends that drops take: what was made before is returned, or an interrupt
+        is raised if that comes before or after the drops."""
+        on = [*chipfire.random_drops(self.GRID, 30, 3)]
+        amounts, has_numpy = [1 + 6 * (at % 5 == 2) for at in range(30)], has("numpy")
+        rooms = {"chipfire.ensembles.drops", "chipfire.ensembles.firings", "chipfire.backend.kept", "chipfire.backend.portions"}
+        lengths, raised = set(), 0
+        for durations in (False, True):
+            number, is_over = 1, False
+            while not is_over:
+                number = left = number + 7
+
+                def trace(frame, event, _):
+                    nonlocal left
+                    is_there = frame.f_globals.get("__name__") in rooms and frame.f_code.co_name != "_free"
+                    if is_there and event in ("call", "return"):
+                        left -= 1
+                        if not left:
+                            raise KeyboardInterrupt
+                        return trace
+
+                is_traced = sys.gettrace()
+                options = {"amounts": amounts, "fired": has_numpy, "durations": durations, "partial": True}
+                with mock.patch.multiple(kept, _LIGHT=0, _FEW_CHIPS=3, _FIRST_VISITS=2, GRACE=0.05):
+                    sys.settrace(trace)
+                    try:
+                        found = chipfire.drops(self.GRID, 3, on, **options)
+                    except KeyboardInterrupt:
+                        raised += 1
+                        continue
+                    finally:
+                        sys.settrace(is_traced)
+                        is_over = left > 0
+                self.check(self.GRID, 3, on, amounts, found, has_numpy)
+                lengths.add(len(found))
+            self.assertEqual(len(found), 30)
+        self.assertTrue(len(lengths) > 4 and raised > 4, (lengths, raised))
+
+    def test_a_signal_while_a_thread_makes_a_drop_that_does_not_end(self):
+        self.addCleanup(signal.signal, signal.SIGINT, signal.signal(signal.SIGINT, signal.default_int_handler))
+        for graph, start in ((self.GRID, 3), (self.NAMES, self.NAMES.max_stable())):
+            on, calls, may_end = [*chipfire.random_drops(graph, 30, 3)], [], threading.Event()
+            before = {*threading.enumerate()}
+
+            def endless(words):
+                calls.append(1)
+                if len(calls) == 3:
+                    os.kill(os.getpid(), signal.SIGINT)
+                    may_end.wait(100)
+                return words()
+
+            def apart(work, between):
+                return portions.apart(lambda: endless(work), between)
+
+            with mock.patch.multiple(kept, _MANY_VERTICES=0, GRACE=0.05, apart=apart):
+                found = chipfire.drops(graph, start, on, durations=True, fired=has("numpy"), partial=True)
+            self.assertTrue(1 < len(found) < 30)
+            self.check(graph, start, on, [1] * 30, found, has("numpy"))
+            may_end.set()
+            for thread in {*threading.enumerate()} - before:
+                thread.join(60)
+            self.check(graph, start, on, [1] * 30, found, has("numpy"))
+            self.assertEqual(found.duration.tolist(), chipfire.drops(graph, start, on[: len(found)], durations=True).duration.tolist())
+
+    def test_without_it_an_interrupt_is_raised(self):
+        stop = mock.patch.object(chipfire.ensembles.drops, "fall", side_effect=KeyboardInterrupt)
+        for options in ({}, {"partial": False}, {"durations": True}):
+            with stop, self.assertRaises(KeyboardInterrupt):
+                chipfire.drops(self.GRID, 3, [0, 1], **options)
+        with stop:
+            self.assertEqual(len(chipfire.drops(self.GRID, 3, [0, 1], partial=True)), 0)
+        with mock.patch.object(kept.KeptPile, "play", side_effect=KeyboardInterrupt), self.assertRaises(KeyboardInterrupt):
+            chipfire.drops(self.GRID, 3, [0, 1], partial=True)
+
+    def test_all_drops_if_there_is_no_interrupt(self):
+        on = [*chipfire.random_drops(self.GRID, 30, 3)]
+        one, other = (chipfire.drops(self.GRID, 3, on, partial=it) for it in (False, True))
+        self.assertEqual((rows_of(one), one.report), (rows_of(other), other.report))
+
+    def test_what_takes_the_library(self):
+        with self.assertRaisesRegex(ValueError, "some drops did is told of vertices, and not of a file"):
+            chipfire.drops(TRIANGLE, 0, CHIPS_FILE, partial=True)
+        with self.assertRaisesRegex(ValueError, "some drops did is told by the library, and not by a program"):
+            chipfire.drops(TRIANGLE, 0, [0], partial=True, program="another")
+        with mock.patch("chipfire.backend.library.loaded", return_value=None):
+            self.assertRaises(chipfire.ProgramNotFound, chipfire.drops, TRIANGLE, 0, [0], partial=True)
 
 
 class Random(unittest.TestCase):

@@ -22,7 +22,7 @@ from unittest import mock
 
 import chipfire
 from chipfire import utils as values
-from chipfire.backend import kept
+from chipfire.backend import kept, portions
 from chipfire.backend.portions import Portions
 from chipfire.ensembles import archive, player, wilson
 from test_counts import slow_report
@@ -161,6 +161,49 @@ class Recurrent(unittest.TestCase):
         with mock.patch.object(Portions, "_note"):  # (so each draws one)
             parts = chipfire.random_recurrent(grid, 9, 10, progress=lambda done, all_: reports.append((done, all_)))
         self.assertEqual((parts, reports[0], reports[-1], reports), (whole, (1, 10), (10, 10), sorted(reports)))
+
+    def test_an_interrupt_returns_those_that_were_drawn(self):
+        def interrupts(done, total):
+            if done == 4:
+                raise KeyboardInterrupt
+
+        loops = chipfire.Graph(4, 3, [(0, 1), (1, 0), (0, 3), (1, 2), (2, 1), (2, 3)], loops=[2, 0, 1, 0])
+        for grid in (chipfire.grid(5, 4), MULTIGRAPH, loops):
+            whole = chipfire.random_recurrent(grid, 9, 10)
+            with mock.patch.object(Portions, "_note"), mock.patch("chipfire.progress._CALLS", 0):  # (so each draws one)
+                self.assertEqual(chipfire.random_recurrent(grid, 9, 10, progress=interrupts, partial=True), whole[:4])
+                for options in ({"count": 10}, {"count": 10, "partial": False}, {"partial": True}):
+                    stop = mock.patch.object(wilson.Progress, "show", side_effect=KeyboardInterrupt)
+                    with stop, self.assertRaises(KeyboardInterrupt):
+                        chipfire.random_recurrent(grid, 9, **options)
+            with mock.patch.object(wilson, "_drawn", side_effect=KeyboardInterrupt), mock.patch("chipfire.backend.library.loaded", return_value=None):
+                self.assertEqual(chipfire.random_recurrent(grid, 9, 10, partial=True), [])
+
+    @unittest.skipUnless(IS_HERE, "the library is not here")
+    def test_a_thread_draws_on_a_large_graph(self):
+        self.addCleanup(signal.signal, signal.SIGINT, signal.signal(signal.SIGINT, signal.default_int_handler))
+        grid, calls, may_end, before = chipfire.grid(40, 40), [], threading.Event(), {*threading.enumerate()}
+        whole = chipfire.random_recurrent(grid, 9, 10)
+
+        def endless(work):
+            calls.append(1)
+            if len(calls) == 3:
+                os.kill(os.getpid(), signal.SIGINT)
+                may_end.wait(100)
+            return work()
+
+        def apart(work, between):
+            return portions.apart(lambda: endless(work), between)
+
+        with mock.patch.multiple(kept, _SLOW_DRAWS=0, GRACE=0.05, apart=apart), mock.patch.object(Portions, "_note"):
+            self.assertEqual(chipfire.random_recurrent(grid, 9, 10, partial=True), whole[:2])
+            may_end.set()
+            for thread in {*threading.enumerate()} - before:
+                thread.join(60)
+            self.assertEqual(chipfire.random_recurrent(grid, 9, 10), whole)
+            self.assertEqual(len(calls), 13)
+        with mock.patch.object(kept, "apart", side_effect=AssertionError("it is soon drawn")):
+            self.assertEqual(chipfire.random_recurrent(grid, 9, 10), whole)
 
     def test_a_configuration_of_a_number_is_the_same_beside_others(self):
         grid = chipfire.grid(5, 4)

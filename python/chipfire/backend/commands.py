@@ -434,6 +434,7 @@ def drops(
     fired: bool = False,
     durations: bool = False,
     progress: bool = False,
+    partial: bool = False,
     program: AnyProgram = None,
 ) -> Drops:
     """Drops chips one after another, and returns the numbers of all avalanches in columns.
@@ -459,6 +460,9 @@ def drops(
         raised within a second; a thread ends the drop, and nobody gets what comes of it.
     progress : bool, optional
         Whether progress is shown, by tqdm or in lines on `sys.stderr`: how many of the drops are made.
+    partial : bool, optional
+        Whether an interrupt returns the drops that were made until then, in place of KeyboardInterrupt, as in `chains`.
+        This takes the library. One that comes while the chips at the start are stabilized is raised, and a second one.
     program : path, optional
         The program to ask. By default the one that is found.
 
@@ -498,12 +502,14 @@ def drops(
             fired=fired,
             durations=durations,
             progress=progress,
+            partial=partial,
             program=program,
         )
         left = tuple(graph.with_loops(free.report.chips))
         return replace(free, report=replace(free.report, chips=left, graph=graph))
-    if fired or durations:
-        return _measured(graph, chips, vertices, amounts, fired, durations, progress, program)
+    if fired or durations or partial:
+        asked = (bool(fired), bool(durations), progress, partial)
+        return _measured(graph, chips, vertices, amounts, asked, program)
     question = _Question(graph, program)
     rows = cast(Any, vertices)
     start: Any = question.numbers(chips)
@@ -528,22 +534,20 @@ def _measured(
     chips: Chips,
     vertices: Any,
     amounts: Iterable[int] | None,
-    fired: bool,
-    durations: bool,
-    progress: bool,
+    asked: tuple[bool, bool, bool, bool],
     program: AnyProgram,
 ) -> Drops:
-    """Drops by the library, with what is asked of them."""
+    """Drops by the library, with what is asked of them, in the order of `measured_drops`."""
     if isinstance(vertices, FILE):
-        raise ValueError("what drops fire is told of vertices, and not of a file of them")
+        raise ValueError("what some drops did is told of vertices, and not of a file of them")
     if program is not None:
-        raise ValueError("what drops fire is told by the library, and not by a program")
+        raise ValueError("what some drops did is told by the library, and not by a program")
     known = known_graph(graph, program)
     at, many = dropped_on(known, vertices, amounts)
     if isinstance(chips, FILE):
         chips = read_chips(chips, known)
     begun = in_words(known.column(chips, 0))
-    found = measured_drops(known, begun, at, many, bool(fired), bool(durations), progress)
+    found = measured_drops(known, begun, at, many, *asked)
     if found is None:
         raise without_library()
     return found

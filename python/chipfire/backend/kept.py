@@ -43,6 +43,10 @@ _FEW_CHIPS, _LIGHT = 2**8, 2**18
 _MANY_VERTICES = 2**10
 
 
+#: On a graph with more vertices one random configuration may take a tenth of a second.
+_SLOW_DRAWS = 2**16
+
+
 class Until(NamedTuple):
     """The drop that ends a run: the first that loses a chip, if `loses` is true; that fires a vertex with bit 1 in its mark;
     or that fires one with bit 2 and one with bit 4, or one with bit 8 and one with bit 16. There is one mark per vertex, or
@@ -298,11 +302,18 @@ class KeptPile:
             raise
 
     def draw(self, seed: int, first: int, chips: array[int]) -> tuple[int, int]:
-        """Fills the chips with random recurrent configurations of the graph, from this number on; and the place of a fault."""
+        """Fills the chips with random recurrent configurations of the graph, from this number on; and the place of a fault. A
+        thread draws on a large graph, if the main thread asks."""
         rows = len(chips) // self.vertices
         words = (*library.slice_of("chips", chips), self._words[3])
-        call = self._found.chipfire_pile_random_recurrent
-        return int(call(self._at, seed, first, rows, *words)), self._told[3]
+
+        def call() -> tuple[int, Any]:
+            draw = self._found.chipfire_pile_random_recurrent
+            return int(draw(self._at, seed, first, rows, *words)), chips
+
+        is_large = self.vertices > _SLOW_DRAWS and self._may_be_long(())
+        number, _ = self._apart(call) if is_large else call()
+        return number, self._told[3]
 
     def chips(self) -> array[int]:
         """The chips of each vertex."""

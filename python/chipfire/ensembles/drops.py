@@ -2,6 +2,7 @@
 
 from __future__ import annotations
 
+import contextlib
 from array import array
 from collections import Counter
 from collections.abc import Callable, Iterable, Iterator, Mapping, Sequence
@@ -15,7 +16,7 @@ from chipfire.backend.process import refused
 from chipfire.backend.report import Report
 from chipfire.configurations.configuration import CHIPS_HEADER, Configuration, in_words
 from chipfire.ensembles import archive
-from chipfire.ensembles.firings import fall, Firings, firings, firings_of, Room, stored
+from chipfire.ensembles.firings import fall, Firings, firings, firings_of, Parts, Room, stored
 from chipfire.ensembles.power_law import sizes_figure
 from chipfire.graphs.graph import Graph
 from chipfire.progress import Progress
@@ -252,23 +253,45 @@ class Measured:
         self._progress = progress
         self._columns = [array("Q", bytes(8 * count)) for _ in range(3 + durations)]
         self._room = Room(graph.vertices) if fired else None
+        self._parts: Parts = []
         #: How many drops were made, and the number of a fault that came of the last one, or 0.
         self.made = 0
         self.number = 0
 
     def play(self, pile: kept.KeptPile, at: array[int], amounts: array[int]) -> None:
         """Makes the drops, until the limit stops one. Another fault is raised."""
+        in_calls(lambda *part: self._call(pile, *part), at, amounts, self._columns)
+
+    def play_some(
+        self, pile: kept.KeptPile, at: array[int], amounts: array[int]
+    ) -> tuple[array[int], array[int]]:
+        """Makes the drops as `play` does, or those before an interrupt, wherever it comes; the chips and counts then."""
+        #: What was there when a call had ended: all of it changes at once.
+        noted = (0, 0, pile.chips(), pile.fired())
 
         def call(where: Any, many: Any, rows: list[Any]) -> bool:
-            self.number, place = fall(pile, self._room, where, many, rows)
-            if self.number not in (0, kept.STOPPED):
-                raise refused(self.number, self.made + place, self._graph)
-            self.made += place
-            if self._progress:
-                self._progress.show(self.made, self.made == len(at))
-            return self.number == 0
+            nonlocal noted
+            goes_on = self._call(pile, where, many, rows)
+            noted = (self.made, len(self._parts), pile.chips(), pile.fired())
+            return goes_on
 
-        in_calls(call, at, amounts, self._columns)
+        with contextlib.suppress(KeyboardInterrupt):
+            in_calls(call, at, amounts, self._columns)
+        self.made, parts, chips, fired = noted
+        del self._parts[parts:]
+        return chips, fired
+
+    def _call(self, pile: kept.KeptPile, where: Any, many: Any, rows: list[Any]) -> bool:
+        """Makes some of the drops; whether all of these were made."""
+        self.number, place = fall(pile, self._room, where, many, rows)
+        if self.number not in (0, kept.STOPPED):
+            raise refused(self.number, self.made + place, self._graph)
+        if self._room:
+            self._parts += self._room.taken()
+        self.made += place
+        if self._progress:
+            self._progress.show(self.made, self.made == len(self._columns[0]))
+        return self.number == 0
 
     def told(self) -> dict[str, Any]:
         """The columns of the drops that were made, and what they fired, by their names."""
@@ -277,7 +300,7 @@ class Measured:
         if duration:
             found["duration"] = duration[0]
         if self._room:
-            found["fired"] = firings(self._graph, extent, [(0, self._room.taken())])
+            found["fired"] = firings(self._graph, extent, [(0, self._parts)])
         return found
 
 
@@ -295,8 +318,10 @@ def measured_drops(
     fired: bool = False,
     durations: bool = False,
     progress: bool = False,
+    partial: bool = False,
 ) -> Drops | None:
-    """Drops by the library, with what is asked of them, on the pile that the graph keeps; None without the library."""
+    """Drops by the library, with what is asked of them, on the pile that the graph keeps; None without the library. Those
+    before an interrupt, if it is `partial`."""
     pile = kept.take(graph, chips, MAX_LIMIT)
     if pile is None:
         return None
@@ -306,9 +331,12 @@ def measured_drops(
             number = pile.play()
             if number not in (0, kept.STOPPED):
                 raise refused(number, 0, graph)
-            if not number:
+            ends = None
+            if not number and partial:
+                ends = measured.play_some(pile, at, amounts)
+            elif not number:
                 measured.play(pile, at, amounts)
-            left, counts = pile.chips(), pile.fired()
+            left, counts = ends or (pile.chips(), pile.fired())
     finally:
         kept.give_back(graph, pile)
     return Drops.with_report_later(measured.told(), lambda: _report(graph, left, counts))

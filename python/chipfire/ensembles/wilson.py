@@ -5,7 +5,7 @@ from __future__ import annotations
 import itertools
 from array import array
 from bisect import bisect
-from collections.abc import Sequence
+from collections.abc import Iterator, Sequence
 from typing import Any, overload
 
 from chipfire.backend import kept
@@ -38,13 +38,18 @@ def random_recurrent(
 
 @overload
 def random_recurrent(
-    graph: AnyGraph, seed: Any, count: int, *, progress: AnyProgress = ...
+    graph: AnyGraph, seed: Any, count: int, *, progress: AnyProgress = ..., partial: bool = ...
 ) -> list[Configuration]:
     ...
 
 
 def random_recurrent(
-    graph: AnyGraph, seed: Any, count: int | None = None, *, progress: AnyProgress = None
+    graph: AnyGraph,
+    seed: Any,
+    count: int | None = None,
+    *,
+    progress: AnyProgress = None,
+    partial: bool = False,
 ) -> Configuration | list[Configuration]:
     """Returns random recurrent configurations of an undirected graph, each equally probable.
 
@@ -59,6 +64,9 @@ def random_recurrent(
     progress : bool or callable, optional
         True to show how many are drawn, by a bar of tqdm if it is installed, else by lines on standard error. A function
         gets how many are drawn, and how many there are.
+    partial : bool, optional
+        Whether an interrupt returns the list of those that were drawn until then, in place of KeyboardInterrupt, as in
+        `chains`. Without `count` there is no list, and it is raised.
 
     Returns
     -------
@@ -96,29 +104,41 @@ def random_recurrent(
     known = known_graph(graph)
     n = 1 if count is None else as_int(count, "the number of configurations")
     require_memory(8 * n * known.vertices, f"{n:,} configurations")
-    with Progress(progress, n, "configurations") as shown:
-        chips = known.with_loops(recurrent_rows(known, seed, n, progress=shown))
-    width = known.vertices
-    found = [Configuration(known, chips[it * width : (it + 1) * width]) for it in range(n)]
+    chips, width = array("Q"), known.vertices
+    try:
+        with Progress(progress, n, "configurations") as shown:
+            for part in _parts(known, seed, n, progress=shown):
+                chips.extend(part)
+    except KeyboardInterrupt:
+        if not partial or count is None:
+            raise
+    chips = known.with_loops(chips)
+    found = [Configuration(known, chips[it : it + width]) for it in range(0, len(chips), width)]
     return found[0] if count is None else found
 
 
-def recurrent_rows(
-    graph: Graph, seed: Any, n: int, first: int = 0, progress: Progress | None = None
-) -> array[int]:
+def recurrent_rows(graph: Graph, seed: Any, n: int, first: int = 0) -> array[int]:
     """The chips of n random recurrent configurations of a seed, from the one with number `first` on, one after another,
     without those of the graph's loops."""
+    rows = array("Q")
+    for part in _parts(graph, seed, n, first):
+        rows.extend(part)
+    return rows
+
+
+def _parts(
+    graph: Graph, seed: Any, n: int, first: int = 0, progress: Progress | None = None
+) -> Iterator[array[int]]:
+    """The chips that `recurrent_rows` has, some configurations at a time."""
     plain = graph.loop_free
     require_undirected(plain)
     base = random_generator(seed).getrandbits(64)
-    rows = array("Q")
     for some in Portions(n):
         number, count = first + some.start, some.stop - some.start
         found = kept.random_recurrents(plain, base, number, count)
-        rows.extend(_drawn(plain, base, number, count) if found is None else found)
+        yield _drawn(plain, base, number, count) if found is None else found
         if progress is not None:
             progress.show(some.stop, some.stop == n)
-    return rows
 
 
 def _drawn(graph: Graph, base: int, first: int, count: int) -> array[int]:

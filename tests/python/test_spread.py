@@ -588,18 +588,23 @@ class Long(unittest.TestCase):
     def left_alone(self, number, check, **options):
         """Interrupts chains while the call with this number does not come to its end, which it does later: before and after
         that they are checked."""
-        self.addCleanup(signal.signal, signal.SIGINT, signal.signal(signal.SIGINT, signal.default_int_handler))
-        calls, may_end, before = itertools.count(1), threading.Event(), {*threading.enumerate()}
+        calls, is_there, may_end = itertools.count(1), threading.Event(), threading.Event()
+        before = {*threading.enumerate()}
 
         def endless(*arguments):
             found = firings.fall(*arguments)
             if next(calls) == number:
-                os.kill(os.getpid(), signal.SIGINT)
+                is_there.set()
                 may_end.wait(100)
             return found
 
+        def show(progress, done, is_last=False):
+            if is_there.is_set():
+                raise KeyboardInterrupt
+
         begun = time.monotonic()
-        with mock.patch.object(player, "fall", endless), mock.patch.multiple(spread, GRACE=0.05, WAIT=0.01):
+        soon = mock.patch.multiple(spread, GRACE=0.05, WAIT=0.01)
+        with mock.patch.object(player, "fall", endless), mock.patch.object(Progress, "show", show), soon:
             found = plays(partial=True, **options)
         self.assertLess(time.monotonic() - begun, 50)
         check(found)

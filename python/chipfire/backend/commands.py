@@ -462,7 +462,8 @@ def drops(
         Whether progress is shown, by tqdm or in lines on `sys.stderr`: how many of the drops are made.
     partial : bool, optional
         Whether an interrupt returns the drops that were made until then, in place of KeyboardInterrupt, as in `chains`.
-        This takes the library. One that comes while the chips at the start are stabilized is raised, and a second one.
+        This takes the library. The drops of the call that it finds, which was to take a tenth of a second, may not be
+        there. One that comes while the chips at the start are stabilized is raised, and so is a second one.
     program : path, optional
         The program to ask. By default the one that is found.
 

@@ -11,6 +11,7 @@ import math
 import operator
 import os
 import random
+import struct
 import sys
 from array import array
 from collections.abc import Callable, ItemsView, Iterable, Iterator, Mapping, Sequence
@@ -74,6 +75,13 @@ def as_ints(
     with contextlib.suppress(TypeError, ValueError):
         return [as_int(value, "", least, most) for value in values]
     return [as_int(value, what(place), least, most) for place, value in enumerate(values)]
+
+
+def as_tuple(numbers: array[int] | list[int]) -> tuple[int, ...]:
+    """These numbers as a tuple, which takes a third less time by the bytes of an array than by its items."""
+    if isinstance(numbers, array):
+        return struct.unpack(f"{len(numbers)}{numbers.typecode}", numbers)
+    return tuple(numbers)
 
 
 def in_column(values: Any, least: int | None = 0, most: int | None = None) -> array[int] | None:

@@ -410,4 +410,4 @@ def random_recurrents(graph: Graph, seed: int, first: int, count: int) -> array[
 
 
 def _no_chips(vertices: int) -> array[int]:
-    return array("Q", bytes(8 * vertices))
+    return array("Q", (0,)) * vertices

@@ -16,7 +16,7 @@ from chipfire.backend.plays import Between, is_short, play, represents_soon
 from chipfire.backend.process import ask, Kept
 from chipfire.configurations import smith
 from chipfire.pictures.picture import Drawn
-from chipfire.utils import as_int, FileName, in_column, MAX_CHIPS, no_graph, with_unit
+from chipfire.utils import as_int, as_tuple, FileName, in_column, MAX_CHIPS, no_graph, with_unit
 
 if TYPE_CHECKING:
     from chipfire.graphs.graph import Graph
@@ -169,7 +169,7 @@ class Configuration(Drawn, Sums):
         found = graph.column(chips)
         if graph.sink < graph.vertices:
             found[graph.sink] = 0
-        return tuple(found)
+        return as_tuple(found)
 
     def __getitem__(self, name: Hashable) -> int:
         vertex = self.graph.number(name)

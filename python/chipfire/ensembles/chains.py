@@ -283,7 +283,8 @@ def chains(
     """Drops chips on random vertices in many independent chains.
 
     Each chain has a seed of its own and `drops` drops, each on what the avalanche of the one before it left. Chains
-    have numbers from `first` on. The chain with a number is the same whoever plays it, beside whichever others.
+    have numbers from `first` on. The seed and its number determine a chain, not the
+    others or who plays it.
 
     Parameters
     ----------
@@ -306,8 +307,8 @@ def chains(
         How many chips play each start in. They fall before the first drop, each on any vertex, the sink too, drawn
         evenly: ``random.Random(seeds[k] + " burn-in").choices(range(graph.vertices), k=burn_in)`` has their numbers in
         chain k. By default there are none, but on a directed graph without `chips` twice as many as the vertices times
-        the square of the most chips that a vertex sends. This follows from a bound of the eigenvalues of such drops:
-        of what the starts' probabilities differ from even ones each part has shrunk below 0.0004 of itself.
+        the square of the most chips that a vertex sends. By a bound on the eigenvalues of such drops, each part of the
+        difference between the distribution of starts and the uniform one shrinks to less than 0.0004 of itself.
     on : iterable of hashable, or mapping of names to weights, optional
         The vertices on which chips fall. By default all but the sink, alike.
     amounts : int or sequence of int, optional

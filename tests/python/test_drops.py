@@ -178,7 +178,8 @@ class Interrupted(unittest.TestCase):
                 self.check(self.GRID, 3, on, amounts, found, has_numpy)
                 lengths.add(len(found))
             self.assertEqual(len(found), 30)
-        self.assertTrue(len(lengths) > 4 and raised > 4, (lengths, raised))
+        # (how many drops a call of the library has depends on the time that they take)
+        self.assertTrue({0, 30} < lengths and raised > 4, (lengths, raised))
 
     def test_a_signal_while_a_thread_makes_a_drop_that_does_not_end(self):
         self.addCleanup(signal.signal, signal.SIGINT, signal.signal(signal.SIGINT, signal.default_int_handler))

@@ -72,7 +72,8 @@ def write_heap(folder):
 
 
 def guessed(program):
-    """What is wrong with the lines of a long search: in each kind of line only the numbers of one try may fall."""
+    """What is wrong with the lines of a long search: in each kind of line only the numbers of one try may fall. (Lines
+    of reading are left out: each file's bytes are counted from 0.)"""
     with tempfile.TemporaryDirectory(prefix="chipfire-progress-") as room:
         write_heap(room)
         words, lines = words_of(program, "plain", "--large", "--progress"), []
@@ -83,6 +84,8 @@ def guessed(program):
             process.kill()
     kinds = {}
     for line in lines:
+        if b"reading" in line:
+            continue
         said = re.sub(rb"this try is off by [0-9]+ chips", b"", line)
         numbers = [int(number) for number in re.findall(rb"[0-9]+", said)]
         kinds.setdefault(re.sub(rb"[0-9]+", b"", said), []).append(numbers)

@@ -28,6 +28,7 @@ import listed
 import logs
 import long_logs
 import missing_rows
+import mixed_logs
 import paced
 import progress
 import seals
@@ -38,7 +39,7 @@ import written
 #: Those whose tests take the program.
 MODULES = (
     chains, boards, closing, feeds, crews, seals, verdicts, guesses, logs, detectors, long_logs, missing_rows, cut_logs,
-    drops, group, largest, diffusing, judged, terminal, written, paced, progress, estimates, busy,
+    mixed_logs, drops, group, largest, diffusing, judged, terminal, written, paced, progress, estimates, busy,
 )  # fmt: skip
 
 

@@ -43,7 +43,8 @@ def wrong_orders(program, own, others):
             if must[2] and " 70 " not in must[2]:
                 continue
             judged += 1
-            found += [f"{rows}: {it}, not {must}" for rows in each if (it := logs.verdict(program, room, rows, True)) != must]
+            came = [(rows, logs.verdict(program, room, rows, True)) for rows in each]
+            found += [f"{rows}: {it}, not {must}" for rows, it in came if it != must]
     return found or ([] if judged else ["no log was judged"])
 
 

@@ -150,6 +150,7 @@ class KeptPile:
     def _begin(self) -> None:
         """Forgets how long drops took. On a small graph the next one is taken for a short one."""
         self.light = 0
+        self._few = max(_LIGHT // max(self.vertices, 1), _FEW_CHIPS)
         if self.vertices <= _MANY_VERTICES:
             self.note(1, 0)
 
@@ -158,8 +159,7 @@ class KeptPile:
         next one is made in portions; else in one call, if it has few chips. Several drops decide nothing.
         """
         if drops == 1:
-            few = max(_LIGHT // max(self.vertices, 1), _FEW_CHIPS)
-            self.light = 0 if seconds > PORTION else few
+            self.light = 0 if seconds > PORTION else self._few
 
     def play(self) -> int:
         """Plays to the end, in portions."""
@@ -248,7 +248,8 @@ class KeptPile:
     @property
     def told(self) -> tuple[int, int, int]:
         """The size, the extent and the loss of the last drop."""
-        return self._told[0], self._told[1], self._told[2]
+        size, extent, lost = self._told[:3]
+        return size, extent, lost
 
     def measure(
         self,

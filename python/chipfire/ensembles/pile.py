@@ -166,7 +166,8 @@ class Pile:
         """Drops chips on a vertex, and plays on to the end."""
         at = self.graph.number(vertex)
         amount = as_int(amount, "the number of chips")
-        with self._alone():
+        with self._own_lock():
+            self._refuse_closed()
             pile = self._before([amount])
             if pile:
                 return self._one_by_library(pile, at, amount)
@@ -225,17 +226,25 @@ class Pile:
 
     @contextlib.contextmanager
     def _alone(self, is_open: bool = True) -> Iterator[None]:
-        """One thread at a time. In a forked child nobody else has the lock, and the pile of the parent is left alone."""
+        """One thread at a time."""
+        with self._own_lock():
+            if is_open:
+                self._refuse_closed()
+            yield
+
+    def _own_lock(self) -> threading.Lock:
+        """The lock of one thread at a time. In a forked child nobody else has it, and the pile of the parent is left alone."""
         if self._process != os.getpid():
             with _Fork.lock:
                 if self._process != os.getpid():
                     self._lock = threading.Lock()
                     self._forget()
                     self._process = os.getpid()
-        with self._lock:
-            if self._is_closed and is_open:
-                raise ValueError("the pile is closed")
-            yield
+        return self._lock
+
+    def _refuse_closed(self) -> None:
+        if self._is_closed:
+            raise ValueError("the pile is closed")
 
     def _start_of(self, chips: Chips | None) -> array[int]:
         """Chips as plays of the graph without loops begin."""
@@ -348,7 +357,7 @@ class Pile:
             raise
         if self._is_stopped:
             raise refused(kept.STOPPED, 0, self.graph)
-        return Drop(*pile.told)
+        return Drop._make(pile.told)
 
     def _by_library(
         self,

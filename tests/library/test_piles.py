@@ -494,6 +494,21 @@ class Memory(Piles):
         drops = (pile.at, *(word for it in columns for word in it.words()), place.words()[0])
         self.assertEqual(self.within(0, lambda: LIBRARY.chipfire_pile_drops(*drops), lambda status: status), 0)
 
+    def test_a_play_without_memory(self):
+        """A play that gets no memory for a work list or a search makes rounds, and ends as one that gets it."""
+        graph = grid(60)
+        chips, pile, whole = [7] * graph.vertices, self.pile(graph), self.pile(graph)
+        for it in (pile, whole):
+            self.assertEqual(it.new(chips), (0, 0))
+        self.assertEqual(whole.play(2**64 - 1), (0, 0))
+        ends, left = whole.now(), Slice([GUARD])
+        play = (pile.at, 2**64 - 1, left.words()[0])
+
+        def look(status):
+            return status if (pile.now(), left.now()) == (ends, [0]) else 255
+        found = [self.within(size << 15, lambda: LIBRARY.chipfire_pile_play(*play), look) for size in range(30)]
+        self.assertEqual(found, [0] * 30)
+
     def test_refused_draws(self):
         """A call returns 90 and writes nothing, and with enough memory it draws. The pile is as it was."""
         graph = grid(120)

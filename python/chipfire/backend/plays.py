@@ -40,8 +40,10 @@ def play(
         return None
     if guess:
         return library.stabilize_from(found, graph, chips, limit, guess)
-    left, fired = chips[:], array("Q", bytes(8 * len(chips)))
     width = graph.vertices or 1
+    if len(chips) == width:
+        return _played(found, graph, chips, limit, between)
+    left, fired = chips[:], array("Q", bytes(8 * len(chips)))
     stopped = 0
     for games in Portions(len(chips) // width or 1):
         over: list[int | None] = [None]

@@ -223,9 +223,9 @@ class Interrupted(unittest.TestCase):
         self.assertEqual((rows_of(one), one.report), (rows_of(other), other.report))
 
     def test_what_takes_the_library(self):
-        with self.assertRaisesRegex(ValueError, "some drops did is told of vertices, and not of a file"):
+        with self.assertRaisesRegex(ValueError, "some drops did is measured for vertices, and not for a file"):
             chipfire.drops(TRIANGLE, 0, CHIPS_FILE, partial=True)
-        with self.assertRaisesRegex(ValueError, "some drops did is told by the library, and not by a program"):
+        with self.assertRaisesRegex(ValueError, "some drops did is measured by the library, and not by a program"):
             chipfire.drops(TRIANGLE, 0, [0], partial=True, program="another")
         with mock.patch("chipfire.backend.library.loaded", return_value=None):
             self.assertRaises(chipfire.ProgramNotFound, chipfire.drops, TRIANGLE, 0, [0], partial=True)

@@ -540,9 +540,9 @@ def _measured(
 ) -> Drops:
     """Drops by the library, with what is asked of them, in the order of `measured_drops`."""
     if isinstance(vertices, FILE):
-        raise ValueError("what some drops did is told of vertices, and not of a file of them")
+        raise ValueError("what some drops did is measured for vertices, and not for a file of them")
     if program is not None:
-        raise ValueError("what some drops did is told by the library, and not by a program")
+        raise ValueError("what some drops did is measured by the library, and not by a program")
     known = known_graph(graph, program)
     at, many = dropped_on(known, vertices, amounts)
     if isinstance(chips, FILE):

@@ -74,7 +74,7 @@ class Interrupts:
 
 
 class Threads(Executor):
-    """So many threads that do one work after another. The end of the process waits for none of them."""
+    """Threads, each of which does one work after another. The end of the process waits for none of them."""
 
     def __init__(self, count: int) -> None:
         self._works: queue.SimpleQueue[tuple[Future[Any], Callable[[], Any]] | None]
@@ -86,7 +86,7 @@ class Threads(Executor):
             thread.start()
 
     def submit(self, call: Callable[..., T], /, *arguments: Any, **named: Any) -> Future[T]:
-        """Has a thread make a call, behind all calls before."""
+        """Has a thread make a call, after all earlier calls."""
         future: Future[T] = Future()
         self._works.put((future, functools.partial(call, *arguments, **named)))
         return future
@@ -102,7 +102,7 @@ class Threads(Executor):
             del work, future, call
 
     def shutdown(self, wait: bool = True, *, cancel_futures: bool = False) -> None:
-        """Ends the threads behind all calls, and waits for that if it is said."""
+        """Ends the threads after all calls, and waits for that if asked."""
         for _ in self._threads:
             self._works.put(None)
         for thread in self._threads if wait else ():
@@ -112,8 +112,8 @@ class Threads(Executor):
 def on_threads(
     works: Iterable[Callable[[], T]], threads: int, stop: Callable[[], object] | None = None
 ) -> list[T]:
-    """What each work returns, of which so many threads do one after another. After an error or interrupt none begins any
-    more, `stop` is called, and those that have begun come to their ends."""
+    """What each work returns; each of the threads does one after another. After an error or interrupt no other work
+    begins, `stop` is called, and those that have begun are finished."""
     futures: list[Future[T]] = []
     done: queue.SimpleQueue[Future[T]] = queue.SimpleQueue()
     with Interrupts() as interrupts, ThreadPoolExecutor(threads) as pool:

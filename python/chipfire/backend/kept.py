@@ -155,7 +155,7 @@ class KeptPile:
             self.note(1, 0)
 
     def note(self, drops: int, seconds: float) -> None:
-        """Decides how the next drop is made, by the seconds that so many drops took. If one took longer than a portion, the
+        """Decides how the next drop is made, by the seconds that some drops took. If one took longer than a portion, the
         next one is made in portions; else in one call, if it has few chips. Several drops decide nothing.
         """
         if drops == 1:
@@ -174,7 +174,7 @@ class KeptPile:
             visits = min(2 * visits, _MOST_VISITS) if is_short else max(visits // 2, 1)
 
     def ends_soon(self) -> bool:
-        """Plays for about the time of a portion; whether it comes to the end."""
+        """Plays for about the time of a portion; whether it reaches the end."""
         end = time.monotonic() + PORTION
         while time.monotonic() < end:
             if self._portion(_FIRST_VISITS):
@@ -247,7 +247,7 @@ class KeptPile:
 
     @property
     def told(self) -> tuple[int, int, int]:
-        """The size, the extent and the loss of the last drop."""
+        """The size, the area and the loss of the last drop."""
         size, extent, lost = self._told[:3]
         return size, extent, lost
 
@@ -261,7 +261,7 @@ class KeptPile:
     ) -> tuple[int, int]:
         """Makes many drops, none of them in portions. Returns the number of a fault, and how many were made, or its place.
 
-        Their numbers go into the columns: size, extent and loss, and the duration if there is a fourth. What they fire goes
+        Their numbers go into the columns: size, area and loss, and the duration if there is a fourth. What they fire goes
         into the room, if there is one: where each drop ends, the vertices, and their counts. Not all drops are made if the
         limit stops one, if the room has no place for all vertices, or if a drop ends the run."""
         *three, duration = columns if len(columns) > 3 else (*columns, _NO_NUMBERS)
@@ -394,7 +394,7 @@ def give_back(graph: Graph, pile: KeptPile) -> None:
 
 
 def random_recurrents(graph: Graph, seed: int, first: int, count: int) -> array[int] | None:
-    """So many random recurrent configurations of a seed, from the one with number `first` on, one after another; or None if
+    """Random recurrent configurations of a seed, from the one with number `first` on, one after another; or None if
     there is no library."""
     found = library.loaded()
     if found is None:

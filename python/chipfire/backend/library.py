@@ -6,9 +6,9 @@
 An array is an `array.array("Q")`, or one of NumPy of `uint64` in C's order that can be written. No two arrays of a call
 overlap, and no other thread writes to one meanwhile. On a fault all stay as they were.
 
-`plain`, `drops`, and what stands on them go this way, however long a play is, if neither the call nor CHIPFIRE names a
+`plain`, `drops`, and what depends on them go this way, however long a play is, if neither the call nor CHIPFIRE names a
 program, no file has the game, the library lies where the program does and has the package's version. A package for a C
-library that is too old for the program carries the library alone. Else the program answers, as a process. So it does in
+library that is too old for the program carries the library alone. Else the program runs, as a process. So it does in
 a forked child of a process that had more threads than one, of any language, since the library asks for memory: those of
 NumPy's linear algebra count, too (OPENBLAS_NUM_THREADS=1 starts none). To load a library runs code of it, so it is seen
 before whether somebody else can change it, and which version is stated of it.
@@ -89,7 +89,7 @@ _BOOKS: dict[str, tuple[Any, ...]] = {
     "books_is_over": (_STRUCT, _NUMBER, _OUT),
 }
 
-#: The calls on rows of configurations, and what each takes behind the graph.
+#: The calls on rows of configurations, and what each takes after the graph.
 _ROW_CALLS = {
     "chipfire_burning": (*_SLICE, *_SLICE),
     "chipfire_are_recurrent": (*_SLICE, *_SLICE),
@@ -99,7 +99,7 @@ _ROW_CALLS = {
     "chipfire_identity": _SLICE,
 }
 
-#: No numbers, one number, and a slice of length 0, which points to something.
+#: No numbers, one number, and an array of length 0, which points to something.
 _NONE = array("Q")
 _ZERO = array("Q", [0])
 _NOTHING = _ZERO.buffer_info()[0], 0
@@ -121,7 +121,7 @@ class _Fork:
 
 
 def _count_threads() -> int:
-    """How many threads this process has, of any language; those of Python alone, if the system does not tell."""
+    """How many threads this process has, of any language; those of Python alone, if the system does not say."""
     try:
         return len(os.listdir("/proc/self/task"))
     except OSError:
@@ -324,7 +324,7 @@ def slice_of(name: str, numbers: Any) -> tuple[int, int]:
             )
     except TypeError:
         pass
-    kind = "array of 64-bit numbers from 0 on, one behind another, that can be written"
+    kind = "array of 64-bit numbers from 0 on, one after another, that can be written"
     raise TypeError(f"the {name} are no {kind}: {type(numbers).__name__}")
 
 

@@ -203,7 +203,7 @@ def _explained_anyhow(number: int) -> str:
 
 
 def refused(number: int, place: int, graph: Graph) -> Fault:
-    """The fault of this number in a call of the library, as the program would tell it."""
+    """The fault of this number in a call of the library, as the program would report it."""
     explanation = _explained_anyhow(number)
     name, *letters = explanation.partition(":")[0].split()[2:] or [""]
     where = (place,) * len(letters)
@@ -299,7 +299,7 @@ def _bind(parent: int) -> None:
 
 def _started(words: Sequence[str], kept: Sequence[int] = ()) -> tuple[int, str, list[str]]:
     """Runs the program to its end, or to that of this Python: its status, its output, and the lines of its errors."""
-    # (a signal of this Python's end comes to who has asked for it; if it ended sooner, setpriv finds no program)
+    # (a signal of this Python's end reaches whoever has asked for it; if it ended sooner, setpriv finds no program)
     errors: list[str] = []
     program = on_path(words[0])
     if program is None:

@@ -90,7 +90,7 @@ class Report(Drawn):
 
     @property
     def closed(self) -> bool:
-        """Whether the play came to its end: no vertex was stopped by a limit or a seal."""
+        """Whether the play has ended: no vertex was stopped by a limit or a seal."""
         return not self.over and not self.sealed
 
     @property
@@ -129,7 +129,7 @@ class Report(Drawn):
 
     @classmethod
     def read(cls, file: FileName, graph: Graph | None = None) -> Report:
-        """The report of a file. A graph that it cannot be of, as `fits` tells, is refused."""
+        """The report of a file. A graph that it cannot be of, as `fits` says, is refused."""
         with open(file, encoding="utf-8", newline="") as text:
             report = cls.parse(text.read(), graph)
         if graph is not None and not report.fits(graph):

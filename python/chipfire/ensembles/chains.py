@@ -201,7 +201,7 @@ def _sum(one: Chains, other: Chains) -> Chains:
     widths = [[len(rows[0]) for rows in (it.size, it.chips)] for it in (one, other)]
     told = [(it.fired is None, it.duration is None) for it in (one, other)]
     if widths[0] != widths[1] or told[0] != told[1]:
-        raise ValueError("chains add up that have as many drops and vertices, and are told alike")
+        raise ValueError("chains add up that have as many drops and vertices, and the same columns")
     names = [*COLUMNS, *_OTHERS] + ["duration"] * (one.duration is not None)
     columns = {name: joined(getattr(one, name), getattr(other, name)) for name in names}
     fired = None
@@ -494,7 +494,7 @@ def _starts(graph: Graph, chips: Any, n: int) -> array[int] | None:
 
 
 def _stable(graph: Graph, rows: Sequence[Sequence[int]]) -> array[int]:
-    """These chips, one row behind another, when all are stable."""
+    """These chips, one row after another, when all are stable."""
     begun = array("Q", graph.without_loops([*itertools.chain.from_iterable(rows)]))
     return stabilized_rows(graph.loop_free, begun, None)[0]
 

@@ -306,7 +306,7 @@ class Measured:
 
 def without_library() -> ProgramNotFound:
     """The error where the library is missing that measures drops."""
-    why = "the library tells what drops fire, and for how many rounds, and is not here"
+    why = "the library measures what drops fire, and for how many rounds, and is not here"
     return ProgramNotFound(2, why, "chipfire")
 
 
@@ -375,7 +375,7 @@ def parts_of(at: array[int], amounts: array[int]) -> Iterator[bytes]:
 
 
 def columns_of(text: str) -> list[Any]:
-    """The sizes, extents and numbers of lost chips in the rows that the program writes."""
+    """The sizes, areas and numbers of dissipated chips in the rows that the program writes."""
     columns = [array("q") for _ in range(3)]
     at = len(ROWS_HEADER)
     while at < len(text):

@@ -153,7 +153,7 @@ class Room:
     fired, in the order of their numbers, and how often each did."""
 
     def __init__(self, vertices: int, is_kept: bool = True) -> None:
-        numpy = import_optional("numpy", "what fired is told by NumPy")
+        numpy = import_optional("numpy", "what fired is kept by NumPy")
         size = max(_ROOM, 2 * vertices)
         self._vertices, self._times = numpy.empty(size, "u8"), numpy.empty(size, "u8")
         self._is_kept = is_kept

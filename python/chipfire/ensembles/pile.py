@@ -411,7 +411,7 @@ class Pile:
         return self._one_by_one(at, amounts)
 
     def _one_by_one(self, at: array[int], amounts: array[int]) -> Drops:
-        """Drops of which the limit may stop one: the play of all chips together tells of each what it adds."""
+        """Drops of which the limit may stop one: the play of all chips together says of each what it adds."""
         columns = [array("Q") for _ in range(3)]
         for vertex, amount in zip(at, amounts):
             assert self._end is not None

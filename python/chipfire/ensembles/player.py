@@ -136,9 +136,9 @@ class Plan:
 
 @dataclass
 class Table:
-    """The numbers of chains, flat and of 64 bits, those of one chain behind those of another.
+    """The numbers of chains, flat and of 64 bits, those of one chain after those of another.
 
-    columns  the size, extent and loss of each drop, and its duration if that is asked for
+    columns  the size, area and loss of each drop, and its duration if that is asked for
     made     how many drops each chain made
     chips    what lies on each vertex, without the chips of loops
     fired    pieces of what fired
@@ -181,7 +181,7 @@ class Table:
         return [_zeros(count) for _ in self.columns]
 
     def add(self, chain: int, rows: list[Any], made: int) -> None:
-        """Takes the first drops whose numbers stand in rows, which a chain made behind those before."""
+        """Takes the first drops whose numbers stand in rows, which a chain made after those before."""
         first = chain * self.drops + int(self.made[chain])
         for numbers, row in zip(self.columns, rows):
             _copy(memoryview(numbers)[first : first + made], row[:made])
@@ -323,7 +323,7 @@ class Watch:
         return self._locks[-1]
 
     def leave(self) -> None:
-        """Has no thread write to a table any more. Those that write come to the end of that first."""
+        """Has no thread write to a table any more. Those that write finish that first."""
         self.is_left = True
         for lock in self._locks:
             with lock:
@@ -521,7 +521,7 @@ def _stretches(plan: Plan) -> Iterator[tuple[int, int]]:
 
 
 def _until(graph: Graph, until: str | None) -> kept.Until:
-    """The drop that ends a chain, as the library is told."""
+    """The drop that ends a chain, as the library takes it."""
     if until is None:
         return kept.NEVER
     if until == "loss":

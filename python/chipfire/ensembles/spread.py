@@ -48,7 +48,7 @@ class Spread:
         self.made = 0
         #: The chains whose chips lie in the table, at their starts or later.
         self.there: list[Place] = []
-        #: The parts that are not taken yet, and those of them that are done, which other threads tell.
+        #: The parts that are not taken yet, and those of them that are done, which other threads report.
         self.futures: dict[Place, Future[AnyTable]] = {}
         self.done: queue.SimpleQueue[Place] = queue.SimpleQueue()
         #: Whether a thread has not ended its call, and writes nothing any more.

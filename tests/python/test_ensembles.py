@@ -835,7 +835,7 @@ class Measured(unittest.TestCase):
             self.assertEqual(read.histogram("duration"), found.histogram("duration"))
 
     def test_what_cannot_be_measured(self):
-        for given, words in ((CHIPS_FILE, "and not of a file"), ([9], "9")):
+        for given, words in ((CHIPS_FILE, "and not for a file"), ([9], "9")):
             with self.assertRaisesRegex((ValueError, KeyError), words):
                 chipfire.drops(TRIANGLE, 0, given, fired=True)
         with self.assertRaisesRegex(ValueError, "and not by a program"):

@@ -19,8 +19,9 @@ CITED = re.compile(r"(\[)?`([^`\n]+)`(?(1)(\]\([^)\s]+\))?)")
 LINK = re.compile(r"(?<!!)\[[^\]]*\]\(([^)\s]+)\)", re.DOTALL)
 #: A path has a slash, or the ending of a file of the repository.
 PATH = re.compile(r"[\w.-]*/[\w./-]*|[\w-]+\.(?:antt|rt|md|py|cases|txt|edit|deb)")
-#: What is no text: blocks between fences, and indented ones.
-BLOCKS = re.compile(r"^```.*?^```$|^(?: {4}|\t)[^\n]*$", re.MULTILINE | re.DOTALL)
+#: What is no text: blocks between fences, and indented ones, which follow an empty line (an indented line after a line of
+#: text goes on with it, as in an item of a list).
+BLOCKS = re.compile(r"^```.*?^```$|(?<=\n\n)(?:(?: {4}|\t)[^\n]*(?:\n|\Z))+", re.MULTILINE | re.DOTALL)
 ALONE = ("js/README.md",)
 #: The front page of the site, which lists what the site has.
 FRONT = "docs/site/index.md"

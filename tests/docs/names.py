@@ -9,7 +9,7 @@ import re
 
 import definitions  # (what a statement rests on)
 import prove  # (which crate depends on which)
-from links import PATH, files, text_of
+from links import BLOCKS, PATH, files, text_of
 from paths import ROOT
 
 CITED = re.compile(r"`([^`\n]+)`")
@@ -68,9 +68,7 @@ def rows(page):
 
 def dead(page):
     """Returns what a page cites that is not there."""
-    text = re.sub(r"^```.*?^```", "", text_of(page), flags=re.MULTILINE | re.DOTALL)
-    text = re.sub(r"^(?: {4}|\t).*$", "", text, flags=re.MULTILINE)
-    for cited in CITED.findall(text):
+    for cited in CITED.findall(BLOCKS.sub("", text_of(page))):
         if PATH.fullmatch(cited):
             if not is_there(cited.removesuffix("/.."), page):
                 yield cited

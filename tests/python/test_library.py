@@ -243,6 +243,15 @@ class Ways(WithFolder):
             shown.append((counts[-1], sum(found.fired) if isinstance(found, chipfire.Report) else len(found)))
         self.assertEqual([last for last, _ in shown], [whole for _, whole in shown])
 
+    @unittest.skipUnless(IS_HERE, "the library is not called")
+    def test_a_function_gets_how_many_drops_are_made(self):
+        grid, reports = chipfire.grid(6, 6), []
+        for options in ({}, {"durations": True}, {"partial": True}):
+            reports.clear()
+            with self.in_portions(), mock.patch("chipfire.progress._CALLS", 0):
+                chipfire.drops(grid, 3, range(30), progress=lambda *its: reports.append(its), **options)
+            self.assertEqual((reports[0], reports[-1], reports), ((1, 30), (30, 30), sorted({*reports})))
+
     def test_plays_in_portions_are_the_same(self):
         chain = chipfire.Graph(3, 2, [(0, 1, 10), (1, 0), (0, 2)])
         long = slow_report(chain, [300, 0, 0])

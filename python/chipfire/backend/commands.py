@@ -45,7 +45,7 @@ from chipfire.lab.machine import (
     Simulation,
     trace_text,
 )
-from chipfire.progress import Progress
+from chipfire.progress import AnyProgress, Progress
 from chipfire.utils import (
     as_int,
     FILE,
@@ -433,7 +433,7 @@ def drops(
     amounts: Iterable[int] | None = None,
     fired: bool = False,
     durations: bool = False,
-    progress: bool = False,
+    progress: AnyProgress = None,
     partial: bool = False,
     program: AnyProgram = None,
 ) -> Drops:
@@ -458,8 +458,9 @@ def drops(
         Whether to return for how many rounds each drop lasts, in each of which each legal vertex fires once. This takes
         the library. A vertex with many chips fires one time after another then. An interrupt that finds a long drop is
         raised within a second; a thread ends the drop, and nobody gets what comes of it.
-    progress : bool, optional
-        Whether progress is shown, by tqdm or in lines on `sys.stderr`: how many of the drops are made.
+    progress : bool or callable, optional
+        True shows how many of the drops are made, by tqdm or in lines on `sys.stderr`. A function is called with the
+        number made and of all. A program that is asked writes lines, and calls no function.
     partial : bool, optional
         Whether an interrupt returns the drops that were made until then, in place of KeyboardInterrupt, as in `chains`.
         This takes the library. The drops of the call that it finds, which was to take a tenth of a second, may not be
@@ -535,7 +536,7 @@ def _measured(
     chips: Chips,
     vertices: Any,
     amounts: Iterable[int] | None,
-    asked: tuple[bool, bool, bool, bool],
+    asked: tuple[bool, bool, AnyProgress, bool],
     program: AnyProgram,
 ) -> Drops:
     """Drops by the library, with what is asked of them, in the order of `measured_drops`."""

@@ -19,7 +19,7 @@ from chipfire.ensembles import archive
 from chipfire.ensembles.firings import fall, Firings, firings, firings_of, Parts, Room, stored
 from chipfire.ensembles.power_law import sizes_figure
 from chipfire.graphs.graph import Graph
-from chipfire.progress import Progress
+from chipfire.progress import AnyProgress, Progress
 from chipfire.utils import (
     as_ints,
     FileName,
@@ -317,7 +317,7 @@ def measured_drops(
     amounts: array[int],
     fired: bool = False,
     durations: bool = False,
-    progress: bool = False,
+    progress: AnyProgress = None,
     partial: bool = False,
 ) -> Drops | None:
     """Drops by the library, with what is asked of them, on the pile that the graph keeps; None without the library. Those

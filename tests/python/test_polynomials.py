@@ -105,6 +105,30 @@ class Tutte(unittest.TestCase):
             word(tree, progress=lambda done, all_: reports.append((done, all_)))
             self.assertEqual((reports[0], reports[-1], reports), ((1, 3), (3, 3), sorted(reports)))
 
+    def test_a_call_after_an_interrupt_goes_on(self):
+        def stop(done, _):
+            reports.append(done)
+            if len(reports) == most:
+                raise KeyboardInterrupt
+
+        words = (chipfire.tutte_polynomial, chipfire.level_polynomial)
+        whole = [word(chipfire.complete(6)) for word in words]
+        graph, most = chipfire.complete(6), 8
+        with mock.patch("chipfire.progress._CALLS", 0):
+            firsts = []
+            for word in words * 3:
+                reports = []
+                with self.assertRaises(KeyboardInterrupt):
+                    word(graph, progress=stop)
+                firsts.append(reports[0])
+            self.assertEqual(firsts, sorted(firsts))
+            self.assertGreater(firsts[-1], firsts[0])
+            most = 0
+            self.assertEqual([word(graph, progress=stop) for word in words], whole)
+            reports = []
+            self.assertEqual([word(graph, progress=stop) for word in words], whole)
+            self.assertEqual(reports[0], 1)
+
     @unittest.skipUnless(has("sympy"), "SymPy is not here")
     def test_sympy_takes_them(self):
         import sympy

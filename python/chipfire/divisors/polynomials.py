@@ -68,6 +68,8 @@ def tutte_polynomial(
     The edges of one vertex after the other are deleted and contracted, and minors that come out the same are one. A
     complete graph of 8 vertices takes 0.01 s, and 4 by 4 squares 1 s.
 
+    Ctrl-C ends a call at once. The next call on the same graph goes on after the last vertex that was taken out.
+
     Nothing of this is proved, and the program is not asked.
 
     Examples
@@ -250,29 +252,35 @@ def _whitney(graph: Graph, most: int, is_one: bool, progress: AnyProgress) -> Te
     The last vertex is contracted into one of its neighbours, after its edges to those after that are deleted. Of the
     m edges between the two, one is contracted, and the others become loops or are deleted: 1 + y + .. + y^(m - 1). Or
     all edges of the vertex are deleted: x - 1. The graphs alone are made first, since their terms take far longer.
+
+    After an interrupt the graph keeps those with fewer vertices that were made last, from which the next call goes on.
     """
     start, steps = _steps(graph, is_one)
-    count = _count_graphs(start, steps, as_int(most, "the most smaller graphs", 1))
-    graphs: dict[int, Terms] = {start: Counter({(0, 0): 1})}
-    done = 0
-    with Progress(progress, count, "graphs") as shown:
-        for step in steps:
+    counts = _count_graphs(start, steps, as_int(most, "the most smaller graphs", 1))
+    begun = ("graphs with fewer vertices", is_one)
+    taken_out, graphs = graph.answers.get(begun, (0, {start: Counter({(0, 0): 1})}))
+    done, total = sum(counts[:taken_out]), sum(counts)
+    with Progress(progress, total, "graphs") as shown:
+        for number, step in enumerate(steps[taken_out:], taken_out + 1):
             smaller: dict[int, Terms] = defaultdict(Counter)
             for joined, terms in graphs.items():
                 for after, of_x, mult in step(joined):
                     _add(smaller[after], terms, of_x, mult)
                 done += 1
-                shown.show(done, done == count)
+                shown.show(done, done == total)
             graphs = smaller
-    return graphs[0]
+            graph.answers[begun] = number, graphs
+    graph.answers.pop(begun, None)
+    found: Terms = graphs[0]
+    return found
 
 
-def _count_graphs(start: int, steps: Sequence[Step], most: int) -> int:
-    """How many graphs a vertex is taken out of. More than `most` with one number of vertices are refused."""
+def _count_graphs(start: int, steps: Sequence[Step], most: int) -> list[int]:
+    """How many graphs each vertex is taken out of. More than `most` with one number of vertices are refused."""
     graphs = {start}
-    count = 0
+    counts = []
     for step in steps:
-        count += len(graphs)
+        counts.append(len(graphs))
         smaller: set[int] = set()
         for joined in graphs:
             smaller.update(after for after, _, _ in step(joined))
@@ -280,7 +288,7 @@ def _count_graphs(start: int, steps: Sequence[Step], most: int) -> int:
                 shown = f"{with_unit(len(smaller), 'smaller graph')} come out"
                 raise ValueError(f"at least {shown}, and {most:,} at most are visited")
         graphs = smaller
-    return count
+    return counts
 
 
 def _steps(graph: Graph, is_one: bool) -> tuple[int, list[Step]]:

@@ -91,13 +91,20 @@ class Recurrent(unittest.TestCase):
     @unittest.skipUnless(IS_HERE, "the library is not here")
     def test_the_graph_is_made_once(self):
         """Plays and drops between draws change nothing, and the graph is compared and made once."""
-        grid = chipfire.grid(9, 7)
+        ring = chipfire.torus(9, 7)
         with (mock.patch.object(kept, "KeptPile", side_effect=kept.KeptPile) as made,
               mock.patch.object(wilson, "_first_one_way", side_effect=wilson._first_one_way) as compared):
-            first = chipfire.random_recurrent(grid, 5, 3)
-            chipfire.drops(grid, first[0], [0, 3, 9])
-            self.assertEqual(chipfire.random_recurrent(grid, 5, 3), first)
+            first = chipfire.random_recurrent(ring, 5, 3)
+            chipfire.drops(ring, first[0], [0, 3, 9])
+            self.assertEqual(chipfire.random_recurrent(ring, 5, 3), first)
         self.assertEqual((made.call_count, compared.call_count), (1, 1))
+
+    def test_a_grid_is_not_compared(self):
+        for sizes in itertools.product(range(1, 5), repeat=2):
+            grid = chipfire.grid(*sizes)
+            self.assertIsNone(wilson._first_one_way(grid))
+            with mock.patch.object(wilson, "_first_one_way", side_effect=AssertionError):
+                wilson.require_undirected(grid)
 
     def test_which_edges_are_one_way(self):
         """Of all multigraphs of three vertices and the sink, whose edges come in any order."""

@@ -12,7 +12,7 @@ from chipfire.backend import kept
 from chipfire.backend.commands import AnyGraph, known_graph
 from chipfire.backend.portions import Portions
 from chipfire.configurations.configuration import Configuration
-from chipfire.graphs.graph import Graph
+from chipfire.graphs.graph import Graph, NO_EDGE_IS_ONE_WAY
 from chipfire.progress import AnyProgress, Progress
 from chipfire.utils import as_int, import_optional, numpy_in_use, random_generator, require_memory
 
@@ -161,9 +161,9 @@ def require_undirected(graph: Graph) -> None:
 
 def is_undirected(graph: Graph) -> bool:
     """Whether each edge has one back, but for those to the sink."""
-    if "no edge is one-way" not in graph.answers:
-        graph.answers["no edge is one-way"] = _first_one_way(graph) is None
-    return bool(graph.answers["no edge is one-way"])
+    if NO_EDGE_IS_ONE_WAY not in graph.answers:
+        graph.answers[NO_EDGE_IS_ONE_WAY] = _first_one_way(graph) is None
+    return bool(graph.answers[NO_EDGE_IS_ONE_WAY])
 
 
 def _first_one_way(graph: Graph) -> int | None:

@@ -50,6 +50,9 @@ _FILES_LOCK = threading.Lock()
 #: What a graph is made of; all else is found out about it.
 _MADE_OF = ("vertices", "sink", "columns", "names", "shape", "squares", "from_sink", "loops")
 
+#: The answer that says whether each edge has one back, but for those to the sink.
+NO_EDGE_IS_ONE_WAY = "no edge is one-way"
+
 
 def _checked_names(names: tuple[Hashable, ...], vertices: int) -> tuple[Hashable, ...]:
     """Names, if there are none, or one for each vertex, all different."""

@@ -9,7 +9,7 @@ from collections.abc import Iterable, Mapping, Sequence, Set
 from typing import Any, overload
 
 from chipfire.graphs.edges import Columns
-from chipfire.graphs.graph import Graph
+from chipfire.graphs.graph import Graph, NO_EDGE_IS_ONE_WAY
 from chipfire.utils import as_int, in_order, MAX_LARGE_VERTICES
 
 #: Which squares lie beside one of a lattice, as (rows down, columns to the right) by the parity of its row and column.
@@ -271,7 +271,9 @@ def _plain_grid(width: int, height: int) -> Graph:
                 numbers[place :: len(one)] = its
         for column, more in zip(columns, part):
             column.extend(more)
-    return Graph(sink + 1, sink, columns, shape=(height, width), from_sink=None)
+    found = Graph(sink + 1, sink, columns, shape=(height, width), from_sink=None)
+    found.answers[NO_EDGE_IS_ONE_WAY] = True
+    return found
 
 
 def region(mask: Iterable[Iterable[Any]], lattice: str = "square") -> Graph:

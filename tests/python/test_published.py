@@ -40,6 +40,14 @@ def by_chains(rows):
     return means.mean(), means.std(ddof=1) / math.sqrt(len(means))
 
 
+def exponent(rows, least, most):
+    """Returns the exponent of all drops, and its error by those of the chains: drops of one chain depend on one another."""
+    import numpy
+
+    each = numpy.array([chipfire.power_law(row, least, most).exponent for row in rows])
+    return chipfire.power_law(rows.ravel(), least, most).exponent, by_chains(each[:, None])[1]
+
+
 def spans(found, side):
     """Returns for each drop of chains on a square grid whether it fired squares on two opposite borders."""
     import numpy
@@ -67,12 +75,14 @@ class Published(unittest.TestCase):
         # (each chip makes a step for each row, and a firing makes two steps)
         height, width = 256, 64
         graph = directed(height, width)
-        chips = stable_rows(8, graph.vertices, 1)
-        found = chipfire.chains(graph, 8, 6000, seed=1, chips=chips, on=range(width))
+        chips = stable_rows(32, graph.vertices, 1)
+        found = chipfire.chains(graph, 32, 2000, seed=1, chips=chips, on=range(width), durations=True)
         moments = chipfire.moments(found, orders=[1])
         self.near(moments.means[0], height / 2, moments.errors[0])
-        law = chipfire.power_law(found.size.ravel(), 16, 512)
-        self.near(law.exponent, 4 / 3, law.error)
+        for rows, least, most, wanted in ((found.size, 16, 512, 4 / 3), (found.duration, 16, 128, 3 / 2)):
+            law, error = exponent(rows, least, most)
+            self.assertLess(error, 0.05)
+            self.near(law, wanted, error)
 
     @unittest.skipUnless(shutil.which("gcc"), "gcc is not here")
     def test_moments_durations_and_spanning_beside_c(self):

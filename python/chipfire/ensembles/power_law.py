@@ -41,7 +41,7 @@ class PowerLaw(NamedTuple):
     exponent : float
         The exponent by which the sizes that were seen are the most probable.
     error : float
-        Its standard error.
+        Its standard error, if sizes do not depend on one another.
     least, most : int
         The range of sizes.
     used : int
@@ -121,6 +121,9 @@ def power_law(
     The border of a grid ends the law of avalanches, so `most` is best far below the largest size. A p-value below 0.1
     speaks against the law, if there are 100 trials or more [1]_. Below a best least size samples are drawn from what
     was seen there.
+
+    Error and p-value are those of sizes that do not depend on one another. Drops of one chain do, so the scatter of the
+    exponents of several chains is a better error.
 
     Nothing of this is proved.
 

@@ -220,6 +220,12 @@ class NumbersOfVertices(unittest.TestCase):
                 wanted = [call() for call in self.calls(graph, 0)]
                 self.assertEqual([call() for call in self.calls(graph, vertex)], wanted)
 
+    def test_so_is_the_sink_of_a_graph(self):
+        graph = chipfire.Graph(3, 2, TRIANGLE.edges, [1, 2, 0])
+        for sink in (graph.sink, chipfire.check(graph).sink, pickle.loads(pickle.dumps(graph)).sink):
+            self.assertRaisesRegex(TypeError, "vertex 2 of a result is a number, and its name is 0", graph.number, sink)
+            self.assertEqual((graph.number(2), TRIANGLE.number(sink)), (1, 2))
+
     def test_a_report_keeps_them_as_they_are_written(self):
         report = chipfire.plain(self.OTHERS, [5, 0, 0], limit=1)
         for again in (chipfire.Report.parse(report.text(), self.OTHERS), pickle.loads(pickle.dumps(report))):

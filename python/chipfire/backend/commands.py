@@ -224,7 +224,7 @@ def check(graph: AnyGraph, *, program: AnyProgram = None) -> Check:
     ]
     vertices, edges, sink = (int(words[1]) for words in lines[:3])
     degrees, distances = (tuple(int(words[place]) for words in lines[3:]) for place in (3, 5))
-    return Check(vertices, edges, sink, degrees, distances)
+    return Check(vertices, edges, VertexNumber(sink), degrees, distances)
 
 
 def plain(

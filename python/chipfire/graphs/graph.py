@@ -187,7 +187,7 @@ class Graph:
             squares = range(vertices - 1 if sink == vertices - 1 else vertices)
         stored = vars(self)  # (since a graph is never changed, no attribute can be set)
         stored["vertices"] = vertices
-        stored["sink"] = sink
+        stored["sink"] = VertexNumber(sink)
         stored["names"] = _checked_names(tuple(names), vertices) or range(vertices)
         stored["loops"] = _checked_loops(loops, vertices, sink)
         stored["columns"] = edges if isinstance(edges, Columns) else edge_columns(edges)
@@ -301,8 +301,8 @@ class Graph:
     def number(self, name: Hashable) -> int:
         """The number of the vertex with this name or, without names, on this square (row, column); else a KeyError. A number
         that a result has is a TypeError, if the name of that vertex is another one."""
-        if type(name) is int and isinstance(self.names, range) and 0 <= name < self.vertices:
-            return name
+        if isinstance(name, int) and isinstance(self.names, range) and 0 <= name < self.vertices:
+            return int(name)
         if isinstance(name, VertexNumber) and not isinstance(self.names, range):
             self._refuse_number(name)
         try:

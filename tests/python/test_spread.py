@@ -666,6 +666,8 @@ class Long(unittest.TestCase):
             with mock.patch.object(spread, "begin", interrupted_once(spread.begin)):
                 found = plays(workers=1, partial=True, **options)
                 self.assertEqual([it.tolist() for it in found.chips], rows)
+                with mock.patch.object(spread, "GRACE", 0), mock.patch.object(spread, "begin", interrupted_once(spread.begin)):
+                    self.assertRaises(KeyboardInterrupt, plays, workers=1, partial=True, **options)
             with concurrent.futures.ThreadPoolExecutor(1) as executor, mock.patch.object(spread, "_OF_EXECUTOR", 2):
                 found = plays(executor=executor, progress=stop, partial=True, **options)
                 for made, chips, start in zip(found.made, found.chips, rows):

@@ -339,8 +339,8 @@ def chains(
         Whether an interrupt returns what was made until then, in place of KeyboardInterrupt. Both come within about a
         second. A long drop, and those of the same call of the library, which were to take a tenth of a second, are not
         there if they have not ended by then: a thread ends them, and nobody gets what comes of them. Chains that had
-        not begun have the chips of their starts, which are drawn then if need be, and not played in. A second interrupt
-        is raised.
+        not begun have the chips of their starts, which are drawn then if need be, and not played in. If that takes longer
+        and no drop was made, the interrupt is raised. So is a second one.
 
     Returns
     -------

@@ -22,7 +22,8 @@ use Rattle.chip_sequence.specs.Sequence.{counts}
 use Rattle.chip_sequence.proofs.FiringLemmas.{counts_here, counts_else, counts_more, counts-append}
 use Rattle.chip_sequence.proofs.LegalLemmas.{legal_of_test, test_of_legal}
 use Rattle.chip_fire.specs.WorkList.{AreTheLegal, IsSent, IsStuck, WorksOff, legal_in_all}
-use Rattle.chip_fire.specs.Rounds.{OnlyRise}
+use Rattle.chip_fire.specs.declared.work_list.Listing.TheVariants.{GoesOn, Ends, GivesUp}
+use Rattle.chip_fire.specs.Rounds.{OnlyRise, IsAtRest}
 use Rattle.chip_fire.specs.Pile.{sum_between}
 use Rattle.chip_fire.specs.Timed.{AreFound}
 use Rattle.chip_fire.proofs.WorkLemmas.{supported, sent_step}
@@ -154,6 +155,10 @@ pub none_counted : (G : Multigraph) (chips : List ℕ) → length (legal_vertice
 none_counted G chips none v can =
     let a = counts_if_legal G (slice_index chips) v can in
     let b = counts_none (legal_vertices G (slice_index chips)) v none in absurd (omega arith)
+
+-- and the play is at rest
+pub rests : (g : ChipGame) (chips fired : List ℕ) → legal_in_all g.graph chips ≡ 0 → IsAtRest g chips fired
+rests g chips fired none v can = absurd (none_counted g.graph chips none v can)
 
 -- the list of them stands at the front
 pub front_legal : (G : Multigraph) (chips list : List ℕ) (n : ℕ) → n ≡ length (legal_vertices G (slice_index chips))
@@ -302,30 +307,26 @@ pub stuck_in : (G : Multigraph) (limit : ℕ) (chips fired : List ℕ) (room les
 stuck_in G limit chips fired room less le (v, can, why) =
     (v, can, ⊎_elim (λ held. inl held) (λ long. inr (omega arith)) why)
 
--- what a work list has done after so many turns, each of which counts for so many visits
-pub works_off : (g : ChipGame) (few most : ℕ) (chips fired : List ℕ) (before after turns m each room : ℕ)
+-- what a work list has done after so many turns, each of which counts for so many visits, if so many vertices are legal
+pub works_off : (g : ChipGame) (few most : ℕ) (chips fired : List ℕ) (before after turns m each room legal : ℕ)
     → 0 < each → each ≤ places g → m ≡ most / each → few ≤ room → turns ≤ m
-    → (before + turns * each < 2 ^ 64 → after ≡ before + turns * each)
-    → (turns < m → (legal_in_all g.graph chips ≡ 0) ⊎ IsStuck g.graph g.limit chips fired room)
-    → WorksOff g few most chips fired before after (eqb turns m)
-works_off g few most chips fired before after turns m each room some fits is le at_most counted over =
-    by_test (eqb turns m)
-    (λ t. subst (WorksOff g few most chips fired before after) (sym t) (record {
-      made = λ small.
-          let same : turns ≡ m = eqb-true turns m t in
-          let a = div-mul-le_self most each in
-          let b : most < most / each * each + each = lt-div-mul-add some in
-          let c = ap (λ (n : ℕ). n * each) (same ∙ is) in
-          let e = counted (omega arith) in omega arith;
-      over = tt;
-    }))
-    (λ t. subst (WorksOff g few most chips fired before after) (sym t) (record {
-      made = tt;
-      over =
-          let other = eqb-false turns m t in
-          ⊎_elim (λ none. inl none) (λ stuck. inr (inr (stuck_in _ _ _ _ room few le stuck)))
-          (over (omega arith));
-    }))
+    → (before + turns * each < 2 ^ 64 → after ≡ before + turns * each) → legal ≡ legal_in_all g.graph chips
+    → (turns < m → (legal ≡ 0) ⊎ IsStuck g.graph g.limit chips fired room)
+    → WorksOff g few most chips fired before after (cond (eqb legal 0) Ends (cond (eqb turns m) GoesOn GivesUp))
+works_off g few most chips fired before after turns m each room legal some fits is le at_most counted many over =
+    by_test (eqb legal 0)
+    (λ none. rw none (let a = eqb-true legal 0 none in omega arith))
+    (λ left. rw left (by_test (eqb turns m)
+    (λ t. rw t (λ small.
+    let same : turns ≡ m = eqb-true turns m t in
+    let a = div-mul-le_self most each in
+    let b : most < most / each * each + each = lt-div-mul-add some in
+    let c = ap (λ (n : ℕ). n * each) (same ∙ is) in
+    let e = counted (omega arith) in omega arith))
+    (λ t. rw t (
+    let other = eqb-false turns m t in
+    ⊎_elim (λ none. absurd (eqb-false legal 0 left none)) (λ stuck. inr (stuck_in _ _ _ _ room few le stuck))
+    (over (omega arith))))))
 
 -- ---- the list of one firing
 

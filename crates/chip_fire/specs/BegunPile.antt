@@ -12,7 +12,7 @@ pub record IsBegunPile (p : Pile) : Type 0 where
   pub game : IsGame p.game
   pub begun : IsBegun p.game p.chips.items p.fired.items
   pub room : IsRoom p.game.graph.vertices p.fired.items p.room
-  pub course : IsCourse p.game p.fired.items p.course
+  pub course : IsCourse p.game p.chips.items p.fired.items p.course
 
 -- no vertex of the game has fired on the pile
 pub record IsAtStart (g : ChipGame) (p : Pile) : Type 0 where

@@ -1,9 +1,10 @@
 -- What a play that goes on in portions keeps from one to the next.
 use Rattle.std.specs.Prelude.{ℕ, ◌+◌, ◌*◌, ◌/◌, ◌≤◌, List, [], true}
 use Rattle.chip_graph.specs.ChipGame.{ChipGame}
+use Rattle.chip_fire.specs.Rounds.{IsAtRest}
 use Rattle.chip_fire.specs.Search.{FewVisits, places}
 use Rattle.chip_fire.specs.declared.course.Course.{Course}
-use Rattle.chip_fire.specs.declared.course.Course.TheVariants.{Begins, WorkList, FewChips, Doubles, Searches, Rounds}
+use Rattle.chip_fire.specs.declared.course.Course.TheVariants.{Begins, WorkList, FewChips, Doubles, Searches, Rounds, Ended}
 use Rattle.chip_fire.specs.declared.course.Searching.{Searching}
 
 -- a search beside a play that has reached the counts fired: neither has passed its share by more than a turn
@@ -15,11 +16,13 @@ pub record IsSearching (g : ChipGame) (fired : List ℕ) (s : Searching) : Type 
   pub play_share : s.beside ≤ s.searched + 5 * places g + (s.alone + s.beside) / 4
   pub turn : s.turn_end ≤ s.searched + 4 * places g + (s.alone + s.beside) / 4
 
--- what a play is at that has reached the counts fired: the visits that it counts were few
-abbrev pub IsCourse : ChipGame → List ℕ → Course → Type 0
-IsCourse g fired Begins = Unit {0}
-IsCourse g fired (WorkList left) = Unit {0}
-IsCourse g fired (FewChips left) = Unit {0}
-IsCourse g fired (Doubles doubling) = FewVisits g [] fired 0 doubling.visits true
-IsCourse g fired (Searches boxed) = IsSearching g fired boxed.value
-IsCourse g fired Rounds = Unit {0}
+-- what a play is at that has reached these chips and counts: the visits that it counts were few, and it has ended only
+-- if no vertex may fire
+abbrev pub IsCourse : ChipGame → (chips fired : List ℕ) → Course → Type 0
+IsCourse g chips fired Begins = Unit {0}
+IsCourse g chips fired (WorkList left) = Unit {0}
+IsCourse g chips fired (FewChips left) = Unit {0}
+IsCourse g chips fired (Doubles doubling) = FewVisits g [] fired 0 doubling.visits true
+IsCourse g chips fired (Searches boxed) = IsSearching g fired boxed.value
+IsCourse g chips fired Rounds = Unit {0}
+IsCourse g chips fired Ended = IsAtRest g chips fired

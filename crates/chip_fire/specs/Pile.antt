@@ -36,7 +36,7 @@ pub record IsPile (p : Pile) : Type 0 where
   pub begun : IsBegun p.game p.chips.items p.fired.items
   pub at_rest : IsAtRest p.game p.chips.items p.fired.items
   pub room : IsRoom p.game.graph.vertices p.fired.items p.room
-  pub course : IsCourse p.game p.fired.items p.course
+  pub course : IsCourse p.game p.chips.items p.fired.items p.course
 
 -- the play of these drops on the game, which begins at x and the counts of the room, has reached these chips and counts
 pub record IsBegunDrop (g : ChipGame) (ds : List (ℕ × ℕ)) (x : ℕ → ℕ) (d : BegunDrop) : Type 0 where

@@ -1,7 +1,6 @@
 -- A play by a work list.
 use Rattle.std.specs.Prelude.{◌≡◌, ◌≢◌, ℕ, ◌+◌, ◌*◌, ◌/◌, ◌<◌, ◌≤◌, ◌⊎◌, ◌==◌, if◌then◌else◌, List, length, take, slice_index}
-use Rattle.std.specs.Prelude.{All, Bool, Contains, sum, sum_by, ◌^◌}
-use Rattle.std.specs.Bool.{OnTrue, OnFalse}
+use Rattle.std.specs.Prelude.{All, Contains, sum, sum_by, ◌^◌}
 use Rattle.chip_graph.specs.Limits.{max_total}
 use Rattle.chip_graph.specs.Multigraph.{Multigraph, degree, edges_out}
 use Rattle.chip_graph.specs.ChipGame.{ChipGame}
@@ -9,6 +8,8 @@ use Rattle.chip_graph.specs.declared.edge.Link.{Link}
 use Rattle.chip_sequence.specs.Firing.{IsLegal, legal_vertices}
 use Rattle.chip_sequence.specs.Sequence.{counts}
 use Rattle.chip_fire.specs.Search.{places}
+use Rattle.chip_fire.specs.declared.work_list.Listing.{Listing}
+use Rattle.chip_fire.specs.declared.work_list.Listing.TheVariants.{GoesOn, Ends, GivesUp}
 
 -- the list has each legal vertex once, and no other
 pub record AreTheLegal (G : Multigraph) (chips work : List ℕ) : Type 0 where
@@ -35,17 +36,14 @@ IsStuck G limit chips fired room = (v : ℕ) × IsLegal G (slice_index chips) v
     × ((limit < slice_index fired v + slice_index chips v / degree G v)
     ⊎ (room < legal_in_all G chips + length (edges_out G v)))
 
--- a work list with room for `few` has nothing to do: no vertex is legal, or too many are, or one is stuck
-abbrev pub HasWorkedOff : Multigraph → ℕ → ℕ → (chips fired : List ℕ) → Type 0
-HasWorkedOff G limit few chips fired =
-    (legal_in_all G chips ≡ 0) ⊎ ((few < legal_in_all G chips) ⊎ IsStuck G limit chips fired few)
-
--- a work list that was given `most` visits has made them all but for less than one at each vertex and edge, if it goes
--- on, and else has nothing to do
-pub record WorksOff (g : ChipGame) (few most : ℕ) (chips fired : List ℕ) (before after : ℕ) (goes_on : Bool) : Type 0
-  where
-    pub made : OnTrue goes_on (before + most < 2 ^ 64 → before + most < after + places g)
-    pub over : OnFalse goes_on (HasWorkedOff g.graph g.limit few chips fired)
+-- where a work list with room for `few` is that was given `most` visits: if it goes on, it has made them all but for
+-- less than one at each vertex and edge; it has ended if no vertex is legal; and it gives up if too many are, or one is
+-- stuck
+abbrev pub WorksOff : ChipGame → (few most : ℕ) → (chips fired : List ℕ) → (before after : ℕ) → Listing → Type 0
+WorksOff g few most chips fired before after GoesOn = before + most < 2 ^ 64 → before + most < after + places g
+WorksOff g few most chips fired before after Ends = legal_in_all g.graph chips ≡ 0
+WorksOff g few most chips fired before after GivesUp =
+    (few < legal_in_all g.graph chips) ⊎ IsStuck g.graph g.limit chips fired few
 
 -- the list has vertices alone, and each of the n that fired between these counts
 pub record HasSupport (n : ℕ) (fired fired' vs : List ℕ) : Type 0 where

@@ -28,7 +28,7 @@ impl Play<'_> {
     ) -> Course
         requires { FewVisits self.old.game [] self.old.fired 0 alone true }
         ensures same { self.new ≡ self.old }
-        ensures course { IsCourse self.old.game self.new.fired result }
+        ensures course { IsCourse self.old.game self.new.chips self.new.fired result }
         ensures at_most { visits.new ≤ visits.old + 160 * places self.old.game }
     {
         let mut searched = 0u64;
@@ -129,7 +129,7 @@ impl Play<'_> {
         requires { IsSearching self.old.game self.old.fired searching.value }
         ensures same { self.new.game ≡ self.old.game }
         ensures rises { OnlyRise self.old.fired self.new.fired }
-        ensures course { IsCourse self.old.game self.new.fired result }
+        ensures course { IsCourse self.old.game self.new.chips self.new.fired result }
         ensures at_most { visits.new ≤ visits.old + most + 160 * places self.old.game }
     {
         let mut boxed = searching;
@@ -276,7 +276,7 @@ impl Play<'_> {
     ) -> (Course, bool)
         requires { IsSearching self.old.game self.old.fired searching.value }
         ensures same { self.new.game ≡ self.old.game }
-        ensures course { IsCourse self.old.game self.new.fired result.0 }
+        ensures course { IsCourse self.old.game self.new.chips self.new.fired result.0 }
         ensures round { GoesRound self.old.game self.old.fired self.new.chips self.new.fired result.1 }
         ensures at_most { visits.new ≤ visits.old + places self.old.game }
     {
@@ -294,7 +294,7 @@ impl Play<'_> {
             return (Course::Searches(boxed), true);
         }
         self.end_search(searching, watch);
-        (Course::Rounds, false)
+        (Course::Ended, false)
     }
 
     /// Reports a search that is over.

@@ -26,6 +26,8 @@ pub enum Course {
     Searches(Box<Searching>),
     /// It goes on by rounds to its end.
     Rounds,
+    /// No vertex may fire within the limit.
+    Ended,
 }
 
 /// Rounds that are judged each time that they have made twice the work.
@@ -66,8 +68,8 @@ pub struct Searching {
 }
 
 impl Play<'_> {
-    /// Goes on by this number of visits to a vertex or an edge; what it is at then, and whether it goes on. One round is
-    /// made at least, so it has ended, or some vertex has fired. 2^64 - 1 visits take it to the end within the limit.
+    /// Goes on by this number of visits to a vertex or an edge; what it is at then, and whether it goes on. It has ended,
+    /// or some vertex has fired, since one round is made at least. 2^64 - 1 visits take it to the end within the limit.
     /// `made` counts the visits: what begins a search, and a step of it, may take more than are left.
     #[tactic(auto, using(crate::proofs::VisitsLemmas::goes_after))]
     pub fn go_on<W: Watch>(
@@ -78,16 +80,20 @@ impl Play<'_> {
         made: &mut u64,
         watch: &mut W,
     ) -> (Course, bool)
-        requires course { IsCourse self.old.game self.old.fired course }
+        requires course { IsCourse self.old.game self.old.chips self.old.fired course }
         requires none { made.old ≡ 0 }
         ensures same { self.new.game ≡ self.old.game }
-        ensures course { IsCourse self.old.game self.new.fired result.0 }
+        ensures course { IsCourse self.old.game self.new.chips self.new.fired result.0 }
         ensures round { GoesRound self.old.game self.old.fired self.new.chips self.new.fired result.1 }
         ensures at_most { made.new ≤ visits + 161 * places self.old.game }
         ensures whole { visits ≡ 2 ^ 64 - 1 → result.1 ≡ false }
     {
         let course = self.steps(alloc, course, visits, made, watch);
         match course {
+            Course::Ended => {
+                self.tell_end(watch);
+                (Course::Ended, false)
+            }
             Course::Doubles(doubling) if visits != u64::MAX => {
                 self.round_of(doubling, made, watch)
             }
@@ -106,7 +112,7 @@ impl Play<'_> {
         }
     }
 
-    /// Takes the steps of a course until it is rounds, or `visits` visits are made.
+    /// Takes the steps of a course until it is rounds or has ended, or `visits` visits are made.
     #[tactic(auto, using(crate::proofs::PlayLemmas::rise_more))]
     fn steps<W: Watch>(
         &mut self,
@@ -116,11 +122,11 @@ impl Play<'_> {
         made: &mut u64,
         watch: &mut W,
     ) -> Course
-        requires course { IsCourse self.old.game self.old.fired course }
+        requires course { IsCourse self.old.game self.old.chips self.old.fired course }
         requires none { made.old ≡ 0 }
         ensures same { self.new.game ≡ self.old.game }
         ensures rises { OnlyRise self.old.fired self.new.fired }
-        ensures course { IsCourse self.old.game self.new.fired result }
+        ensures course { IsCourse self.old.game self.new.chips self.new.fired result }
         ensures at_most { made.new ≤ visits + 160 * places self.old.game }
     {
         let mut course = course;
@@ -136,6 +142,7 @@ impl Play<'_> {
                 Course::Doubles(doubling) => self.double(alloc, doubling, most, made, watch),
                 Course::Searches(searching) => self.search_on(alloc, searching, most, made, watch),
                 Course::Rounds => return Course::Rounds,
+                Course::Ended => return Course::Ended,
             };
         }
         course

@@ -14,7 +14,7 @@ pub use player::{plain, plain_given, plain_watched};
 pub use rounds::make_rounds;
 pub use stage::{resume, resume_watched};
 pub use watch::{GivenUse, Unwatched, Watch};
-pub use work_list::is_legal;
+pub use work_list::{Listing, is_legal};
 
 mod advance;
 mod avalanche;

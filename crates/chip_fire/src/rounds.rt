@@ -1,6 +1,6 @@
 //! Rounds, in which each vertex has its turn, and which a watcher follows.
 
-ghost use Rattle.std.specs.Prelude.{◌≡◌, ◌+◌, ◌*◌, ◌/◌, ◌<◌, ◌≤◌, slice_index};
+ghost use Rattle.std.specs.Prelude.{◌≡◌, ◌+◌, ◌*◌, ◌/◌, ◌<◌, ◌≤◌, false, slice_index};
 ghost use Rattle.std.specs.Bool.{OnTrue, OnFalse};
 ghost use Rattle.chip_sequence.specs.Firing.{IsLegal};
 ghost use Rattle.chip_fire.specs.Rounds.{IsBegun, IsInRange, IsAtRest, StaysOnTheWay, OnlyRise, GoesRound, firings_left};
@@ -9,14 +9,15 @@ ghost use Rattle.chip_fire.specs.Search.{FewVisits, places};
 
 use crate::play::Play;
 use crate::watch::Watch;
+use crate::work_list::Listing;
 use chip_graph::{Game, Graph};
 use chip_sequence::fire_batch;
 use std::alloc::Global;
 
 impl Play<'_> {
-    /// Goes on by a queue while few vertices are legal, and by rounds for what is left of `most` visits, one round at
-    /// least; whether each round fired a vertex. The visits are added to `visits`, up to 2^64 - 1.
-    #[tactic(auto, using(crate::proofs::VisitsLemmas::visits_more, crate::proofs::VisitsLemmas::goes_after))]
+    /// Goes on by a queue while few vertices are legal, and unless that ends the play by rounds for what is left of `most`
+    /// visits, one round at least; whether each round fired a vertex. The visits are added to `visits`, up to 2^64 - 1.
+    #[tactic(auto, using(crate::proofs::VisitsLemmas::visits_more, crate::proofs::VisitsLemmas::goes_after, crate::proofs::VisitsLemmas::visits_at_end))]
     pub(crate) fn stretch<W: Watch>(
         &mut self,
         alloc: Global,
@@ -30,9 +31,21 @@ impl Play<'_> {
         ensures at_most { visits.new ≤ visits.old + most + places self.old.game }
     {
         let before = *visits;
-        let _ = self.work_off_few(alloc, most, visits);
+        if let Ok(Listing::Ends) = self.work_off_few(alloc, most, visits) {
+            self.tell_end(watch);
+            return false;
+        }
         let rest = most.saturating_sub(*visits - before);
         self.rounds(rest, visits, watch)
+    }
+
+    /// Reports to `watch` that the play has ended.
+    pub(crate) fn tell_end<W: Watch>(&self, watch: &mut W)
+        requires { IsAtRest self.now.game self.now.chips self.now.fired }
+        ensures { GoesRound self.now.game self.now.fired self.now.chips self.now.fired false }
+    {
+        let _ = &self.game;
+        watch.rounds(0, self);
     }
 
     /// Makes rounds until one fires no vertex or `most` visits are made, one round at least, and reports to `watch` how far

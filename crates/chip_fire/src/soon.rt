@@ -1,7 +1,7 @@
 //! The way to an end that may be near.
 
-ghost use Rattle.std.specs.Prelude.{◌≡◌, ◌+◌, ◌*◌, ◌≤◌, [], true, length};
-ghost use Rattle.chip_fire.specs.Rounds.{OnlyRise, GoesRound};
+ghost use Rattle.std.specs.Prelude.{◌≡◌, ◌↔◌, ◌+◌, ◌*◌, ◌≤◌, [], true, length};
+ghost use Rattle.chip_fire.specs.Rounds.{OnlyRise, GoesRound, IsAtRest};
 ghost use Rattle.chip_fire.specs.Search.{FewVisits, places};
 ghost use Rattle.chip_fire.specs.Course.{IsCourse};
 
@@ -12,18 +12,19 @@ use crate::tuning::{
     VERTICES_PER_HELD, VISITS_OF_FEW, VISITS_OF_LIST,
 };
 use crate::watch::Watch;
-use crate::work_list::is_legal;
+use crate::work_list::{Listing, is_legal};
 use chip_graph::Graph;
 use std::alloc::Global;
 
 impl Play<'_> {
-    /// A play begins by a work list if few chips wait to move, or if all chips stay in few places of a large graph.
+    /// A play begins by a work list if few chips wait to move, or if all chips stay in few places of a large graph. If
+    /// none waits, it has ended.
     pub(crate) fn begin(&self) -> Course
-        ensures { IsCourse self.now.game self.now.fired result }
+        ensures { IsCourse self.now.game self.now.chips self.now.fired result }
     {
         let waits = self.waiting_chips();
         if waits == 0 {
-            return self.soon();
+            return Course::Ended;
         }
         if waits > self.few_chips() && !self.stays_in_cache() {
             return self.soon();
@@ -35,7 +36,7 @@ impl Play<'_> {
     /// It goes on by rounds that are judged.
     #[tactic(auto, using(crate::proofs::VisitsLemmas::none_from_start))]
     pub(crate) fn soon(&self) -> Course
-        ensures { IsCourse self.now.game self.now.fired result }
+        ensures { IsCourse self.now.game self.now.chips self.now.fired result }
     {
         let all = visits_at_all(self.game.graph());
         Course::Doubles(Doubling {
@@ -77,20 +78,21 @@ impl Play<'_> {
     ) -> Course
         ensures same { self.new.game ≡ self.old.game }
         ensures rises { OnlyRise self.old.fired self.new.fired }
-        ensures course { IsCourse self.old.game self.new.fired result }
+        ensures course { IsCourse self.old.game self.new.chips self.new.fired result }
         ensures at_most { visits.new ≤ visits.old + most + 160 * places self.old.game }
     {
         let all = visits_at_all(self.game.graph());
         let stretch = all.saturating_mul(LIST_STRETCH).max(STRETCH);
         // (a turn may take as many visits as there are vertices and edges)
         let part = left.min(stretch).min(most.max(all));
-        let goes_on = self.work_off_few(alloc, part, visits).unwrap_or(false);
-        if goes_on && part < left {
-            return Course::WorkList(left - part);
+        match self.work_off_few(alloc, part, visits) {
+            Ok(Listing::Ends) => return Course::Ended,
+            Ok(Listing::GoesOn) if part < left => return Course::WorkList(left - part),
+            _ => {}
         }
         let waits = self.waiting_chips();
         if waits == 0 {
-            return Course::Rounds;
+            return Course::Ended;
         }
         if waits > self.few_chips() && !self.stays_in_cache() {
             return Course::FewChips(all.saturating_mul(VISITS_OF_FEW));
@@ -109,13 +111,13 @@ impl Play<'_> {
     ) -> Course
         ensures same { self.new.game ≡ self.old.game }
         ensures rises { OnlyRise self.old.fired self.new.fired }
-        ensures course { IsCourse self.old.game self.new.fired result }
+        ensures course { IsCourse self.old.game self.new.chips self.new.fired result }
         ensures at_most { visits.new ≤ visits.old + most + 160 * places self.old.game }
     {
         let before = *visits;
         let part = left.min(STRETCH).min(most);
         if !self.stretch(alloc, part, visits, watch) {
-            return Course::Rounds;
+            return Course::Ended;
         }
         let left = left.saturating_sub(*visits - before);
         if left > 0 {
@@ -138,7 +140,7 @@ impl Play<'_> {
         requires { FewVisits self.old.game [] self.old.fired 0 doubling.visits true }
         ensures same { self.new.game ≡ self.old.game }
         ensures rises { OnlyRise self.old.fired self.new.fired }
-        ensures course { IsCourse self.old.game self.new.fired result }
+        ensures course { IsCourse self.old.game self.new.chips self.new.fired result }
         ensures at_most { visits.new ≤ visits.old + most + 160 * places self.old.game }
     {
         let mut next = doubling;
@@ -163,7 +165,7 @@ impl Play<'_> {
         if goes_on {
             Course::Doubles(next)
         } else {
-            Course::Rounds
+            Course::Ended
         }
     }
 
@@ -177,7 +179,7 @@ impl Play<'_> {
     ) -> (Course, bool)
         requires { FewVisits self.old.game [] self.old.fired 0 doubling.visits true }
         ensures same { self.new.game ≡ self.old.game }
-        ensures course { IsCourse self.old.game self.new.fired result.0 }
+        ensures course { IsCourse self.old.game self.new.chips self.new.fired result.0 }
         ensures round { GoesRound self.old.game self.old.fired self.new.chips self.new.fired result.1 }
         ensures at_most { visits.new ≤ visits.old + places self.old.game }
     {
@@ -188,12 +190,14 @@ impl Play<'_> {
         if goes_on {
             (Course::Doubles(next), true)
         } else {
-            (Course::Rounds, false)
+            (Course::Ended, false)
         }
     }
 
-    /// The chips that legal vertices have above what they may keep, up to 2^64 - 1.
-    pub(crate) fn waiting_chips(&self) -> u64 {
+    /// The chips that legal vertices have above what they may keep, up to 2^64 - 1: 0 exactly if the play is at rest.
+    pub(crate) fn waiting_chips(&self) -> u64
+        ensures { (result ≡ 0) ↔ IsAtRest self.now.game self.now.chips self.now.fired }
+    {
         let (graph, limit) = (self.game.graph(), self.game.limit());
         let mut waits = 0u64;
         for vertex in 0..graph.vertices() {

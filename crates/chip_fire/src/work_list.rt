@@ -1,12 +1,13 @@
 //! A play by a work list: it visits the vertices that are legal and their edges, and no others.
 
 ghost use Rattle.std.specs.Prelude.{◌≡◌, ◌↔◌, ℕ, ◌+◌, ◌*◌, ◌/◌, ◌<◌, ◌≤◌, ◌⊎◌, ◌∷◌, true, false, length, take, drop};
-ghost use Rattle.std.specs.Prelude.{slice_index, slice_set, MatchOption, IfOk, IfErr, Ok};
+ghost use Rattle.std.specs.Prelude.{slice_index, slice_set, MatchOption, IfOk, IfErr, Ok, ◌==◌, if◌then◌else◌};
 ghost use Rattle.chip_graph.specs.Multigraph.{degree, edges_out};
 ghost use Rattle.chip_fire.specs.Search.{FewVisits};
 ghost use Rattle.chip_sequence.specs.Firing.{IsLegal};
 ghost use Rattle.chip_fire.specs.Rounds.{IsBegun, IsInRange, StaysOnTheWay, OnlyRise, firings_left};
 ghost use Rattle.chip_fire.specs.Timed.{AreFound};
+ghost use Rattle.chip_fire.specs.declared.work_list.Listing.TheVariants.{GoesOn, Ends, GivesUp};
 ghost use Rattle.chip_fire.specs.WorkList.{AreTheLegal, IsStuck, WorksOff, legal_in_all};
 
 use crate::play::{Play, legal_vertices};
@@ -16,17 +17,27 @@ use crate::tuning::{PLACES_IN_CACHE, VERTICES_PER_PLACE, VISITS_OF_LISTED};
 use chip_graph::{Game, Graph};
 use std::alloc::{AllocError, Global};
 
+/// Whether a work list goes on.
+#[derive(Clone, Copy)]
+pub enum Listing {
+    /// It has made its visits, and some vertex is legal.
+    GoesOn,
+    /// No vertex is legal.
+    Ends,
+    /// Too many vertices are legal, or one would pass the limit or has too many edges.
+    GivesUp,
+}
+
 impl Play<'_> {
     /// Goes on by a queue of legal vertices if these are few, until about `most` visits are made. The visits are added to
     /// `visits`, up to 2^64 - 1: those at a vertex that fires and at its edges, of which it has as many as vertices
     /// have in the mean. On a graph that no cache holds they count `VISITS_OF_LISTED` times, since they lie anywhere.
-    /// Whether it may go on so.
     pub fn work_off_few(
         &mut self,
         alloc: Global,
         most: u64,
         visits: &mut u64,
-    ) -> Result<bool, AllocError>
+    ) -> Result<Listing, AllocError>
         ensures same { self.new.game ≡ self.old.game }
         ensures rises { OnlyRise self.old.fired self.new.fired }
         ensures few { FewVisits self.old.game self.old.fired self.new.fired visits.old visits.new true }
@@ -35,13 +46,13 @@ impl Play<'_> {
             self.new.chips self.new.fired visits.old visits.new) }
         ensures no_memory { IfErr result (λ _. (self.new ≡ self.old) × (visits.new ≡ visits.old)) }
         ensures many { self.old.game.graph.vertices / 8 < legal_in_all self.old.game.graph self.old.chips
-            → (result ≡ Ok false) × (self.new ≡ self.old) × (visits.new ≡ visits.old) }
+            → (result ≡ Ok GivesUp) × (self.new ≡ self.old) × (visits.new ≡ visits.old) }
     {
         let graph = self.game.graph();
         let vertices = graph.vertices();
         let few = vertices as usize / VERTICES_PER_PLACE;
         if !are_few(graph, &self.chips, few) {
-            return Ok(false);
+            return Ok(Listing::GivesUp);
         }
         let mut queue = legal_vertices(alloc, graph, &self.chips)?;
         let listed = queue.len();
@@ -59,7 +70,20 @@ impl Play<'_> {
             &mut self.fired,
         );
         *visits = visits.saturating_add(worked.turns.saturating_mul(of_turn));
-        Ok(worked.turns == most)
+        Ok(listing_after(worked, most))
+    }
+}
+
+/// Whether a work list goes on that was given `most` turns.
+fn listing_after(worked: Worked, most: u64) -> Listing
+    ensures { result ≡ (if worked.legal == 0 then Ends else if worked.turns == most then GoesOn else GivesUp) }
+{
+    if worked.legal == 0 {
+        Listing::Ends
+    } else if worked.turns == most {
+        Listing::GoesOn
+    } else {
+        Listing::GivesUp
     }
 }
 

@@ -8,6 +8,6 @@ abbrev pub invariant-steps : goal.invariant-steps
 invariant-steps g l = record {
   same : l.self.game ≡ l.fn.self.game;
   rises : OnlyRise l.fn.self.fired l.self.fired;
-  course : IsCourse l.fn.self.game l.self.fired l.course;
+  course : IsCourse l.fn.self.game l.self.chips l.self.fired l.course;
   at_most : l.made ≤ l.fn.visits + 160 * places l.fn.self.game;
 }

@@ -55,7 +55,7 @@ returns-clause-works c =
     let d = c.vertices-vertices.ensures.value in omega arith) in
     let done = works_off play.game.now (play.game.now.graph.vertices / 8) c.args.most c.work_off-worked.new.chips
     c.work_off-worked.new.fired c.args.visits.now c.saturating_add.result c.work_off-worked.result.turns
-    (c.args.most / of_turn) of_turn (length c.deref_mut.result.now / 2) c.visits_of_turn-of_turn.ensures.some fits
-    refl room c.work_off-worked.ensures.at_most (λ small. omega arith)
-    (λ fewer. rw c.work_off-worked.ensures.legal at (c.work_off-worked.ensures.over fewer)) in
-    rw (← c.self.view_is, same, same') done
+    (c.args.most / of_turn) of_turn (length c.deref_mut.result.now / 2) c.work_off-worked.result.legal
+    c.visits_of_turn-of_turn.ensures.some fits refl room c.work_off-worked.ensures.at_most (λ small. omega arith)
+    c.work_off-worked.ensures.legal c.work_off-worked.ensures.over in
+    rw (← c.self.view_is, same, same', c.listing_after.ensures) done

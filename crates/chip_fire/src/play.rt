@@ -72,11 +72,7 @@ impl<'a> Play<'a> {
 }
 
 /// The vertices that are legal, ascending.
-pub(crate) fn legal_vertices(
-    alloc: Global,
-    graph: &Graph,
-    chips: &[u64],
-) -> Result<Vec<u64>, AllocError>
+fn legal_vertices(alloc: Global, graph: &Graph, chips: &[u64]) -> Result<Vec<u64>, AllocError>
     requires { length chips.now ≡ graph.now.vertices }
     ensures { IfOk result (λ legal. legal.items ≡ legal_vertices graph.now (slice_index chips.now)) }
 {

@@ -1,16 +1,16 @@
 //! A play by a work list: it visits the vertices that are legal and their edges, and no others.
 
 ghost use Rattle.std.specs.Prelude.{◌≡◌, ◌↔◌, ℕ, ◌+◌, ◌*◌, ◌/◌, ◌<◌, ◌≤◌, ◌⊎◌, ◌∷◌, true, false, length, take, drop};
-ghost use Rattle.std.specs.Prelude.{slice_index, slice_set, MatchOption, IfOk, IfErr, Ok, ◌==◌, if◌then◌else◌};
+ghost use Rattle.std.specs.Prelude.{slice_index, slice_set, MatchOption, IfOk, IfErr, Ok, None, ◌==◌, if◌then◌else◌};
 ghost use Rattle.chip_graph.specs.Multigraph.{degree, edges_out};
 ghost use Rattle.chip_fire.specs.Search.{FewVisits};
-ghost use Rattle.chip_sequence.specs.Firing.{IsLegal};
+ghost use Rattle.chip_sequence.specs.Firing.{IsLegal, legal_vertices};
 ghost use Rattle.chip_fire.specs.Rounds.{IsBegun, IsInRange, StaysOnTheWay, OnlyRise, firings_left};
 ghost use Rattle.chip_fire.specs.Timed.{AreFound};
 ghost use Rattle.chip_fire.specs.declared.work_list.Listing.TheVariants.{GoesOn, Ends, GivesUp};
 ghost use Rattle.chip_fire.specs.WorkList.{AreTheLegal, IsStuck, WorksOff, legal_in_all};
 
-use crate::play::{Play, legal_vertices};
+use crate::play::Play;
 use crate::rounds::times_in;
 use crate::soon::visits_at_all;
 use crate::tuning::{PLACES_IN_CACHE, VERTICES_PER_PLACE, VISITS_OF_LISTED};
@@ -51,10 +51,9 @@ impl Play<'_> {
         let graph = self.game.graph();
         let vertices = graph.vertices();
         let few = vertices as usize / VERTICES_PER_PLACE;
-        if !are_few(graph, &self.chips, few) {
+        let Some(mut queue) = few_legal(alloc, graph, &self.chips, few)? else {
             return Ok(Listing::GivesUp);
-        }
-        let mut queue = legal_vertices(alloc, graph, &self.chips)?;
+        };
         let listed = queue.len();
         queue.resize(listed + 2 * few, 0)?;
         let of_turn = visits_of_turn(graph);
@@ -99,6 +98,47 @@ fn visits_of_turn(graph: &Graph) -> u64
         return at_each;
     }
     at_each.saturating_mul(VISITS_OF_LISTED).min(all)
+}
+
+/// The vertices that are legal, ascending; `None` if they are more than `few`, even if memory runs out.
+fn few_legal(
+    alloc: Global,
+    graph: &Graph,
+    chips: &[u64],
+    few: usize,
+) -> Result<Option<Vec<u64>>, AllocError>
+    requires { length chips.now ≡ graph.now.vertices }
+    ensures listed { IfOk result (λ found. MatchOption found (few < legal_in_all graph.now chips.now)
+        (λ legal. legal.items ≡ legal_vertices graph.now (slice_index chips.now))) }
+    ensures many { few < legal_in_all graph.now chips.now → result ≡ Ok None }
+{
+    match list_few(alloc, graph, chips, few) {
+        Err(_) if !are_few(graph, chips, few) => Ok(None),
+        found => found,
+    }
+}
+
+/// The vertices that are legal, ascending; `None` if they are more than `few`.
+fn list_few(
+    alloc: Global,
+    graph: &Graph,
+    chips: &[u64],
+    few: usize,
+) -> Result<Option<Vec<u64>>, AllocError>
+    requires { length chips.now ≡ graph.now.vertices }
+    ensures { IfOk result (λ found. MatchOption found (few < legal_in_all graph.now chips.now)
+        (λ legal. (length legal.items ≤ few) × (legal.items ≡ legal_vertices graph.now (slice_index chips.now)))) }
+{
+    let mut legal = Vec::new(alloc);
+    for vertex in 0..graph.vertices() {
+        if is_legal(graph, chips, vertex) {
+            if legal.len() == few {
+                return Ok(None);
+            }
+            legal.push(vertex)?;
+        }
+    }
+    Ok(Some(legal))
 }
 
 /// Whether at most `few` vertices are legal.

@@ -10,9 +10,9 @@ use Rattle.chip_fire.proofs.play.Play.work_off_few.Goals as goal
 pub work_off-worked-requires-clause-legal : goal.work_off-worked-requires-clause-legal
 work_off-worked-requires-clause-legal c =
     let play = c.self.inside in
-    let legal = rw (c.graph-graph.ensures.value, c.deref-2.ensures.value) at c.in_ok-queue.ensures in
-    let listed : c.len-listed.result ≡ length c.in_ok-queue.queue.items =
-    (let a = c.in_ok-queue.queue.ok.0 in let b = c.len-listed.ensures in omega arith) in
+    let legal = rw (c.in-Some.is, c.graph-graph.ensures.value, c.deref.ensures.value) at c.in_ok-queue.ensures.listed in
+    let listed : c.len-listed.result ≡ length c.in-Some.queue.items =
+    (let a = c.in-Some.queue.ok.0 in let b = c.len-listed.ensures in omega arith) in
     rw c.deref_mut-2.ensures.value (front_legal play.game.now.graph play.chips.items _ _
     (listed ∙ ap length legal)
     (let a = c.deref_mut.ensures.len in let b = c.in_ok-resize.ensures.len in omega arith)

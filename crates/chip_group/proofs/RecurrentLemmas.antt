@@ -3,9 +3,9 @@
 use Rattle.chip_group.proofs.Names.{◌≡◌, ◌↔◌, ℕ, zero, suc, ◌+◌, ◌-◌, ◌*◌, ◌<◌, ◌≤◌, cond, eqb, List, [], ◌∷◌}
 use Rattle.chip_group.proofs.Names.{refl, sym, ap, ◌∙◌, arith, mul-add, add-mul, mul_assoc, mul-le-mul_right}
 use Rattle.chip_group.proofs.Names.{nat_tests, dite, dec_lt, Multigraph, edge_at, degree, IsGraph, sum_below}
-use Rattle.chip_group.proofs.Names.{tested_ext, tested_add, tested_scale, sum_below_term, inflow, fired_once}
+use Rattle.chip_group.proofs.Names.{tested_ext, tested_scale, sum_below_term, inflow, fired_once}
 use Rattle.chip_group.proofs.Names.{position_after, counts, IsFiringSequence, HasEnded, IsLedTo, led_on, position_is}
-use Rattle.chip_group.proofs.Names.{counts_more, inflow_le, inflow_none, some_degree}
+use Rattle.chip_group.proofs.Names.{counts_more, inflow_le, inflow_none, inflow_add, some_degree}
 use Rattle.chip_group.proofs.Names.{EachNonSink, AgreeOffSink, IsStable, FiresTo, StabilizesTo, IsRecurrent, most_stable}
 use Rattle.chip_group.proofs.Names.{IsReachedFromMost, TakesAway, IsBurningScript, AreEquivalent, IsSuperstable}
 use Rattle.chip_group.proofs.Names.{IsStableSum, IsIdentity, twice_most, IsSandpileGroup}
@@ -13,11 +13,6 @@ use Rattle.chip_group.proofs.FiresToLemmas.{stable_below, agree, then_fires, the
 use Rattle.chip_group.proofs.FiresToLemmas.{some_end, one_end, one_odometer, joins, inflow_same, fires_all}
 
 module _ (G : Multigraph) where
-  pub inflow_add : (f h : ℕ → ℕ) (u : ℕ) → inflow G (λ v. f v + h v) u ≡ inflow G f u + inflow G h u
-  inflow_add f h u = tested_ext _ (λ e. eqb (edge_at G e).head u) _ _
-      (λ e l on. mul-add (edge_at G e).mult (f (edge_at G e).tail) (h (edge_at G e).tail))
-      ∙ tested_add _ (λ e. eqb (edge_at G e).head u) _ _
-
   inflow_times : (f : ℕ → ℕ) (k u : ℕ) → inflow G (λ v. f v * k) u ≡ inflow G f u * k
   inflow_times f k u = tested_ext _ (λ e. eqb (edge_at G e).head u) _ _
       (λ e l on. sym (mul_assoc (edge_at G e).mult (f (edge_at G e).tail) k))
@@ -173,7 +168,7 @@ module _ (G : Multigraph) where
     inflow_less f all few u = omega (
       arith,
       inflow_same G good (λ t. (all t - f t) + f t) all (λ t n ts. omega (arith, few t n ts)) u,
-      inflow_add (λ t. all t - f t) f u,
+      inflow_add G (λ t. all t - f t) f u,
     )
 
     -- the degrees of a difference of counts
@@ -337,7 +332,7 @@ module _ (G : Multigraph) where
               arith,
               same v l ns,
               by_counts G way v l ns,
-              inflow_add fired f v,
+              inflow_add G fired f v,
               mul-add (degree G v) (fired v) (f v),
             ),
           ) in
@@ -399,8 +394,8 @@ module _ (G : Multigraph) where
                   script.2 v l ns,
                   script.3 v l ns,
                   by_counts G sum.fires_to v l ns,
-                  inflow_add f fired v,
-                  inflow_add g h v,
+                  inflow_add G f fired v,
+                  inflow_add G g h v,
                   mul-add (degree G v) (f v) (fired v),
                   mul-add (degree G v) (g v) (h v),
                 ),

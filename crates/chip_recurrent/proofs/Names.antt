@@ -19,11 +19,12 @@ pub use Rattle.chip_sequence.specs.Sequence.{position_after, counts, IsFiringSeq
 pub use Rattle.chip_sequence.specs.declared.outcome.Outcome.{Outcome}
 pub use Rattle.chip_sequence.proofs.FiringLemmas.{inflow_none}
 pub use Rattle.chip_sequence.proofs.BoundLemmas.{some_degree}
+pub use Rattle.chip_sequence.proofs.CertificateLemmas.{inflow_add}
 pub use Rattle.chip_sequence.proofs.LegalLemmas.{legal_vertices_law}
 pub use Rattle.chip_group.specs.Recurrent.{EachNonSink, AgreeOffSink, FiresTo, StabilizesTo, IsRecurrent, most_stable}
 pub use Rattle.chip_group.specs.Recurrent.{TakesAway, IsBurningScript, AreEquivalent, IsSuperstable, IsStableSum}
 pub use Rattle.chip_group.specs.Recurrent.{IsIdentity, twice_most}
 pub use Rattle.chip_group.proofs.FiresToLemmas.{stable_below, agree, then_fires, then_counts, from, by_counts, one_end}
 pub use Rattle.chip_group.proofs.FiresToLemmas.{inflow_same}
-pub use Rattle.chip_group.proofs.RecurrentLemmas.{inflow_add, most_fired, neutral, burning_test, duality, large_script}
+pub use Rattle.chip_group.proofs.RecurrentLemmas.{most_fired, neutral, burning_test, duality, large_script}
 pub use Rattle.chip_group.proofs.RecurrentLemmas.{recurrent_sum, one_recurrent}

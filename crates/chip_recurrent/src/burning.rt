@@ -10,6 +10,7 @@ ghost use Rattle.chip_recurrent.specs.Burning.{burning_start, IsBurning};
 use crate::fault::RowFault;
 use crate::stabilization::stabilize_on;
 use chip_graph::Graph;
+use chip_sequence::in_degree;
 use std::alloc::{AllocError, Global};
 
 /// The least burning script of a graph and its chips.
@@ -80,17 +81,4 @@ fn burning_chips(alloc: Global, graph: &Graph, ends: &[u64]) -> Result<Vec<u64>,
         chips.push(graph.out_degree(vertex).saturating_sub(left))?;
     }
     Ok(chips)
-}
-
-/// The number of chips that come into a vertex if each tail fires once.
-fn in_degree(graph: &Graph, vertex: u64) -> u64
-    requires { vertex < graph.now.vertices }
-    ensures { result ≡ in_degree graph.now vertex }
-{
-    let edges = graph.edges();
-    let mut all = 0u64;
-    for e in graph.ins(vertex) {
-        all += edges[*e as usize].mult;
-    }
-    all
 }

@@ -4,7 +4,7 @@ use Rattle.chip_sequence.proofs.Names.{◌≡◌, ◌≢◌, ℕ, zero, suc, ◌
 use Rattle.chip_sequence.proofs.Names.{refl, sym, ap, ◌∙◌, arith, eq-eqb, mul-le-mul, mul-le-mul_left, mul-le-mul_right}
 use Rattle.chip_sequence.proofs.Names.{◌^◌, nat_tests, dite, ℕ_discrete, dec_lt, dec_le, sum_below, Multigraph, edge_at}
 use Rattle.chip_sequence.proofs.Names.{degree, IsWalk, IsGraph, sum_below_ext, sum_below_term, tested_ext, tested_scale}
-use Rattle.chip_sequence.proofs.Names.{tested_term, IsLegal, position_after, IsFiringSequence, counts, HasEnded}
+use Rattle.chip_sequence.proofs.Names.{tested_term, position_after, IsFiringSequence, counts, HasEnded}
 use Rattle.chip_sequence.proofs.Names.{IsWholePlay, inflow, greatest_below, firing_bound}
 use Rattle.std.proofs.Common.{max, eqb-true}
 use Rattle.chip_graph.specs.Multigraph.{sum_out, IsDistance}
@@ -26,6 +26,14 @@ bound_more total most zero j l = omega arith
 bound_more total most (suc i) zero l = absurd (omega arith)
 bound_more total most (suc i) (suc j) l =
     omega (arith, mul-le-mul_left most (bound_more total most i j (omega arith)))
+
+-- no vertex is stopped by a limit that is not below what bounds all firings: one still legal has fired less often
+pub enough_above : (G : Multigraph) (x : ℕ → ℕ) (top : ℕ)
+    → ((vs : List ℕ) → IsFiringSequence G x vs → (v : ℕ) → v < G.vertices → counts vs v ≤ top)
+    → (limit : ℕ) → top ≤ limit → (vs : List ℕ) → IsWholePlay G x limit vs → HasEnded G x vs
+enough_above G x top bound limit low vs play v can =
+    let once = bound (vs ++ v ∷ []) (sequence-append G vs (v ∷ []) x play.sequence (can, tt)) v can.is_vertex in
+    absurd (omega (arith, counts-append vs (v ∷ []) v, counts_here v v [] refl, play.ended v can))
 
 module _ (G : Multigraph) (good : IsGraph G) where
   -- ---- no chip is lost
@@ -96,16 +104,8 @@ module _ (G : Multigraph) (good : IsGraph G) where
         omega (arith, bound_of_walk x vs ok way.0 v way.1))
         (λ nl. omega (arith, counts_outside G vs x v ok (omega arith)))
 
-    -- a legal vertex has fired less often
-    pub legal_below_top : (vs : List ℕ) → IsFiringSequence G x vs → (v : ℕ) → IsLegal G (position_after G x vs) v
-        → counts vs v < top
-    legal_below_top vs ok v can =
-        let a = below_top (vs ++ v ∷ []) (sequence-append G vs (v ∷ []) x ok (can, tt)) v in
-        omega (arith, counts-append vs (v ∷ []) v, counts_here v v [] refl)
-
     pub enough_law : (limit : ℕ) → top ≤ limit → (vs : List ℕ) → IsWholePlay G x limit vs → HasEnded G x vs
-    enough_law limit low vs play v can =
-        absurd (omega (arith, legal_below_top vs play.sequence v can, play.ended v can))
+    enough_law = enough_above G x top (λ vs ok v l. below_top vs ok v)
 
   -- some number of edges that is at least every vertex's distance
   some_distance : (n : ℕ) → n ≤ G.vertices → (distance : ℕ)

@@ -1,10 +1,10 @@
 -- Serves Laws.antt, Bound.antt.
 -- With c chips in all, the count of an edge's tail exceeds that of its head by at most c, so that of a vertex is at
 -- most c times its distance.
-use Rattle.chip_sequence.proofs.Names.{◌≡◌, ◌≢◌, ℕ, ◌+◌, ◌-◌, ◌*◌, ◌<◌, ◌≤◌, Bool, cond, eqb, List, [], ◌∷◌, ◌++◌}
+use Rattle.chip_sequence.proofs.Names.{◌≡◌, ◌≢◌, ℕ, ◌+◌, ◌-◌, ◌*◌, ◌<◌, ◌≤◌, Bool, cond, eqb, List, [], ◌∷◌}
 use Rattle.chip_sequence.proofs.Names.{refl, sym, ap, arith, eq-eqb, mul-le-mul_left, mul-le-mul_right, dite, dec_lt}
 use Rattle.chip_sequence.proofs.Names.{ℕ_discrete, Multigraph, edge_at, degree, IsWalk, IsGraph, sum_below, cond_yes}
-use Rattle.chip_sequence.proofs.Names.{tested_le, tested_add, tested_scale, tested_term, inflow, counts}
+use Rattle.chip_sequence.proofs.Names.{tested_scale, tested_term, inflow, counts}
 use Rattle.chip_sequence.proofs.Names.{IsFiringSequence, length}
 use Rattle.chip_sequence.proofs.Names.{true, false, ltb, not, ◌&&◌, picked_has}
 use Rattle.std.proofs.Common.{mul-add, add-mul, eqb-true, lt-ltb}
@@ -13,26 +13,20 @@ use Rattle.chip_graph.specs.Multigraph.{IsDistance}
 use Rattle.chip_graph.proofs.SumLemmas.{cond_no, sum_below_add, sum_below_le, sum_below_one}
 use Rattle.chip_sequence.specs.Certificate.{in_degree, HasFewIn}
 use Rattle.chip_sequence.specs.Laws.{EnoughByDistance}
-use Rattle.chip_sequence.proofs.FiringLemmas.{position_is, sink_never, sequence-append, counts-append, counts_here}
-use Rattle.chip_sequence.proofs.BoundLemmas.{flows_through, bound_of_walk, bound_more}
+use Rattle.chip_sequence.proofs.CertificateLemmas.{inflow_add}
+use Rattle.chip_sequence.proofs.FiringLemmas.{inflow_le, position_is, sink_never}
+use Rattle.chip_sequence.proofs.BoundLemmas.{flows_through, bound_of_walk, bound_more, enough_above}
 use Rattle.chip_sequence.specs.Bound.{has_few_in, fires_at_distance, greatest_degree, IsGreatestDistance}
 
 module _ (G : Multigraph) where
   -- what flows in by f is at most what flows in by the firings above t, and the in-degree for each of t firings
   inflow_above : (f : ℕ → ℕ) (t u : ℕ) → inflow G f u ≤ inflow G (λ v. f v - t) u + in_degree G u * t
-  inflow_above f t u =
-      let n : ℕ = length G.edges in
-      let test : ℕ → Bool = λ e. eqb (edge_at G e).head u in
-      let mine : ℕ → ℕ = λ e. (edge_at G e).mult * f (edge_at G e).tail in
-      let above : ℕ → ℕ = λ e. (edge_at G e).mult * (f (edge_at G e).tail - t) in
-      let level : ℕ → ℕ = λ e. (edge_at G e).mult * t in
-      let a = tested_le n test mine (λ e. above e + level e) (λ e l on.
-      let low : f (edge_at G e).tail ≤ (f (edge_at G e).tail - t) + t = omega arith in
-      let b = mul-le-mul_left (edge_at G e).mult low in
-      omega (arith, mul-add (edge_at G e).mult (f (edge_at G e).tail - t) t)) in
-      let b = tested_add n test above level in
-      let c = tested_scale n test t (λ e. (edge_at G e).mult) in
-      omega arith
+  inflow_above f t u = omega (
+    arith,
+    inflow_le G f (λ v. (f v - t) + t) (λ v. omega arith) u,
+    inflow_add G (λ v. f v - t) (λ v. t) u,
+    tested_scale (length G.edges) (λ e. eqb (edge_at G e).head u) t (λ e. (edge_at G e).mult),
+  )
 
 module _ (G : Multigraph) (good : IsGraph G) (few_in : HasFewIn G) (x : ℕ → ℕ) (vs : List ℕ)
     (ok : IsFiringSequence G x vs) where
@@ -92,14 +86,12 @@ module _ (G : Multigraph) (good : IsGraph G) (few_in : HasFewIn G) (x : ℕ → 
   pub few_firings : (v distance : ℕ) → IsDistance G v distance → counts vs v ≤ sum_below G.vertices x * distance
   few_firings v distance is = let way = is.reached in rw (← way.2) (along_walk way.0 v way.1)
 
--- a vertex still legal at the end has fired less often than that
+-- so a limit of that many firings stops no vertex
 pub enough_by_distance : EnoughByDistance
-enough_by_distance G x good few distance limit far low vs play v can =
-    let ok = sequence-append G vs (v ∷ []) x play.sequence (can, tt) in
-    let way = far.greatest v can.is_vertex in
-    let once = along_walk G good few x (vs ++ v ∷ []) ok way.0 v way.1 in
-    let near = mul-le-mul_left (sum_below G.vertices x) way.2 in
-    absurd (omega (arith, counts-append vs (v ∷ []) v, counts_here v v [] refl, play.ended v can))
+enough_by_distance G x good few distance limit far = enough_above G x (sum_below G.vertices x * distance)
+    (λ vs ok v l.
+    let way = far.greatest v l in
+    omega (arith, along_walk G good few x vs ok way.0 v way.1, mul-le-mul_left (sum_below G.vertices x) way.2)) limit
 
 -- ---- the bound of any graph
 

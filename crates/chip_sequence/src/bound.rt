@@ -54,8 +54,9 @@ fn has_few_in(graph: &Graph) -> bool
     true
 }
 
-/// The in-degree of a vertex.
-fn in_degree(graph: &Graph, vertex: u64) -> u64
+/// The in-degree of a vertex: that many chips come into it if each tail fires once (Björner and Lovász, Chip-firing
+/// games on directed graphs, 1992).
+pub fn in_degree(graph: &Graph, vertex: u64) -> u64
     requires { vertex < graph.now.vertices }
     ensures { result ≡ in_degree graph.now vertex }
 {

@@ -4,7 +4,7 @@
 //! reach. A player proves its outcome from them, for every order and initial guess.
 #![tactic(auto)]
 
-pub use bound::{enough, enough_by_distance};
+pub use bound::{enough, enough_by_distance, in_degree};
 pub use counted::{AfterFault, after, after_from, after_into};
 pub use firing::{NotLegal, fire, fire_batch};
 pub use outcome::Outcome;

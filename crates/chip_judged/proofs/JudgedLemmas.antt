@@ -59,7 +59,7 @@ abbrev last_tells : Bool → List Step → Bool
 last_tells was [] = was
 last_tells was (step ∷ steps) = last_tells (tells step) steps
 
--- steps in two parts are read one part after the other
+-- steps in two processes are read one process after the other
 last_tells-append : (was : Bool) (xs ys : List Step) → last_tells was (xs ++ ys) ≡ last_tells (last_tells was xs) ys
 last_tells-append was [] ys = refl
 last_tells-append was (x ∷ xs) ys = last_tells-append (tells x) xs ys
@@ -80,7 +80,7 @@ active_after-replicate b zero step same = refl
 active_after-replicate b (suc n) step same =
     rw (active_after-append b (step ∷ []) (replicate n step), same) (active_after-replicate b n step same)
 
--- steps begin as their first part does, if none of the second begins active
+-- steps begin as their first process does, if none of the second begins active
 begins-append : (xs ys : List Step) → count_steps (λ y. begins_active (y ∷ [])) ys ≡ 0 → begins_active (xs ++ ys) ≡ begins_active xs
 begins-append xs ys none = grind (arith, nat_tests)
 
@@ -95,7 +95,7 @@ claim p = log_row p Over
 
 -- ---- what the rows show
 
--- the steps of a part have the counts of an edge in its books
+-- the steps of a process have the counts of an edge in its books
 record Counted (steps : List Step) (b : Books) (e : ℕ) : Type 0 where
   sent : sends (basic e) steps ≡ sent_of b e
   got : gets (basic e) steps ≡ got_of b e
@@ -105,7 +105,7 @@ record Counted (steps : List Step) (b : Books) (e : ℕ) : Type 0 where
 module _ (net : Network) (is : IsNetwork net) (log : Log) (last : World) (legal : IsLegalLog net log last)
     (closed : HasClosedRoot net last) (rows : List LogRow)
     (same : (p : ℕ) → steps_of p rows ≡ steps_of p (rows_of_run net log last legal)) where
-  -- the steps of a part show its state, after n claims of the root. A part that is not engaged has told last
+  -- the steps of a process show its state, after n claims of the root. A process that is not engaged has told last
   record Shows (n p : ℕ) (steps : List Step) (s : PartState) : Type 0 where
     counts : (e : ℕ) → Counted steps s.books e
     begins : begins_active steps ≡ not (legal.first p).passive
@@ -113,7 +113,7 @@ module _ (net : Network) (is : IsNetwork net) (log : Log) (last : World) (legal 
     told : (p ≡ net.root → n ≡ 1) → s.books.parent ≡ None → last_tells true steps ≡ true
     claims : count_steps is_over steps ≡ (if p == net.root then n else 0)
 
-  -- and so do these rows, of each part
+  -- and so do these rows, of each process
   record Show (n : ℕ) (xs : List LogRow) (w : World) : Type 0 where
     kept : IsKept net w
     shows : (p : ℕ) → p < net.parts → Shows n p (steps_of p xs) (w p)
@@ -133,12 +133,12 @@ module _ (net : Network) (is : IsNetwork net) (log : Log) (last : World) (legal 
     counted (Work p) steps notes e c = search (rules, arith, nat_tests, count-append, count-replicate)
     counted _ steps notes e c = search (rules, arith, nat_tests, count-append, count-replicate)
 
-    -- what an event logs says whether its part is active then
+    -- what an event logs says whether its process is active then
     active_then : (x : Event) → Happens net old x new
         → active_after (not (old (process_of net x)).passive) (steps_by net old x new) ≡ not (new (process_of net x)).passive
     active_then x step = grind (arith, nat_tests, active_after-append, active_after-replicate, step.wakes)
 
-    -- a part that the event leaves not engaged was passive, and told last
+    -- a process that the event leaves not engaged was passive, and told last
     told_then : (x : Event) → Happens net old x new → process_of net x ≢ net.root → (new (process_of net x)).books.parent ≡ None
         → (before : Bool) → ((old (process_of net x)).books.parent ≡ None → before ≡ true) → last_tells before (steps_by net old x new) ≡ true
     told_then (Ack e n) step other free before told =
@@ -156,7 +156,7 @@ module _ (net : Network) (is : IsNetwork net) (log : Log) (last : World) (legal 
     told_then x step other free before told = let p = process_of net x in
         grind (arith, nat_tests, kept.neutral p (who_inside net is old x step.may) other, cases_option (old p).books.parent)
 
-    -- the steps of the part of an event show its state then
+    -- the steps of the process of an event show its state then
     shows_then : (x : Event) → Happens net old x new → (steps : List Step) → Shows 0 (process_of net x) steps (old (process_of net x))
         → Shows 0 (process_of net x) (steps ++ steps_by net old x new) (new (process_of net x))
     shows_then x step steps s = record {
@@ -170,7 +170,7 @@ module _ (net : Network) (is : IsNetwork net) (log : Log) (last : World) (legal 
 
   -- ---- all events
 
-  -- the row that the root begins active, if it does, shows how each part opens
+  -- the row that the root begins active, if it does, shows how each process opens
   opens : (p : ℕ) → p < net.parts
       → Shows 0 p (if net.root == p then (if (legal.first net.root).passive then [] else Active ∷ []) else []) (legal.first p)
   opens p l = let o = legal.opens p l in search (rules, arith, nat_tests, o.fresh.ins.messages, o.passive)
@@ -228,7 +228,7 @@ module _ (net : Network) (is : IsNetwork net) (log : Log) (last : World) (legal 
       (absent_or_at ts e)
 
   module _ {n : ℕ} {xs : List LogRow} {w : World} (show : Show n xs w) where
-    -- a part moves no message of a stream that does not exist, or at whose end it is not
+    -- a process moves no message of a stream that does not exist, or at whose end it is not
     none_at : (d : Bool) (c : ℕ) (b : Bool) (p : ℕ) → p < net.parts
         → ((c < net.edges) × (end_of d (record { channel = c; is_control = b }) ≡ p) → ⊥)
         → count_steps (moves d (record { channel = c; is_control = b })) (steps_of p xs) ≡ 0
@@ -243,7 +243,7 @@ module _ (net : Network) (is : IsNetwork net) (log : Log) (last : World) (legal 
     none_else d s p not = dite (dec_lt p net.parts) (λ l. none_at d s.channel s.is_control p l not)
         (λ no. rw (show.outside p (omega arith)) refl)
 
-    -- the part at an end of a stream alone has its steps
+    -- the process at an end of a stream alone has its steps
     total : (d : Bool) (s : Stream) → count_rows (moves d s) xs ≡ count_steps (moves d s) (steps_of (end_of d s) xs)
     total d s = all_own (moves d s) (end_of d s) xs (λ p other. none_else d s p (λ z. other (sym z.1)))
 
@@ -258,7 +258,7 @@ module _ (net : Network) (is : IsNetwork net) (log : Log) (last : World) (legal 
         let h = (show.shows (net.head e) (is.heads e l)).counts e in
         (total true (basic e) ∙ t.sent, total false (basic e) ∙ h.got, total true (control e) ∙ h.acked, total false (control e) ∙ t.settled)
 
-  -- rows of parts and edges are within the sizes of the network
+  -- rows of processes and edges are within the sizes of the network
   fits : (xs : List LogRow) → ((p : ℕ) → net.parts ≤ p → steps_of p xs ≡ [])
       → ((d : Bool) (s : Stream) → net.edges ≤ s.channel → count_rows (moves d s) xs ≡ 0) → Fits (network_sizes net) xs
   fits [] outside none = All-nil (FitsRow (network_sizes net))
@@ -350,7 +350,7 @@ module _ (net : Network) (is : IsNetwork net) (log : Log) (last : World) (legal 
       let a = met_le s rows [] pre (are_met_first rows [] pre (y ∷ []) any.met) in
       grind (arith, nat_tests, rows-append, same_self, got_all any s)
 
-  -- the last row is the claim, since its part has told last
+  -- the last row is the claim, since its process has told last
   last_over : (pre : List LogRow) (y : LogRow) → IsInterleaving rows (pre ++ y ∷ []) → y.step ≡ Over
   last_over pre y any = let p = y.process in let push = steps_push p pre y refl in let show = show_any any in
       let told = λ (l : p < net.parts). (show.shows p l).told (λ z. refl) (no_parents net is log last legal closed p l) in

@@ -14,11 +14,11 @@ use Rattle.chip_log.specs.declared.judged.LogEnd.TheVariants as end
 use Rattle.chip_log.specs.declared.verdict.Verdict.TheVariants as verdict
 use Rattle.chip_judged.specs.Rows.{rows_of_run}
 
--- a process for each part, and a channel for each edge
+-- the processes and the channels of a log: a channel is an edge
 abbrev pub network_sizes : Network → Sizes
 network_sizes net = record { processes = net.parts; channels = net.edges }
 
--- what holds of every legal log whose root is closed, and every order that keeps each part's rows in their order
+-- what holds of every legal log whose root is closed, and every order that keeps each process's rows in their order
 abbrev pub ForEveryOrder : (Network → List LogRow → Type 0) → Type 0
 ForEveryOrder P = (net : Network) → IsNetwork net → (log : Log) (w : World) (legal : IsLegalLog net log w)
     → HasClosedRoot net w → (rows : List LogRow) → ((p : ℕ) → steps_of p rows ≡ steps_of p (rows_of_run net log w legal))

@@ -10,7 +10,7 @@ pub fn worked()
 {}
 
 /// The rows of a legal log whose root is closed are a well-formed log of the judge, and in some order each row is
-/// enabled. For every order of the rows of different parts, each claim in them is right.
+/// enabled. For every order of the rows of different processes, each claim in them is right.
 pub fn every_log_is_judged_right()
     ensures { EveryLogIsJudgedRight }
 {}

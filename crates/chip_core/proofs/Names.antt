@@ -82,7 +82,7 @@ pub use Rattle.chip_part.specs.declared.cause.Cause.{Cause}
 pub use Rattle.chip_part.specs.declared.cause.Cause.TheVariants.{SealedEdge, FiringLimit}
 pub use Rattle.chip_part.specs.declared.reply.Reply.TheVariants.{Got, Sent, Empty, Sealed, NotNow}
 pub use Rattle.chip_core.specs.Closing.{HasEnd, is_new_look, Advances, AsksFor, AsksForEverything, RootHasPut, HasTurn}
-pub use Rattle.chip_core.specs.Closing.{HasRound, StirsNothing, NothingIsTold, HasStretches, HasRounds}
+pub use Rattle.chip_core.specs.Closing.{HasRound, StirsNothing, IsIdleBetween, HasStretches, HasRounds}
 pub use Rattle.chip_core.specs.Core.{Log, Step, Event, Part, Take, Ack, Fire, Clear, Claim, Put, Halt, Settle, Seal}
 pub use Rattle.chip_core.specs.Core.{Read, Feed, End, part_of, does, part_in, out_in, into_in, IsLegalLog, outstanding_on}
 pub use Rattle.chip_core.specs.Core.{tail_of, head_of, root, all_edges, graph_edges, Rule, unmet_rule, sees}

@@ -10,7 +10,7 @@ use Rattle.chip_core.proofs.Names.{stopper, all_edges, Event, Clear, Claim, Put,
 use Rattle.chip_core.proofs.Names.{graph_edges, unmet_rule, Take, Ack, Fire, Halt, Settle, acting_part}
 use Rattle.chip_core.proofs.Names.{events_in, chips_given, fed_of, work_in, refusals_in, is_refusal}
 use Rattle.chip_core.proofs.Names.{steps_at_most, fed_so_far, AreFiringBounds, StirsNothing, HasEnd, AsksForEverything}
-use Rattle.chip_core.proofs.Names.{NothingIsTold, HasStretches, RootHasPut, HasRound, HasRounds, dite}
+use Rattle.chip_core.proofs.Names.{IsIdleBetween, HasStretches, RootHasPut, HasRound, HasRounds, dite}
 use Rattle.chip_core.proofs.Names.{ℕ_discrete, Met, saw, link_after, tail_root, rules_met}
 use Rattle.chip_core.proofs.Names.{contains_cases}
 use Rattle.chip_core.proofs.LogLemmas.{link_step, head_inside, tail_cases, legal_before, in_pieces, end_stays, met_here}
@@ -251,7 +251,7 @@ module _ (g : Setting) (game : IsGame g.game) (some_ring : 0 < g.ring) where
 
   -- a round in which nothing counts closes the root, and then of these only takes and settles are enabled
   module _ (before xs : Log) (round : HasRound g before xs) (legal : IsLegalLog g (xs ++ before)) (end : HasEnd g (xs ++ before))
-      (put : RootHasPut g (xs ++ before)) (told : NothingIsTold g before (log_after g before (events_in xs))) where
+      (put : RootHasPut g (xs ++ before)) (told : IsIdleBetween g before (log_after g before (events_in xs))) where
     abbrev now : Log
     now = xs ++ before
 

@@ -19,7 +19,7 @@ use Rattle.chip_core.proofs.OrderLemmas.{silent_there, closed_here}
 use Rattle.chip_diffusing.specs.Computation as diffusing
 use Rattle.chip_diffusing.specs.Ending as rounds
 use Rattle.chip_diffusing.proofs.KeptLemmas.{legal_kept}
-use Rattle.chip_diffusing.proofs.SilentLemmas.{leads_on}
+use Rattle.chip_diffusing.proofs.QuiescentLemmas.{leads_on}
 use Rattle.chip_diffusing.proofs.DepthLemmas as theorem
 
 no_messages : (e place : ℕ) (counts : List ℕ) → messages_from e place counts ≡ [] → length counts ≡ 0

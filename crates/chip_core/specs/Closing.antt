@@ -57,13 +57,13 @@ pub record AsksForEverything (g : Setting) (log : Log) (xs : List Event) : Type 
       × AsksFor g log front (Clear e) × AsksFor g (log_after g log front) back (Claim e)
 
 -- nothing counts and no claim is refused between these logs
-abbrev pub NothingIsTold : Setting → Log → Log → Type 0
-NothingIsTold g log after = work_in g after + refusals_in g after ≡ work_in g log + refusals_in g log
+abbrev pub IsIdleBetween : Setting → Log → Log → Type 0
+IsIdleBetween g log after = work_in g after + refusals_in g after ≡ work_in g log + refusals_in g log
 
 -- if such a list is tried, something counts or a claim is refused, or the root is closed after it
-abbrev pub AskedInVain : Type 0
-AskedInVain = ForEveryLog (λ g log. (xs : List Event) → AsksForEverything g log xs → HasEnd g (log_after g log xs)
-    → NothingIsTold g log (log_after g log xs) → IsClosed g (log_after g log xs))
+abbrev pub IdleAttemptsClose : Type 0
+IdleAttemptsClose = ForEveryLog (λ g log. (xs : List Event) → AsksForEverything g log xs → HasEnd g (log_after g log xs)
+    → IsIdleBetween g log (log_after g log xs) → IsClosed g (log_after g log xs))
 
 -- ---- rounds of whole turns
 
@@ -95,7 +95,7 @@ IdleRoundsClose = ForEveryLog (λ g before. (xs : Log) → HasRound g before xs 
 
 -- in these events a step counts, a claim is refused, or everything is tried
 abbrev pub IsStretch : Setting → Log → List Event → Type 0
-IsStretch g log xs = NothingIsTold g log (log_after g log xs) → AsksForEverything g log xs
+IsStretch g log xs = IsIdleBetween g log (log_after g log xs) → AsksForEverything g log xs
 
 -- n stretches, in order, with any events before, between and after them
 abbrev pub HasStretches : Setting → ℕ → Log → List Event → Type 0

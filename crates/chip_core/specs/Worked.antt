@@ -154,8 +154,8 @@ FedOnce =
     × (on_vertices (full_position g after) ≡ 3 ∷ 0 ∷ 0 ∷ [])
 
 -- refused events: a feed of nothing, one to a cell not seen empty, one past the range of chips, and any after the end
-abbrev pub FedInVain : Type 0
-FedInVain =
+abbrev pub RefusedFeeds : Type 0
+RefusedFeeds =
     let g : Setting = fed_triangle (0 ∷ 0 ∷ 2 ^ 40 ∷ []) in
     replies_to g [] (Feed 4 0 ∷ Clear 4 ∷ Feed 4 1 ∷ End ∷ Clear 4 ∷ Feed 4 1 ∷ [])
     ≡ NotNow Zero ∷ Done 0 ∷ NotNow TooMuch ∷ Done 0 ∷ NotNow Ended ∷ NotNow Ended ∷ []

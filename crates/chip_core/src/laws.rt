@@ -4,7 +4,7 @@
 
 ghost use Rattle.chip_core.specs.Worked.{ChipsOnTheSink, FullRing, CoreSealedHalfWay, EngagingMessageLast, CoreRingOfTwo};
 ghost use Rattle.chip_core.specs.Worked.{TwoEngaged, WholeSchedule, StoppedByLimit, StoppedBySeal};
-ghost use Rattle.chip_core.specs.Worked.{FedOnce, FedInVain, FedUncleared, ClosedByTheEnd};
+ghost use Rattle.chip_core.specs.Worked.{FedOnce, RefusedFeeds, FedUncleared, ClosedByTheEnd};
 ghost use Rattle.chip_core.specs.Outcomes.{OutcomesTell};
 ghost use Rattle.chip_core.specs.Laws.{LegalLogsAreRuns, PartsByTheirOwnEvents, PartsAreKept, SeenFits, CountsOfEdges};
 ghost use Rattle.chip_core.specs.Laws.{RootSeenFits};
@@ -18,7 +18,7 @@ ghost use Rattle.chip_core.specs.Reached.{ReachedByLegalLogs};
 ghost use Rattle.chip_core.specs.Headline.{CoreTheorem};
 ghost use Rattle.chip_core.specs.Instance.{CoreDiffuses};
 ghost use Rattle.chip_core.specs.Work.{FewSteps, DistancesBound, FewRefusals};
-ghost use Rattle.chip_core.specs.Closing.{CoreNeverStuck, AskedInVain, IdleRoundsClose};
+ghost use Rattle.chip_core.specs.Closing.{CoreNeverStuck, IdleAttemptsClose, IdleRoundsClose};
 ghost use Rattle.chip_core.specs.Closing.{FairSchedulesClose, RoundsAreStretches, FairRoundsClose, NothingStirs};
 ghost use Rattle.chip_core.specs.Wasting.{CoreNoWasteCloses};
 ghost use Rattle.chip_core.specs.Playing.{UnsealedHaltsNone, FairSchedulesPlay, FairRoundsPlay};
@@ -40,7 +40,7 @@ pub fn worked_runs()
 /// Small runs in which the root feeds, as the definitions compute them.
 pub fn worked_feeding()
     ensures once { FedOnce }
-    ensures in_vain { FedInVain }
+    ensures refused { RefusedFeeds }
     ensures uncleared { FedUncleared }
     ensures closed_by_the_end { ClosedByTheEnd }
 {}
@@ -164,7 +164,7 @@ pub fn few_steps_count()
 /// work or is refused, the root is closed.
 pub fn never_stuck()
     ensures advances { CoreNeverStuck }
-    ensures in_vain { AskedInVain }
+    ensures idle { IdleAttemptsClose }
     ensures rounds { IdleRoundsClose }
 {}
 

@@ -6,7 +6,8 @@ use Rattle.chip_crew.proofs.Names.{inr, nat_tests, All-tail, All-head, All-push,
 use Rattle.chip_crew.proofs.Names.{root_edge, graph_edges, all_edges, tail_of, root, Part, deficit_of}
 use Rattle.chip_crew.proofs.Names.{outstanding_on, Clear, Setting, does, saw, Step, Event, Settle, End, opening_part}
 use Rattle.chip_crew.proofs.Names.{part_by, fed_of, fed_in, part_append, RootKnown, root_part, root_after, has_ended}
-use Rattle.chip_crew.proofs.Names.{fed_by, FeedsChips, LooksInVain, feed_steps, settles_from, IsPolling, Ends, IsRootOver}
+use Rattle.chip_crew.proofs.Names.{fed_by, FeedsChips, ReadsFullCell, feed_steps, settles_from, IsPolling, Ends}
+use Rattle.chip_crew.proofs.Names.{IsRootOver}
 use Rattle.chip_crew.proofs.Names.{root_deficit, RootState, Left, pairs, MayFeed, MayFeedLeft, FeedsNext}
 use Rattle.chip_crew.proofs.Names.{EndsAfter, FeedsOnce, PollsIf, IsLed, events_of}
 
@@ -76,7 +77,7 @@ poll_adds old new n polling =
     adds_steps old new polling.steps [] (has_ended old) polling.record_is leaves.1 leaves.0
 
 -- nor does an idle look
-look_adds : (old new : RootKnown) (v : ℕ) → LooksInVain old new v → Adds old new [] (has_ended old)
+look_adds : (old new : RootKnown) (v : ℕ) → ReadsFullCell old new v → Adds old new [] (has_ended old)
 look_adds old new v looks = adds_steps old new (saw (Clear (root_edge old.net.setting v)) looks.seen ∷ []) []
     (has_ended old) looks.record_is refl refl
 

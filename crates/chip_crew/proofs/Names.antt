@@ -60,7 +60,7 @@ pub use Rattle.chip_core.specs.Positions.{fed_of, fed_in}
 pub use Rattle.chip_net.proofs.CrossingLemmas.{actor_send, net_crosses}
 pub use Rattle.chip_net.proofs.FinishingLemmas.{one_run}
 pub use Rattle.chip_net.proofs.ViewingLemmas.{part_append}
-pub use Rattle.chip_net.specs.Roots.{RootKnown, root_part, root_after, has_ended, fed_by, FeedsChips, LooksInVain}
+pub use Rattle.chip_net.specs.Roots.{RootKnown, root_part, root_after, has_ended, fed_by, FeedsChips, ReadsFullCell}
 pub use Rattle.chip_net.specs.Roots.{feed_steps, settles_from, IsPolling, Ends, new_root, IsRootOver, StopperKnown}
 pub use Rattle.chip_net.specs.Roots.{root_deficit, new_stopper}
 pub use Rattle.chip_net.specs.Tokens.{ActorKnown, MakesTurn, NetId, newcomer, part_known}

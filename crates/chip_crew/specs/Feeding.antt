@@ -3,7 +3,7 @@ use Rattle.std.specs.Prelude.{◌≡◌, ◌⊎◌, ℕ, zero, suc, ◌+◌, ◌
 use Rattle.std.specs.Prelude.{Option, Some, None}
 use Rattle.chip_graph.specs.Limits.{max_total}
 use Rattle.chip_graph.specs.More.{all_brought}
-use Rattle.chip_net.specs.Roots.{RootKnown, has_ended, all_given, FeedsChips, LooksInVain, Ends, IsPolling}
+use Rattle.chip_net.specs.Roots.{RootKnown, has_ended, all_given, FeedsChips, ReadsFullCell, Ends, IsPolling}
 use Rattle.chip_net.specs.declared.poll.RootState.{RootState}
 
 -- the feeds left before the end is noted, a vertex and its chips each; none if the end is noted
@@ -31,7 +31,7 @@ MayFeedLeft root (Some left) = MayFeed root left
 abbrev pub FeedsNext : List (ℕ × ℕ) → List (ℕ × ℕ) → RootKnown → RootKnown → Type 0
 FeedsNext [] left old new = (left ≡ []) × (new ≡ old)
 FeedsNext (pair ∷ rest) left old new = ((left ≡ rest) × ((place : ℕ) × FeedsChips old new pair.0 pair.1 place))
-    ⊎ ((left ≡ pair ∷ rest) × LooksInVain old new pair.0)
+    ⊎ ((left ≡ pair ∷ rest) × ReadsFullCell old new pair.0)
 
 -- if nothing is left, the end is noted
 abbrev pub EndsAfter : List (ℕ × ℕ) → Left → RootKnown → RootKnown → Type 0

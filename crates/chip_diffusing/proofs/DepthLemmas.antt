@@ -13,7 +13,7 @@ use Rattle.chip_diffusing.specs.Computation.{settled_on}
 use Rattle.chip_diffusing.specs.Ending.{IsEngagementTree, Goes, HasMoment, HasMomentRound, HasMomentRounds}
 use Rattle.chip_diffusing.specs.Laws.{DepthCloses, DepthIsCounted}
 use Rattle.chip_diffusing.proofs.KeptLemmas.{IsKept, legal_kept, sum_none}
-use Rattle.chip_diffusing.proofs.SilentLemmas.{IsLater, later, then_later}
+use Rattle.chip_diffusing.proofs.QuiescentLemmas.{IsLater, later, then_later}
 use Rattle.chip_diffusing.proofs.OrderLemmas.{owes_on}
 use Rattle.chip_detect.proofs.ListLemmas.{place_in, few_places, none_some, cases_option, contained, contains_first}
 use Rattle.chip_detect.proofs.ListLemmas.{contains_later, contains_cases, contains_nothing}

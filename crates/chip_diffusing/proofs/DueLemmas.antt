@@ -17,7 +17,7 @@ use Rattle.chip_diffusing.proofs.EdgesLemmas.{counted, less_sum}
 use Rattle.chip_diffusing.proofs.KeptLemmas.{IsKept, acked_most, legal_kept}
 use Rattle.chip_diffusing.proofs.OrderLemmas.{detection_order}
 use Rattle.chip_diffusing.proofs.DepthLemmas.{depth_closes, depth_is_counted}
-use Rattle.chip_diffusing.proofs.SilentLemmas.{IsLater, one_later, later, go_on}
+use Rattle.chip_diffusing.proofs.QuiescentLemmas.{IsLater, one_later, later, go_on}
 
 -- ---- no process has to acknowledge or to settle
 

@@ -1,7 +1,7 @@
 pub mod EdgesLemmas
 pub mod KeptLemmas
 pub mod OrderLemmas
-pub mod SilentLemmas
+pub mod QuiescentLemmas
 pub mod DepthLemmas
 pub mod DueLemmas
 pub mod WasteLemmas

@@ -14,8 +14,8 @@ abbrev pub ForEveryWorld : (Network → World → Type 0) → Type 0
 ForEveryWorld P = (net : Network) → IsNetwork net → (log : Log) (w : World) → IsLegalLog net log w → P net w
 
 -- if the root is closed, the computation is over
-abbrev pub ClosedIsSilent : Type 0
-ClosedIsSilent = ForEveryWorld (λ net w. HasClosedRoot net w → IsQuiescent net w)
+abbrev pub ClosedIsQuiescent : Type 0
+ClosedIsQuiescent = ForEveryWorld (λ net w. HasClosedRoot net w → IsQuiescent net w)
 
 -- and it stays over, whatever is done
 abbrev pub ClosedForGood : Type 0

@@ -11,7 +11,8 @@ pub fn worked()
 {}
 
 ghost use Rattle.chip_diffusing.specs.Laws.{ClosedIsSettled, DepthCloses, DepthIsCounted, NoWasteCloses};
-ghost use Rattle.chip_diffusing.specs.Laws.{CallsMayBeMade, ClosedIsSilent, ClosedForGood, EngagedIsATree, NeverStuck, NotOverYet, FewAreLeft};
+ghost use Rattle.chip_diffusing.specs.Laws.{CallsMayBeMade, ClosedIsQuiescent, ClosedForGood, EngagedIsATree};
+ghost use Rattle.chip_diffusing.specs.Laws.{NeverStuck, NotOverYet, FewAreLeft};
 
 /// Whoever makes an event may make the call of `Detect` that notes it.
 pub fn calls()
@@ -21,7 +22,7 @@ pub fn calls()
 /// The theorem of Dijkstra and Scholten: if the root is closed, no message is in transit and every process is passive,
 /// now and ever after, and on each edge all is settled.
 pub fn closed_roots()
-    ensures silent { ClosedIsSilent }
+    ensures quiescent { ClosedIsQuiescent }
     ensures for_good { ClosedForGood }
     ensures settled { ClosedIsSettled }
 {}

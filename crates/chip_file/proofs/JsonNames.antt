@@ -51,8 +51,9 @@ pub use Rattle.chip_file.specs.GraphFile.{number_of_value, edges_of_rows, member
 pub use Rattle.chip_file.specs.GraphFile.{GraphFile, edge_of_row, numbers_of, edge_of_numbers, json_of}
 pub use Rattle.chip_file.specs.JsonParts.{add_member, known_members, value_count, known_count, IsOther, IsCrowded, Stands}
 pub use Rattle.chip_file.specs.JsonParts.{Takes, KeepsFile, kept_of}
-pub use Rattle.chip_file.specs.JsonPlain.{IsOperator, lexemes_at, IsNumberAt, IsRowAt, AreRowsAt, IsBehindName, BeginsEdges}
-pub use Rattle.chip_file.specs.JsonPlain.{GoesOnAs, HasEdgesBefore, HasEdgesFirst, rows_depth, IsBehind}
+pub use Rattle.chip_file.specs.JsonPlain.{IsOperator, lexemes_at, IsNumberAt, IsRowAt, AreRowsAt, IsAfterName}
+pub use Rattle.chip_file.specs.JsonPlain.{BeginsEdges}
+pub use Rattle.chip_file.specs.JsonPlain.{GoesOnAs, HasEdgesBefore, HasEdgesFirst, rows_depth, IsAfterByte}
 pub use Rattle.chip_file.specs.JsonRows.{and_number, and_items, edge_in, KeepsEdges, KeepsAny, MayRead, MayReadItems, AreEdgeRows}
 pub use Rattle.chip_file.specs.JsonRows.{AreRowsUnder}
 pub use Rattle.chip_file.specs.JsonValues.{next_value, ItemsAre, MembersAre, ReadsValue, ReadsItems, ReadsMembers}

@@ -8,7 +8,7 @@ use Rattle.chip_file.proofs.JsonNames.{content, plain, Lexeme, token, comma, col
 use Rattle.chip_file.proofs.JsonNames.{Place, fresh, after_value, after_comma, after_key, may_begin, begins_colon}
 use Rattle.chip_file.proofs.JsonNames.{place_token, punctuate, tokens, Data, array, unsigned, no_items, item}
 use Rattle.chip_file.proofs.JsonNames.{no_members, number_of, max_depth, Edge, edge_of_row}
-use Rattle.chip_file.proofs.JsonNames.{next_value, ItemsAre, lexemes_at, IsRowAt, AreRowsAt, IsBehindName, BeginsEdges}
+use Rattle.chip_file.proofs.JsonNames.{next_value, ItemsAre, lexemes_at, IsRowAt, AreRowsAt, IsAfterName, BeginsEdges}
 use Rattle.chip_file.proofs.JsonNames.{GoesOnAs, HasEdgesBefore, HasEdgesFirst, rows_depth}
 use Rattle.json.specs.Token.{number}
 use Rattle.serde_json.specs.Data as value
@@ -85,7 +85,7 @@ name_lexemes rest = refl
 
 pub name_read : (text all : List ℕ) (from at : ℕ) (r : Bool) → all ≡ drop at text → at ≤ length text
     → from ≤ at → lexemes_at text at ≡ lexemes_at text from → r ≡ starts_with nat_eq all edges_name → r ≡ true
-    → IsBehindName text from (at + 8)
+    → IsAfterName text from (at + 8)
 name_read text all from at r same inside after blanks tested found =
     let rest = drop at text in
     let is : all ≡ edges_name ++ drop 8 all = (starts_is Decides-eqb all edges_name r tested).0 found in

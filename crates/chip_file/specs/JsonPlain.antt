@@ -24,12 +24,12 @@ abbrev pub IsFurther : List ℕ → ℕ → ℕ → Type 0
 IsFurther text from next = (from < next) × (next ≤ length text)
 
 -- the next lexeme is that of a byte, and the text goes on after it
-pub record IsBehind (text : List ℕ) (from byte next : ℕ) : Type 0 where
+pub record IsAfterByte (text : List ℕ) (from byte next : ℕ) : Type 0 where
   pub read : lexemes_at text from ≡ operator_lexeme byte ∷ lexemes_at text next
   pub on : IsFurther text from next
 
 -- the next lexemes are those of the name of the edges, and the text goes on after them
-pub record IsBehindName (text : List ℕ) (from next : ℕ) : Type 0 where
+pub record IsAfterName (text : List ℕ) (from next : ℕ) : Type 0 where
   pub read : lexemes_at text from ≡ token (string (codes "edges")) ∷ colon ∷ lexemes_at text next
   pub on : IsFurther text from next
 

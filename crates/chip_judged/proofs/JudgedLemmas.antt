@@ -26,7 +26,7 @@ use Rattle.chip_diffusing.proofs.OrderLemmas.{no_parents, settled_up, closed_sil
 use Rattle.chip_log.specs.Log.{steps_of, is_out, is_in, count_steps, sends, gets, count_rows, outs, ins, active_after}
 use Rattle.chip_log.specs.Log.{begins_active, is_enabled, AreEnabled, IsInterleaving}
 use Rattle.chip_log.specs.Books.{IsOf}
-use Rattle.chip_log.specs.Claims.{basic, IsSilent, IsRight}
+use Rattle.chip_log.specs.Claims.{basic, IsQuiescentAfter, IsRight}
 use Rattle.chip_log.specs.Judged.{control, is_over}
 use Rattle.chip_log.specs.Past.{Fits, FitsRow}
 use Rattle.chip_log.specs.declared.row.LogRow.{LogRow}
@@ -336,7 +336,7 @@ module _ (net : Network) (is : IsNetwork net) (log : Log) (last : World) (legal 
         ∙ grind (arith, nat_tests, (show.shows net.root is.root).claims)
 
     -- and all is over at the end
-    silent : IsSilent rows xs
+    silent : IsQuiescentAfter rows xs
     silent = record {
       quiet = λ c. got_all (basic c);
       passive = λ p. dite (dec_lt p net.parts)
@@ -366,7 +366,7 @@ module _ (net : Network) (is : IsNetwork net) (log : Log) (last : World) (legal 
 
   -- all is over behind a claim
   behind : (p : ℕ) (before between after : List LogRow) → IsInterleaving rows ((before ++ claim p ∷ between) ++ after)
-      → IsSilent rows (before ++ claim p ∷ between)
+      → IsQuiescentAfter rows (before ++ claim p ∷ between)
   behind p before between after any = let pre = before ++ claim p ∷ between in
       let nothing = nothing_after pre after any (omega (arith, rows-append is_over before (claim p ∷ between))) in
       silent (rw (nothing, append-nil) at any)

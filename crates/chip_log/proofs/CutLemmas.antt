@@ -5,7 +5,7 @@ use Rattle.chip_log.proofs.Names.{steps_of, begins_active, HasEnds, IsInterleavi
 use Rattle.chip_log.proofs.Names.{is_claim, length-append, nat_tests, LogRow, Step, Active, Over}
 use Rattle.chip_log.specs.Cut.{CutKeepsVerdicts}
 use Rattle.chip_log.proofs.PastLemmas.{least_past}
-use Rattle.chip_log.proofs.SilentLemmas.{silent_is_right}
+use Rattle.chip_log.proofs.QuiescentLemmas.{silent_is_right}
 use Rattle.chip_log.proofs.ProgressLemmas.{rows-append, first_of, whole_progress, goes_on}
 use Rattle.chip_log.proofs.SameLemmas.{are_met_as, silent_as, judged_by}
 use Rattle.chip_log.proofs.RightLemmas.{find_over}

@@ -11,8 +11,8 @@ use Rattle.chip_log.proofs.Names.{Sizes, LogRow, Step, Out, In, Active, Over, St
 use Rattle.chip_log.proofs.CountLemmas.{count-append, active_after-append, own_few}
 use Rattle.chip_log.proofs.MetLemmas.{count_no}
 use Rattle.chip_log.proofs.PastLemmas.{met_le, rest_of, now_le, outs_by}
-use Rattle.chip_log.proofs.SilentLemmas.{silent_is_right}
-use Rattle.chip_log.proofs.LeftLemmas.{IsLeftBehind}
+use Rattle.chip_log.proofs.QuiescentLemmas.{silent_is_right}
+use Rattle.chip_log.proofs.LeftLemmas.{IsLeftAfter}
 use Rattle.chip_log.specs.declared.books.Said.TheVariants as said
 use Rattle.chip_log.specs.declared.verdict.Verdict.TheVariants as verdict
 use Rattle.chip_log.specs.declared.judged.LogEnd.TheVariants as end
@@ -101,7 +101,7 @@ module _ (log : List LogRow) (sizes : Sizes) (fits : Fits sizes log) (now : List
         rw (keeps.said q, made.begins q, active_said (begins_active (steps_of q log)) (steps_of q now))
         (busy_is (said_of (steps_of q now)) (steps_of q log))
 
-    pub left_is : (v : Verdict) → IsLeftOver sizes beginners b v → IsLeftBehind log now v
+    pub left_is : (v : Verdict) → IsLeftOver sizes beginners b v → IsLeftAfter log now v
     left_is verdict.Right left = record {
       quiet = no_way false left.0;
       passive = λ q. rw (← is_busy_is q) (dite (dec_lt q sizes.processes) (λ l. left.1 q l) (λ beyond.
@@ -169,7 +169,7 @@ module _ (log : List LogRow) (is : IsLog log) (sizes : Sizes) (fits : Fits sizes
   all_le : (s : Stream) → ins s log ≤ outs s log
   all_le s = met_le s log [] log is.met (omega arith)
 
-  pub end_left : (v : Verdict) → IsLeftOver sizes beginners b v → IsLeftBehind log log v
+  pub end_left : (v : Verdict) → IsLeftOver sizes beginners b v → IsLeftAfter log log v
   end_left v left = left_is log sizes fits log b keeps all_le (λ s. omega arith) sized beginners made v left
 
   pub missed_end : IsLeftOver sizes beginners b verdict.Right → IsFirstWay true sizes.channels b None → IsOpenEnd log end.Missed

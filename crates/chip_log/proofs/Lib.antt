@@ -3,7 +3,7 @@ pub mod PrefixLemmas
 pub mod CountLemmas
 pub mod MetLemmas
 pub mod PastLemmas
-pub mod SilentLemmas
+pub mod QuiescentLemmas
 mod LeftLemmas
 pub mod VerdictLemmas
 pub mod BooksLemmas

@@ -3,14 +3,14 @@
 use Rattle.chip_log.proofs.Names.{◌≡◌, ℕ, zero, suc, ◌+◌, ◌≤◌, Bool, true, false, cond, List, [], ◌∷◌, ◌++◌, refl, eqb}
 use Rattle.chip_log.proofs.Names.{◌∙◌, ap, subst, arith, append-nil, append_assoc, nat_tests}
 use Rattle.chip_log.proofs.Names.{steps_of, is_out, is_in, outs, ins, active_after, begins_active, is_active, is_enabled}
-use Rattle.chip_log.proofs.Names.{AreEnabled, IsInterleaving, basic, IsSilent, IsBefore, IsRight, AreSent}
+use Rattle.chip_log.proofs.Names.{AreEnabled, IsInterleaving, basic, IsQuiescentAfter, IsBefore, IsRight, AreSent}
 use Rattle.chip_log.proofs.Names.{IsProgress, HasEnds, LogRow, Stream, Step, Out, In, Over}
 use Rattle.std.proofs.Common.{add-one}
 use Rattle.chip_log.specs.Missing.{staying, stay_below, IsWithout, RightWithoutRows, SentWhileActive}
 use Rattle.chip_log.proofs.CountLemmas.{rows-append, steps_of-append, active_after-append}
 use Rattle.chip_log.proofs.MetLemmas.{same_self}
 use Rattle.chip_log.proofs.PastLemmas.{are_met_second, are_met_both, met_le, least_past}
-use Rattle.chip_log.proofs.SilentLemmas.{silent_is_right}
+use Rattle.chip_log.proofs.QuiescentLemmas.{silent_is_right}
 use Rattle.chip_log.proofs.OrderingLemmas.{sent_at}
 use Rattle.chip_log.proofs.ProgressLemmas.{rows, rows-append as own-rows, first_of, whole_progress, next_own, along, owner_of}
 
@@ -122,7 +122,8 @@ module _ (stays : ℕ → ℕ → Bool) (told : Stream → ℕ → Bool) (log le
   }
 
   -- where what is left is quiescent, so is the log
-  silent_here : (pre acc : List LogRow) → IsProgress log pre → IsKept pre acc → IsSilent left acc → IsSilent log pre
+  silent_here : (pre acc : List LogRow) → IsProgress log pre → IsKept pre acc → IsQuiescentAfter left acc
+      → IsQuiescentAfter log pre
   silent_here pre acc done kept silent =
       let got : (c : ℕ) → (outs (basic c) pre ≡ ins (basic c) pre) × (ins (basic c) pre ≤ ins (basic c) acc) = λ c.
       omega (arith, met_le (basic c) log [] pre done.met, below_all (told (basic c)) (is.basic c), silent.quiet c) in
@@ -130,7 +131,7 @@ module _ (stays : ℕ → ℕ → Bool) (told : Stream → ℕ → Bool) (log le
 
   -- the log is quiescent when the claim is made, since the rows before it that stay come before it in what is left
   silent_before : (p i : ℕ) → stays p i ≡ true → IsRight left p (stay_below (stays p) i)
-      → (before : List LogRow) → IsBefore log p i before → IsSilent log before
+      → (before : List LogRow) → IsBefore log p i before → IsQuiescentAfter log before
   silent_before p i here right before at =
       let claim : LogRow = record { process = p; step = Over } in
       let all : IsProgress log ((before ++ claim ∷ []) ++ at.after) =

@@ -27,7 +27,8 @@ pub use Rattle.chip_log.specs.Agenda.{AgendaState}
 pub use Rattle.chip_log.specs.Books.{said_before, said_of, Passes, rows_at, said_at, is_message_needed, is_needed}
 pub use Rattle.chip_log.specs.Books.{KeepsRow, IsOf, said_by, HasMakeRoom, HasFlightRoom, HasCountRoom}
 pub use Rattle.chip_log.specs.Books.{HasKeepRoom, HasRoomForRow}
-pub use Rattle.chip_log.specs.Claims.{basic, IsQuiet, IsPast, IsVerdict, IsOnItsWay, IsBusy, IsSilent, IsBefore, IsRight}
+pub use Rattle.chip_log.specs.Claims.{basic, IsQuiet, IsPast, IsVerdict, IsInTransit, IsBusy, IsQuiescentAfter}
+pub use Rattle.chip_log.specs.Claims.{IsBefore, IsRight}
 pub use Rattle.chip_log.specs.Judge.{stream_of, NoWay, IsFirstWay, first_step, begins_with, AreBeginners, busy_at}
 pub use Rattle.chip_log.specs.Judge.{is_busy, IsLeftOver, AreCounts, place_at, ArePlaces, IsKnown, Judges, has_row_at}
 pub use Rattle.chip_log.specs.Judged.{AreRowsOf, IsOpenEnd, is_over, is_over_at, is_claim, RowPlace, is_at, IsNoLater}
@@ -39,7 +40,7 @@ pub use Rattle.chip_log.specs.Log.{count_rows}
 pub use Rattle.std.proofs.lemmas.Bool.Decides.{nat_tests}
 pub use Rattle.std.proofs.lemmas.Grind.{get_or-set_at}
 pub use Rattle.chip_log.specs.Log.{active_after, begins_active, is_active, is_in, is_enabled, AreEnabled, IsInterleaving}
-pub use Rattle.chip_log.specs.Order.{IsWellFormed, IsProgress, IsGreatest, IsStuck, may_send, AreSent}
+pub use Rattle.chip_log.specs.Order.{IsWellFormed, IsProgress, IsMaximal, IsStuck, may_send, AreSent}
 pub use Rattle.chip_log.specs.Ordering.{is_there, IsReady, Reads, IsOrderKept, OrderGoesOn, IsOrderBlocked, IsFirstLeft, IsNextStep, MakesNextStep}
 pub use Rattle.chip_log.specs.Ordering.{order_work_left}
 pub use Rattle.chip_log.specs.Past.{IsInOrder, AreInFlight, AreKept, AreBooksOf, IsLog, Fits, FitsRow, AreSized, IsPastOf, IsPlace}

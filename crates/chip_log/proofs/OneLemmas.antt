@@ -8,7 +8,7 @@ use Rattle.chip_log.proofs.Names.{AreClaims, IsJudgedLog, rows_for, told_of, Are
 use Rattle.chip_log.proofs.Names.{IsSooner, IsFirst, IsFirstEarly, option_map}
 use Rattle.chip_log.proofs.Names.{ClaimVerdict, JudgedLog, LogEnd, PastRows, LogRow, Verdict}
 use Rattle.chip_log.proofs.MetLemmas.{count_yes}
-use Rattle.chip_log.proofs.LeftLemmas.{one_number, IsLeftBehind, one_left}
+use Rattle.chip_log.proofs.LeftLemmas.{one_number, IsLeftAfter, one_left}
 use Rattle.chip_log.proofs.VerdictLemmas.{same_steps, one_verdict}
 use Rattle.chip_log.proofs.PlacesLemmas.{one_at, at_itself}
 use Rattle.chip_log.proofs.RightLemmas.{IsJudgedAs}
@@ -163,7 +163,7 @@ module _ (log : List LogRow) where
   left_at (end.Active q) = verdict.Active q
   left_at _ = verdict.Right
 
-  left_open : (e : LogEnd) → IsOpenEnd log e → IsLeftBehind log log (left_at e)
+  left_open : (e : LogEnd) → IsOpenEnd log e → IsLeftAfter log log (left_at e)
   left_open end.Claimed is = absurd is
   left_open end.Missed is = is.0
   left_open end.Unclaimed is = is.0

@@ -3,7 +3,7 @@
 use Rattle.chip_log.proofs.Names.{◌≡◌, ℕ, ◌+◌, ◌≤◌, ◌<◌, false, eqb, List, [], ◌∷◌, ◌++◌, length, get_or, refl, ap, sym, ◌∙◌}
 use Rattle.chip_log.proofs.Names.{arith, cond, append-nil, ◌^◌, take, drop, length-append, length-take, drop_more, take_more}
 use Rattle.chip_log.proofs.Names.{append_cancel_left, nil_from_length, drop_all, All-get_or, Some, None, steps_of, HasEnds}
-use Rattle.chip_log.proofs.Names.{nat_tests, is_enabled, IsInterleaving, IsWellFormed, IsProgress, IsGreatest, IsStuck}
+use Rattle.chip_log.proofs.Names.{nat_tests, is_enabled, IsInterleaving, IsWellFormed, IsProgress, IsMaximal, IsStuck}
 use Rattle.chip_log.proofs.Names.{is_there, IsReady, Reads, IsOrderKept, OrderGoesOn, IsOrderBlocked, IsFirstLeft, FitsRow}
 use Rattle.chip_log.proofs.Names.{queue_of, total, Order, Sizes, LogRow, Step, In}
 use Rattle.chip_log.proofs.CountLemmas.{steps_of-append}
@@ -94,7 +94,7 @@ count_next p log n d l = rw (take_more log n d l, steps_of-append, length-append
 
 -- ---- maximal progress is the greatest
 
-module _ (log : List LogRow) (ends : HasEnds log) (used : List LogRow) (most : IsGreatest log used) where
+module _ (log : List LogRow) (ends : HasEnds log) (used : List LogRow) (most : IsMaximal log used) where
   -- it does not go on
   none_joined : (other more : List LogRow) → IsProgress log other → Joins log ends used most.progress other (used ++ more)
       → (p : ℕ) → rows p other ≤ rows p used

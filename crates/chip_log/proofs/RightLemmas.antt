@@ -4,7 +4,8 @@ use Rattle.chip_log.proofs.Names.{◌≡◌, ℕ, ◌+◌, ◌≤◌, ◌<◌, B
 use Rattle.chip_log.proofs.Names.{sym, subst, arith, append-nil, append_assoc, take, drop, suc, zero, map}
 use Rattle.chip_log.proofs.Names.{take_more, get_or-map, length-map, map-append, take_all, get_or_default, All-map}
 use Rattle.chip_log.proofs.Names.{Any-from_list_any, list_any_at, sum_by-le, get_or-le-sum_by, list_any, ◌&&◌, not, All}
-use Rattle.chip_log.proofs.Names.{dite, ℕ_discrete, dec_lt, IsVerdict, IsSilent, IsRight, place_at, ArePlaces, IsKnown}
+use Rattle.chip_log.proofs.Names.{dite, ℕ_discrete, dec_lt, IsVerdict, IsQuiescentAfter, IsRight, place_at, ArePlaces}
+use Rattle.chip_log.proofs.Names.{IsKnown}
 use Rattle.chip_log.proofs.Names.{Judges, IsOpenEnd, is_over, is_over_at, is_claim, RowPlace, is_at}
 use Rattle.chip_log.proofs.Names.{is_early, IsJudged, NoneRight, IsEnd, claim_place, AreJudged, AreShown}
 use Rattle.chip_log.proofs.Names.{steps_of, HasEnds, IsInterleaving, IsLog, IsPlace, ClaimVerdict, LogEnd, PastRows}
@@ -60,7 +61,7 @@ module _ (log : List LogRow) (ends : HasEnds log) (p i j : ℕ) (is : is_claim l
   claim = record { process = p; step = Over }
 
   silent_later : (before between after : List LogRow) → length (steps_of p before) ≡ j
-      → IsInterleaving log ((before ++ between) ++ after) → IsSilent log (before ++ between)
+      → IsInterleaving log ((before ++ between) ++ after) → IsQuiescentAfter log (before ++ between)
   silent_later before between after place whole =
       rw all (right.behind found.0 (found.1 ++ between) after (rw all at whole) found.3)
     where

@@ -1,13 +1,14 @@
 -- Serves Log.antt, Claims.antt, Judged.antt.
 -- The judgment of a log depends only on the rows of each process.
 use Rattle.chip_log.proofs.Names.{◌≡◌, ℕ, Bool, true, false, List, [], ◌∷◌, ◌++◌, refl, sym, ◌∙◌, All-weaker, ◌&&◌, IsPast}
-use Rattle.chip_log.proofs.Names.{IsVerdict, IsSilent, IsBefore, IsRight, IsOpenEnd, is_claim, is_early, IsJudged, NoneRight}
+use Rattle.chip_log.proofs.Names.{IsVerdict, IsQuiescentAfter, IsBefore, IsRight, IsOpenEnd, is_claim, is_early}
+use Rattle.chip_log.proofs.Names.{IsJudged, NoneRight}
 use Rattle.chip_log.proofs.Names.{IsEnd, control, IsJudgedLog, AreShown, steps_of, is_out, HasEnds, IsFirstEarly, Option}
 use Rattle.chip_log.proofs.Names.{Some, None, ap, begins_active, IsStuck, is_active, is_in, is_enabled, AreEnabled}
 use Rattle.chip_log.proofs.Names.{IsInterleaving, IsLog, ClaimVerdict, JudgedLog, LogEnd, LogRow, Step, Out, Over}
 use Rattle.chip_log.proofs.Names.{Verdict, count_rows, count_steps}
 use Rattle.chip_log.proofs.CountLemmas.{all_own}
-use Rattle.chip_log.proofs.LeftLemmas.{SameBehind, got_as, left_as}
+use Rattle.chip_log.proofs.LeftLemmas.{SameAfter, got_as, left_as}
 use Rattle.chip_log.specs.declared.verdict.Verdict.TheVariants as verdict
 use Rattle.chip_log.specs.declared.judged.LogEnd.TheVariants as end
 
@@ -31,10 +32,10 @@ module _ (log other : List LogRow) (begins : (p : ℕ) → begins_active (steps_
   are_met_as before (x ∷ xs) met =
       (rw (met_as before x.process x.step) at met.0, are_met_as (before ++ x ∷ []) xs met.1)
 
-  same_behind : (before : List LogRow) → SameBehind log before other before
+  same_behind : (before : List LogRow) → SameAfter log before other before
   same_behind before = record { outs = λ s. refl; ins = λ s. refl; active = active_as before }
 
-  pub silent_as : (before : List LogRow) → IsSilent log before → IsSilent other before
+  pub silent_as : (before : List LogRow) → IsQuiescentAfter log before → IsQuiescentAfter other before
   silent_as before is = left_as log before other before (same_behind before) verdict.Right is
 
   -- where the causal past of a claim stays, and that it is right, so does its judgment
@@ -134,7 +135,7 @@ module _ (log other : List LogRow) (same : SameRows log other) where
       none p i (rw (claim_as log other same p i) is) (right_as other log (back log other same) p i right)
 
   module _ (ends : HasEnds log) where
-    same_end : SameBehind log log other other
+    same_end : SameAfter log log other other
     same_end = record {
       outs = λ s. count_as log other same (is_out s) (ends.sender s) (ends.sends s);
       ins = λ s. count_as log other same (is_in s) (ends.receiver s) (ends.gets s);

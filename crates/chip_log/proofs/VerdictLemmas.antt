@@ -4,7 +4,7 @@ use Rattle.chip_log.proofs.Names.{◌≡◌, ℕ, List, ◌∷◌, refl, arith, 
 use Rattle.chip_log.proofs.Names.{HasEnds, LogRow, Over, Verdict}
 use Rattle.chip_log.proofs.PrefixLemmas.{same_beginning}
 use Rattle.chip_log.proofs.PastLemmas.{rest_of, outs_by, ins_by}
-use Rattle.chip_log.proofs.LeftLemmas.{IsLeftBehind, one_left, SameBehind, left_as}
+use Rattle.chip_log.proofs.LeftLemmas.{IsLeftAfter, one_left, SameAfter, left_as}
 use Rattle.chip_log.specs.declared.verdict.Verdict.TheVariants as verdict
 
 module _ (log : List LogRow) (ends : HasEnds log) (p i : ℕ) where
@@ -18,7 +18,7 @@ module _ (log : List LogRow) (ends : HasEnds log) (p i : ℕ) where
         (rest_of log ends m (behind m is_m) is_m.here.whole q) (rest_of log ends n (behind n is_n) is_n.here.whole q)
         (let a = is_m.least n is_n.here q in let b = is_n.least m is_m.here q in omega arith)
 
-    same_behind : SameBehind log m log n
+    same_behind : SameAfter log m log n
     same_behind = record {
       outs = λ s.
           let a = outs_by log ends m (behind m is_m) is_m.here.whole s in
@@ -29,7 +29,7 @@ module _ (log : List LogRow) (ends : HasEnds log) (p i : ℕ) where
       active = λ q. rw (same_steps q);
     }
 
-  of_past : (v : Verdict) → IsVerdict log p i v → (m : List LogRow) → IsPast log p i m → IsLeftBehind log m v
+  of_past : (v : Verdict) → IsVerdict log p i v → (m : List LogRow) → IsPast log p i m → IsLeftAfter log m v
   of_past verdict.Right is m past = is.at m past.here
   of_past v is m past = left_as log is.0 log m (same_behind is.0 m is.1 past) v is.2
 

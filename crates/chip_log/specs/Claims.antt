@@ -16,7 +16,7 @@ abbrev pub IsQuiet : List LogRow → Type 0
 IsQuiet before = (c : ℕ) → outs (basic c) before ≡ ins (basic c) before
 
 -- no basic message is in transit, and no process is active
-pub record IsSilent (log before : List LogRow) : Type 0 where
+pub record IsQuiescentAfter (log before : List LogRow) : Type 0 where
   pub quiet : IsQuiet before
   pub passive : (p : ℕ) → is_active log before p ≡ false
 
@@ -33,7 +33,7 @@ pub record IsPast (log : List LogRow) (p i : ℕ) (before : List LogRow) : Type 
       → (q : ℕ) → length (steps_of q before) ≤ length (steps_of q other)
 
 -- the least message of the least channel with one in transit
-pub record IsOnItsWay (before : List LogRow) (c k : ℕ) : Type 0 where
+pub record IsInTransit (before : List LogRow) (c k : ℕ) : Type 0 where
   pub next : ins (basic c) before ≡ k
   pub sent : k < outs (basic c) before
   pub least : (d : ℕ) → d < c → outs (basic d) before ≡ ins (basic d) before
@@ -46,13 +46,13 @@ pub record IsBusy (log before : List LogRow) (q : ℕ) : Type 0 where
 
 -- in each interleaving the log is quiescent when the claim that is step i of p is made, and at each moment after it
 pub record IsRight (log : List LogRow) (p i : ℕ) : Type 0 where
-  pub at : (before : List LogRow) → IsBefore log p i before → IsSilent log before
+  pub at : (before : List LogRow) → IsBefore log p i before → IsQuiescentAfter log before
   pub behind : (before between after : List LogRow)
       → IsInterleaving log ((before ++ record { process = p; step = Over } ∷ between) ++ after)
-      → length (steps_of p before) ≡ i → IsSilent log (before ++ record { process = p; step = Over } ∷ between)
+      → length (steps_of p before) ≡ i → IsQuiescentAfter log (before ++ record { process = p; step = Over } ∷ between)
 
 -- a verdict on a claim: it is right; or in an interleaving with its causal past this is left when it is made
 abbrev pub IsVerdict : List LogRow → ℕ → ℕ → Verdict → Type 0
 IsVerdict log p i verdict.Right = IsRight log p i
-IsVerdict log p i (verdict.OnItsWay c k) = (before : List LogRow) × IsPast log p i before × IsOnItsWay before c k
+IsVerdict log p i (verdict.OnItsWay c k) = (before : List LogRow) × IsPast log p i before × IsInTransit before c k
 IsVerdict log p i (verdict.Active q) = (before : List LogRow) × IsPast log p i before × IsBusy log before q

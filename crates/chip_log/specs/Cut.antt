@@ -1,7 +1,7 @@
 -- Logs that are cut off: the last rows of their processes are missing. The judgment of the rows that are used stays.
 use Rattle.std.specs.Prelude.{◌≡◌, ℕ, Bool, true, List, ◌++◌}
 use Rattle.chip_log.specs.Log.{steps_of, begins_active, IsInterleaving, HasEnds}
-use Rattle.chip_log.specs.Order.{IsGreatest}
+use Rattle.chip_log.specs.Order.{IsMaximal}
 use Rattle.chip_log.specs.Judged.{is_claim, IsJudged}
 use Rattle.chip_log.specs.declared.row.LogRow.{LogRow}
 use Rattle.chip_log.specs.declared.row.Step.{Step}
@@ -17,5 +17,5 @@ pub record IsCut (log cut : List LogRow) : Type 0 where
 -- an interleaving
 abbrev pub CutKeepsVerdicts : Type 0
 CutKeepsVerdicts = (with_past : Bool) (log cut used xs : List LogRow) (c : ClaimVerdict) → HasEnds log → IsCut log cut
-    → IsGreatest cut used → IsInterleaving log xs → is_claim used c.process c.row ≡ true → IsJudged with_past used c
+    → IsMaximal cut used → IsInterleaving log xs → is_claim used c.process c.row ≡ true → IsJudged with_past used c
     → IsJudged with_past log c

@@ -13,7 +13,7 @@ use Rattle.chip_log.specs.declared.judged.LogEnd.{LogEnd}
 use Rattle.chip_log.specs.declared.judged.LogEnd.TheVariants as end
 use Rattle.chip_log.specs.declared.judged.JudgedLog.{JudgedLog}
 use Rattle.chip_log.specs.Log.{steps_of, outs, ins}
-use Rattle.chip_log.specs.Claims.{IsPast, IsSilent, IsOnItsWay, IsBusy, IsRight, IsVerdict}
+use Rattle.chip_log.specs.Claims.{IsPast, IsQuiescentAfter, IsInTransit, IsBusy, IsRight, IsVerdict}
 
 -- ---- claims
 
@@ -87,9 +87,9 @@ NoneRight log = (p i : ℕ) → is_claim log p i ≡ true → IsRight log p i �
 -- else a process is active
 abbrev pub IsOpenEnd : List LogRow → LogEnd → Type 0
 IsOpenEnd log end.Claimed = ⊥
-IsOpenEnd log end.Missed = IsSilent log log × ((c : ℕ) → outs (control c) log ≡ ins (control c) log)
-IsOpenEnd log end.Unclaimed = IsSilent log log × ((c : ℕ) × (ins (control c) log < outs (control c) log))
-IsOpenEnd log (end.OnItsWay c k) = IsOnItsWay log c k
+IsOpenEnd log end.Missed = IsQuiescentAfter log log × ((c : ℕ) → outs (control c) log ≡ ins (control c) log)
+IsOpenEnd log end.Unclaimed = IsQuiescentAfter log log × ((c : ℕ) × (ins (control c) log < outs (control c) log))
+IsOpenEnd log (end.OnItsWay c k) = IsInTransit log c k
 IsOpenEnd log (end.Active q) = IsBusy log log q
 
 -- a claim is right, or none is

@@ -1,8 +1,8 @@
 -- The laws of claims.
 use Rattle.std.specs.Prelude.{◌≡◌, ℕ, ◌≤◌, Bool, List, length, map, Option, option_map}
 use Rattle.chip_log.specs.Log.{steps_of, IsInterleaving, HasEnds}
-use Rattle.chip_log.specs.Order.{IsProgress, IsGreatest, IsStuck}
-use Rattle.chip_log.specs.Claims.{IsBefore, IsPast, IsSilent, IsVerdict}
+use Rattle.chip_log.specs.Order.{IsProgress, IsMaximal, IsStuck}
+use Rattle.chip_log.specs.Claims.{IsBefore, IsPast, IsQuiescentAfter, IsVerdict}
 use Rattle.chip_log.specs.Judged.{IsJudgedLog, told_of}
 use Rattle.chip_log.specs.First.{IsFirstEarly, IsFirstAbsent}
 use Rattle.chip_log.specs.declared.row.LogRow.{LogRow}
@@ -12,22 +12,22 @@ use Rattle.chip_log.specs.declared.verdict.Verdict.{Verdict}
 use Rattle.chip_log.specs.declared.verdict.Verdict.TheVariants as verdict
 
 -- each claim of an interleaving has a causal past
-abbrev pub LeastPast : Type 0
-LeastPast = (log : List LogRow) (p i : ℕ) (before : List LogRow) → HasEnds log → IsBefore log p i before
+abbrev pub CausalPast : Type 0
+CausalPast = (log : List LogRow) (p i : ℕ) (before : List LogRow) → HasEnds log → IsBefore log p i before
     → (past : List LogRow) × IsPast log p i past
 
 -- a claim is right if the log is quiescent after its causal past
-abbrev pub SilentPast : Type 0
-SilentPast = (log : List LogRow) (p i : ℕ) (past : List LogRow) → HasEnds log → IsPast log p i past
-    → IsSilent log past → IsVerdict log p i verdict.Right
+abbrev pub QuiescentPast : Type 0
+QuiescentPast = (log : List LogRow) (p i : ℕ) (past : List LogRow) → HasEnds log → IsPast log p i past
+    → IsQuiescentAfter log past → IsVerdict log p i verdict.Right
 
 -- no claim has two verdicts
 abbrev pub OneVerdict : Type 0
 OneVerdict = (log : List LogRow) (p i : ℕ) (v w : Verdict) → HasEnds log → IsVerdict log p i v → IsVerdict log p i w → v ≡ w
 
 -- no progress has more rows of a process than maximal progress
-abbrev pub MostProgress : Type 0
-MostProgress = (log used other : List LogRow) → HasEnds log → IsGreatest log used → IsProgress log other
+abbrev pub MaximalProgress : Type 0
+MaximalProgress = (log used other : List LogRow) → HasEnds log → IsMaximal log used → IsProgress log other
     → (p : ℕ) → length (steps_of p other) ≤ length (steps_of p used)
 
 -- a log that is stuck has no interleaving

@@ -34,14 +34,14 @@ pub record IsProgress (log used : List LogRow) : Type 0 where
   pub met : AreEnabled log [] used
 
 -- and no process can make its next step
-pub record IsGreatest (log used : List LogRow) : Type 0 where
+pub record IsMaximal (log used : List LogRow) : Type 0 where
   pub progress : IsProgress log used
   pub stuck : (p : ℕ) (step : Step) (later : List Step) → progress.left p ≡ step ∷ later → is_enabled log used p step ≡ false
 
 -- after maximal progress p is the least process with a row left, and i rows of it were done
 pub record IsStuck (log : List LogRow) (p i : ℕ) : Type 0 where
   pub used : List LogRow
-  pub greatest : IsGreatest log used
+  pub greatest : IsMaximal log used
   pub place : length (steps_of p used) ≡ i
   pub some : i < length (steps_of p log)
   pub least : (q : ℕ) → q < p → steps_of q used ≡ steps_of q log

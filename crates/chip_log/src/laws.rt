@@ -1,7 +1,8 @@
 //! The laws of logs: functions without code, whose contracts are the laws.
 
-ghost use Rattle.chip_log.specs.Laws.{LeastPast, MostProgress, OneAbsent, OneFirst, OneJudgment, OnePlace, OneVerdict};
-ghost use Rattle.chip_log.specs.Laws.{SameFirst, SameJudgment, SameStuck, SilentPast, StuckOrder};
+ghost use Rattle.chip_log.specs.Laws.{CausalPast, MaximalProgress, OneAbsent, OneFirst, OneJudgment, OnePlace};
+ghost use Rattle.chip_log.specs.Laws.{OneVerdict};
+ghost use Rattle.chip_log.specs.Laws.{SameFirst, SameJudgment, SameStuck, QuiescentPast, StuckOrder};
 ghost use Rattle.chip_log.specs.Worked.{WorkedLog};
 
 /// Which processes are active in a small log, by the definitions.
@@ -11,12 +12,12 @@ pub fn worked()
 
 /// Each claim of an interleaving has a causal past.
 pub fn least_past()
-    ensures { LeastPast }
+    ensures { CausalPast }
 {}
 
 /// A claim is right if the log is quiescent after its causal past.
 pub fn silent_past()
-    ensures { SilentPast }
+    ensures { QuiescentPast }
 {}
 
 /// No claim has two verdicts.
@@ -26,7 +27,7 @@ pub fn one_verdict()
 
 /// No progress has more rows of a process than maximal progress.
 pub fn most_progress()
-    ensures { MostProgress }
+    ensures { MaximalProgress }
 {}
 
 /// A log that is stuck has no interleaving.

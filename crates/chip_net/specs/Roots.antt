@@ -146,8 +146,8 @@ pub record FeedsChips (old new : RootKnown) (vertex count place : ℕ) : Type 0 
   pub place_is : place ≡ sent_to old vertex
   pub record_is : new ≡ root_after old (feed_steps old.net.setting vertex count place)
 
--- the cell of the root edge wasn't empty: only the look was made
-pub record LooksInVain (old new : RootKnown) (vertex : ℕ) : Type 0 where
+-- the cell of the root edge was full, and only this was read
+pub record ReadsFullCell (old new : RootKnown) (vertex : ℕ) : Type 0 where
   pub seen : ℕ
   pub some : seen ≢ 0
   pub record_is : new
@@ -160,7 +160,7 @@ RefusesFeed old new vertex count Ended = (has_ended old ≡ true) × (new ≡ ol
 RefusesFeed old new vertex count Total =
     (has_ended old ≡ false) × (max_total < all_given old + count) × (new ≡ old)
 RefusesFeed old new vertex count Full =
-    (has_ended old ≡ false) × (all_given old + count ≤ max_total) × LooksInVain old new vertex
+    (has_ended old ≡ false) × (all_given old + count ≤ max_total) × ReadsFullCell old new vertex
 
 -- the fault number of each
 abbrev pub feed_number : FeedFault → ℕ

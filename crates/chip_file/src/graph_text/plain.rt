@@ -5,7 +5,7 @@
 
 ghost use Rattle.std.specs.Prelude.{◌≡◌, ◌<◌, ◌≤◌, length, drop, codes, IfSome, IfOk, IfErr};
 ghost use Rattle.json.specs.Word.{is_space};
-ghost use Rattle.chip_file.specs.JsonPlain.{lexemes_at, IsOperator, IsBehind, IsBehindName, IsNumberAt, IsRowAt};
+ghost use Rattle.chip_file.specs.JsonPlain.{lexemes_at, IsOperator, IsAfterByte, IsAfterName, IsNumberAt, IsRowAt};
 ghost use Rattle.chip_file.specs.JsonPlain.{AreRowsAt, BeginsEdges, GoesOnAs, HasEdgesFirst};
 ghost use Rattle.chip_file.specs.declared.fault.FileFault.TheVariants.{NoMemory};
 
@@ -52,7 +52,7 @@ fn skip_blanks(text: &[u8], from: usize) -> usize
 fn skip(text: &[u8], from: usize, byte: u8) -> Option<usize>
     requires inside { from ≤ length text.now }
     requires operator { IsOperator byte }
-    ensures { IfSome result (λ next. IsBehind text.now from byte next) }
+    ensures { IfSome result (λ next. IsAfterByte text.now from byte next) }
 {
     let at = skip_blanks(text, from);
     if at < text.len() && text[at] == byte {
@@ -143,7 +143,7 @@ fn edges_start(text: &[u8]) -> Option<usize>
 /// Where the text goes on after the name of the edges, if it is next.
 fn skip_name(text: &[u8], from: usize) -> Option<usize>
     requires { from ≤ length text.now }
-    ensures { IfSome result (λ next. IsBehindName text.now from next) }
+    ensures { IfSome result (λ next. IsAfterName text.now from next) }
 {
     let at = skip_blanks(text, from);
     if text[at..].starts_with(EDGES) {

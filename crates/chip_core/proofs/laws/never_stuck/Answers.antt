@@ -6,6 +6,6 @@ use Rattle.chip_core.proofs.laws.never_stuck.Goals as goal
 pub returns : goal.returns
 returns c = record {
   advances = due.never_stuck;
-  in_vain = λ g game some_ring log legal xs asks end idle. asked_closes g game some_ring log legal xs asks idle end;
+  idle = λ g game some_ring log legal xs asks end idle. asked_closes g game some_ring log legal xs asks idle end;
   rounds = λ g game some_ring before earlier xs round legal end put none. round_closes g game some_ring before xs round legal none put end;
 }

@@ -5,7 +5,7 @@ use Rattle.chip_core.proofs.laws.worked_feeding.Goals as goal
 pub returns : goal.returns
 returns c = record {
   once = (refl, refl, refl, refl);
-  in_vain = refl;
+  refused = refl;
   uncleared = refl;
   closed_by_the_end = by_the_end;
 }

@@ -1,4 +1,4 @@
-use Rattle.chip_log.proofs.SilentLemmas.{silent_is_right}
+use Rattle.chip_log.proofs.QuiescentLemmas.{silent_is_right}
 use Rattle.chip_log.proofs.laws.silent_past.Goals as goal
 
 pub returns : goal.returns

@@ -1,9 +1,10 @@
 use Rattle.chip_file.proofs.JsonNames.{ℕ, List, ◌∷◌, Option, Some, None, ap, ◌∙◌, codes, IfSome, begin_object, string}
-use Rattle.chip_file.proofs.JsonNames.{token, colon, IsBehind, IsBehindName, BeginsEdges}
+use Rattle.chip_file.proofs.JsonNames.{token, colon, IsAfterByte, IsAfterName, BeginsEdges}
 use Rattle.chip_file.proofs.graph_text.plain.edges_start.Goals as goal
 
-started : (text : List ℕ) (brace_end name : ℕ) (start : Option ℕ) → IsBehind text 0 123 brace_end → IsBehindName text brace_end name
-    → IfSome start (λ next. IsBehind text name 91 next) → IfSome start (λ next. BeginsEdges text next)
+started : (text : List ℕ) (brace_end name : ℕ) (start : Option ℕ) → IsAfterByte text 0 123 brace_end
+    → IsAfterName text brace_end name
+    → IfSome start (λ next. IsAfterByte text name 91 next) → IfSome start (λ next. BeginsEdges text next)
 started text brace_end name None brace names bracket = tt
 started text brace_end name (Some next) brace names bracket = record {
   read = brace.read ∙ ap (λ ls. token begin_object ∷ ls) (names.read

@@ -2,7 +2,8 @@
 -- Once a log is quiescent it stays so.
 use Rattle.chip_log.proofs.Names.{◌≡◌, ◌≢◌, ℕ, ◌≤◌, ◌<◌, Bool, true, false, List, [], ◌∷◌, ◌++◌, length, refl}
 use Rattle.chip_log.proofs.Names.{arith, cond, append-nil, append_assoc, length-append, ltb-true}
-use Rattle.chip_log.proofs.Names.{nil_from_length, dite, ℕ_discrete, dec_lt, basic, IsPast, IsSilent, IsBefore, IsRight}
+use Rattle.chip_log.proofs.Names.{nil_from_length, dite, ℕ_discrete, dec_lt, basic, IsPast, IsQuiescentAfter, IsBefore}
+use Rattle.chip_log.proofs.Names.{IsRight}
 use Rattle.chip_log.proofs.Names.{control, steps_of, is_out, outs, ins, HasEnds, sends, count_steps, active_after}
 use Rattle.chip_log.proofs.Names.{is_active, is_in, is_enabled, AreEnabled, IsInterleaving, LogRow, Step, Out}
 use Rattle.chip_log.proofs.Names.{In, Over, Stream}
@@ -13,7 +14,7 @@ use Rattle.chip_log.proofs.MetLemmas.{owner_is, push_no, same_self}
 use Rattle.chip_log.proofs.PastLemmas.{rest_of, now_met, now_le, outs_by, ins_by}
 
 module _ (log : List LogRow) (ends : HasEnds log) (p i : ℕ) (past : List LogRow) (is : IsPast log p i past)
-    (silent : IsSilent log past) (other left : List LogRow) (whole : IsInterleaving log (other ++ left))
+    (silent : IsQuiescentAfter log past) (other left : List LogRow) (whole : IsInterleaving log (other ++ left))
     (least : (q : ℕ) → length (steps_of q past) ≤ length (steps_of q other)) where
   abbrev claim : LogRow
   claim = record { process = p; step = Over }
@@ -131,7 +132,7 @@ module _ (log : List LogRow) (ends : HasEnds log) (p i : ℕ) (past : List LogRo
     passive = λ q none. rw (nil_from_length (steps_of q past) (omega arith)) at (silent.passive q);
   }
 
-  pub silent_other : IsSilent log other
+  pub silent_other : IsQuiescentAfter log other
   silent_other = record {
     quiet = λ c.
         let r = ends.receiver (basic c) in
@@ -148,7 +149,7 @@ module _ (log : List LogRow) (ends : HasEnds log) (p i : ℕ) (past : List LogRo
 
 -- so a claim with a quiescent causal past is right
 module _ (log : List LogRow) (ends : HasEnds log) (p i : ℕ) (past : List LogRow) (is : IsPast log p i past)
-    (silent : IsSilent log past) where
+    (silent : IsQuiescentAfter log past) where
   pub silent_is_right : IsRight log p i
   silent_is_right = record {
     at = λ before here. silent_other log ends p i past is silent before (record { process = p; step = Over } ∷ here.after)

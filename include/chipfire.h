@@ -93,7 +93,7 @@ static inline const char *chipfire_strerror(uint64_t status)
     case CHIPFIRE_FAULT_START_LENGTH: return "the chips are not one number for each vertex";
     case CHIPFIRE_FAULT_TOTAL: return "there are more than 1099511627776 chips in all";
     case CHIPFIRE_FAULT_LIMIT: return "the firing limit is above 1099511627776";
-    case CHIPFIRE_FAULT_LENGTHS: return "slices that belong together have different lengths";
+    case CHIPFIRE_FAULT_LENGTHS: return "arrays that belong together have different lengths";
     case CHIPFIRE_FAULT_STOPPED: return "the limit stopped the play";
     case CHIPFIRE_FAULT_NO_PILE: return "there is no pile";
     case CHIPFIRE_FAULT_VERTEX: return "the drop falls on no vertex";

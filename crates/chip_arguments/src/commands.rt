@@ -420,7 +420,7 @@ static EXPLAIN: CommandRow = CommandRow {
     name: "explain",
     about: "Explains a fault or a rule by its number, or lists all",
     after_help: "\
-If `simulate` answers `not-now N`, `chipfire explain rule N` explains it.
+If `simulate` reports `not-now N`, `chipfire explain rule N` explains it.
 
 Exit status: 0 done; 1 a fault: 91 if no fault or rule has this number.
 

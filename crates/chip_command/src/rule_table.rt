@@ -34,7 +34,7 @@ All its firings in the run count. Without `--limit` each vertex may fire 2^40 ti
 static NOT_LEGAL: Explanation = row!(7 NotLegal NOWHERE:
     "the vertex has too few chips for these firings", "\
 A firing sends one chip along each edge out, times its multiplicity: `chipfire check` writes
-the sum as `degree`. Chips on their way to a vertex count after it took them.
+the sum as `degree`. Chips in transit to a vertex count after it took them.
 ");
 
 static NOTHING_PENDING: Explanation = row!(8 NothingPending NOWHERE:

@@ -178,8 +178,8 @@ That is 2^40. Only callers of the libraries meet this. On the command line it is
 ");
 
 static LENGTHS: Explanation = row!(12 Lengths NOWHERE:
-    "slices that belong together have different lengths", "\
-Only callers of libchipfire meet this. chipfire.h says how long each slice is.
+    "arrays that belong together have different lengths", "\
+Only callers of libchipfire meet this. chipfire.h says how long each array is.
 ");
 
 static STOPPED: Explanation = row!(13 Stopped DROP:
@@ -327,8 +327,8 @@ Only callers of the library chip_net meet this. Try again after the vertex made 
 static BOOKS: Explanation = row!(46 Books NOWHERE:
     "no such edge, a count is too high, or the books of the process are not sound", "\
 Only callers of libchipfire meet this. `chipfire_books_check` reads all edges of the process:
-each slice ascends by edges, which are below 2^64 - 1, no more is answered than there was,
-and a process has a parent exactly if it owes something there.
+each array ascends by edges, which are below 2^64 - 1, no more messages are acknowledged than
+there are, and a process has a parent exactly if it owes something there.
 ");
 
 static NOT_YET: Explanation = row!(47 NotYet NOWHERE:

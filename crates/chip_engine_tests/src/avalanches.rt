@@ -53,7 +53,7 @@ fn rested(rt: &(impl AllocGlobal + Abort)) -> Box<Pile>
 
 /// Six on 0: it fires three times, and 1 once.
 #[test]
-fn tells_an_avalanche(rt: HostRuntime) {
+fn measures_an_avalanche(rt: HostRuntime) {
     let pile = Box::into_inner(rested(&rt));
     let (pile, avalanche) = pile.drop_chips(rt.alloc(), 0, 5);
     assert!(rt;
@@ -185,7 +185,7 @@ fn slow_drops(alloc: Global, room: usize) -> (Result<Ended, Fault>, Blocks, Hear
 }
 
 #[test]
-fn a_slow_drop_is_told_of_after_the_rows_before_it(rt: HostRuntime) {
+fn a_slow_drop_is_reported_after_the_rows_before_it(rt: HostRuntime) {
     let (ended, rows, heard) = slow_drops(rt.alloc(), 1000);
     assert!(rt; ended == closed(0));
     assert!(rt; heard.fired == [1005, 1005, 0]);

@@ -131,7 +131,7 @@ impl Watch for Heard {
 }
 
 #[test]
-fn tells_its_watcher(rt: HostRuntime) {
+fn reports_to_its_watcher(rt: HostRuntime) {
     let mut heard = Heard { fired: [0; 3] };
     let mut output = Vec::new(rt.alloc());
     let options = PlayOptions {
@@ -271,7 +271,7 @@ const REMAINDERS: &[&Remainder] = &[
 ];
 
 /// Checks what a replay of the triangle leaves.
-fn tells(rt: &(impl AllocGlobal + Abort), told: &Remainder) {
+fn check_remainder(rt: &(impl AllocGlobal + Abort), told: &Remainder) {
     let mut output = Vec::new(rt.alloc());
     let options = ReplayOptions {
         play: PlayOptions::standard(told.limit),
@@ -294,9 +294,9 @@ fn tells(rt: &(impl AllocGlobal + Abort), told: &Remainder) {
 }
 
 #[test]
-fn tells_what_is_left_of_the_triangle(rt: HostRuntime) {
+fn reports_what_is_left_of_the_triangle(rt: HostRuntime) {
     for told in REMAINDERS {
-        tells(&rt, told);
+        check_remainder(&rt, told);
     }
 }
 

@@ -81,7 +81,7 @@ fn plain(alloc: Global, guess: Option<&str>) -> (Result<Ended, Fault>, Told) {
 }
 
 #[test]
-fn plain_tells_of_its_game_its_play_and_its_report(rt: HostRuntime) {
+fn plain_reports_its_game_its_play_and_its_report(rt: HostRuntime) {
     let played = Told {
         bytes: PLAYED.len() as u64,
         ..PLAY
@@ -95,7 +95,7 @@ fn plain_tells_of_its_game_its_play_and_its_report(rt: HostRuntime) {
 }
 
 #[test]
-fn resume_tells_of_its_stage(rt: HostRuntime) {
+fn resume_reports_its_stage(rt: HostRuntime) {
     let (mut told, mut output) = (NOTHING, Vec::new(rt.alloc()));
     let (graph, report) = (&mut TRIANGLE.as_bytes(), &mut STOPPED.as_bytes());
     let options = PlayOptions::standard(NO_LIMIT);
@@ -111,7 +111,7 @@ fn resume_tells_of_its_stage(rt: HostRuntime) {
 }
 
 #[test]
-fn verify_tells_of_the_counts_of_the_report(rt: HostRuntime) {
+fn verify_reports_the_counts_of_the_report(rt: HostRuntime) {
     let (mut told, mut output) = (NOTHING, Vec::new(rt.alloc()));
     let (graph, chips, report) = (
         &mut TRIANGLE.as_bytes(),
@@ -137,7 +137,7 @@ fn verify_tells_of_the_counts_of_the_report(rt: HostRuntime) {
 }
 
 #[test]
-fn avalanches_tells_of_its_play_and_its_report(rt: HostRuntime) {
+fn avalanches_reports_its_play_and_its_report(rt: HostRuntime) {
     let (mut told, mut rows) = (NOTHING, Vec::new(rt.alloc()));
     let report = &mut Some(Vec::new(rt.alloc()));
     let (graph, chips, drops) = (

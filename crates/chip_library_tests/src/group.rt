@@ -140,12 +140,12 @@ const ROWS: &[(&Lists, &[u64], (u64, u64), &[u64])] = &[
 #[test]
 fn recurrent_rows(rt: HostRuntime) {
     for &(lists, chips, fault, wanted) in ROWS {
-        tells(&rt, lists, chips, fault, wanted);
+        check_rows(&rt, lists, chips, fault, wanted);
     }
 }
 
 /// Tests which rows are recurrent, and compares.
-fn tells(
+fn check_rows(
     rt: &(impl AllocGlobal + Abort),
     lists: &Lists,
     chips: &[u64],

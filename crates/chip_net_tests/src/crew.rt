@@ -206,7 +206,7 @@ fn turns_of_another_worker(rt: HostRuntime) {
 }
 
 /// Expects this number of reported polls if one worker plays four chips, and this turn of the last one.
-fn tells_polls<R: Threads + Wait + Sync + Abort + AllocGlobal>(
+fn reports_polls<R: Threads + Wait + Sync + Abort + AllocGlobal>(
     rt: &R,
     sharing: Sharing,
     polls: u64,
@@ -214,8 +214,11 @@ fn tells_polls<R: Threads + Wait + Sync + Abort + AllocGlobal>(
 ) {
     let gate = Keeper::new(&Rule::Always);
     ends_by(rt, &FOUR, ONE, sharing, &gate);
-    let told = gate.polls.load(SeqCst);
-    assert!(rt; told == polls, "told of {told} polls, not of {polls}");
+    let reported = gate.polls.load(SeqCst);
+    assert!(rt;
+        reported == polls,
+        "{reported} polls are reported, not {polls}"
+    );
     assert!(rt; gate.last_turn.load(SeqCst) == last_turn);
     assert!(rt; gate.most.load(SeqCst) == 1);
 }
@@ -224,9 +227,9 @@ fn tells_polls<R: Threads + Wait + Sync + Abort + AllocGlobal>(
 /// message, after which the root is closed. With a queue the six polls before are reported. If the actors are dealt
 /// out, it polls after each round of three turns: two polls are reported, and the third finds the root closed.
 #[test]
-fn polls_are_told(rt: HostRuntime) {
-    tells_polls(&rt, Sharing::Queue, 6, 5);
-    tells_polls(&rt, Sharing::Dealt, 2, 5);
+fn polls_are_reported(rt: HostRuntime) {
+    reports_polls(&rt, Sharing::Queue, 6, 5);
+    reports_polls(&rt, Sharing::Dealt, 2, 5);
 }
 
 /// Gates that are shut at once.

@@ -20,7 +20,7 @@ fn play(rt: &(impl AllocGlobal + Abort), game: &Game) -> Box<(Told, Outcome)> {
 
 /// On a path of 2,048 vertices a search makes more visits than lie between two reports of its progress.
 #[test]
-fn a_search_is_told_of(rt: HostRuntime) {
+fn a_search_is_reported(rt: HostRuntime) {
     let game = heap(&rt, 2_047, 2_000, 1 << 40);
     let (told, _outcome) = Box::into_inner(play(&rt, &game));
     assert!(rt; told.most_to_move > 0);

@@ -387,7 +387,7 @@ fn a_slow_reader_is_read_to_its_end(rt: HostRuntime) {
 }
 
 #[test]
-fn a_source_tells_the_reads_to_the_end(rt: HostRuntime) {
+fn a_source_reports_the_reads_to_the_end(rt: HostRuntime) {
     let mut slow = Slow::new(b"abc", None);
     let mut source = Source::new(&mut slow);
     assert!(rt; source.reads() == 0 && source.last_read() == LastRead::NotYet);
@@ -398,7 +398,7 @@ fn a_source_tells_the_reads_to_the_end(rt: HostRuntime) {
 }
 
 #[test]
-fn a_source_tells_the_reads_to_a_failed_one(rt: HostRuntime) {
+fn a_source_reports_the_reads_to_a_failed_one(rt: HostRuntime) {
     let mut slow = Slow::new(b"abc", Some(2));
     let mut source = Source::new(&mut slow);
     let found = read_source(rt.alloc(), Limits::standard(), &mut source).err();
@@ -407,8 +407,8 @@ fn a_source_tells_the_reads_to_a_failed_one(rt: HostRuntime) {
     assert!(rt; slow.reads == 3);
 }
 
-/// Whether a source of `bytes` bytes counted one read for each, and the last one went so.
-fn tells(source: &Source<'_, Slow<'_>>, bytes: usize, last: LastRead) -> bool {
+/// Whether a source of `bytes` bytes counted one read for each, and its last read ended so.
+fn has_counted(source: &Source<'_, Slow<'_>>, bytes: usize, last: LastRead) -> bool {
     source.reads() == (bytes as u64).saturating_add(1) && source.last_read() == last
 }
 
@@ -444,26 +444,26 @@ fn fault_of_source(
 }
 
 #[test]
-fn a_source_tells_the_reads_of_each_kind_of_text(rt: HostRuntime) {
+fn a_source_reports_the_reads_of_each_kind_of_text(rt: HostRuntime) {
     for (kind, text) in TEXTS.iter().enumerate() {
         let mut slow = Slow::new(text.as_bytes(), None);
         let mut source = Source::new(&mut slow);
         let found = fault_of_source(rt.alloc(), &mut source, kind);
         assert!(rt;
-            found == None && tells(&source, text.len(), LastRead::End),
+            found == None && has_counted(&source, text.len(), LastRead::End),
             "{text}"
         );
     }
 }
 
 #[test]
-fn a_source_tells_a_failed_read_of_each_kind_of_text(rt: HostRuntime) {
+fn a_source_reports_a_failed_read_of_each_kind_of_text(rt: HostRuntime) {
     for (kind, text) in TEXTS.iter().enumerate() {
         let mut slow = Slow::new(text.as_bytes(), Some(9));
         let mut source = Source::new(&mut slow);
         let found = fault_of_source(rt.alloc(), &mut source, kind);
         assert!(rt;
-            found == Some(FileFault::Read) && tells(&source, 9, LastRead::Failure),
+            found == Some(FileFault::Read) && has_counted(&source, 9, LastRead::Failure),
             "{text}"
         );
     }
@@ -478,7 +478,7 @@ fn texts_of_events_and_runs(rt: HostRuntime) {
 }
 
 #[test]
-fn a_failing_read_of_a_graph_is_told(rt: HostRuntime) {
+fn a_failing_read_of_a_graph_is_reported(rt: HostRuntime) {
     for read in 0..=TRIANGLE.len() {
         let mut slow = Slow::new(TRIANGLE.as_bytes(), Some(read));
         let found = read_graph(rt.alloc(), &mut slow).err();
@@ -488,7 +488,7 @@ fn a_failing_read_of_a_graph_is_told(rt: HostRuntime) {
 }
 
 #[test]
-fn a_failing_read_of_chips_is_told(rt: HostRuntime) {
+fn a_failing_read_of_chips_is_reported(rt: HostRuntime) {
     let rows = b"vertex,chips\n2\n3,3\n";
     for read in 0..=rows.len() {
         let mut slow = Slow::new(rows, Some(read));

@@ -254,7 +254,7 @@ fn a_slow_reader_gives_the_same_runs(rt: HostRuntime) {
 }
 
 #[test]
-fn a_failing_read_of_a_schedule_is_told(rt: HostRuntime) {
+fn a_failing_read_of_a_schedule_is_reported(rt: HostRuntime) {
     for read in 0..=SEALED_HALF_WAY.len() {
         let found = events_read_slowly(rt.alloc(), Some(read)).err();
         assert!(rt; found == Some(FileFault::Read), "{found:?}");
@@ -262,7 +262,7 @@ fn a_failing_read_of_a_schedule_is_told(rt: HostRuntime) {
 }
 
 #[test]
-fn a_failing_read_of_runs_is_told(rt: HostRuntime) {
+fn a_failing_read_of_runs_is_reported(rt: HostRuntime) {
     for read in 0..=RECORDED.len() {
         let found = runs_read_slowly(rt.alloc(), Some(read)).err();
         assert!(rt; found == Some(FileFault::Read), "{found:?}");

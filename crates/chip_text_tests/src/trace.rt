@@ -111,7 +111,7 @@ const TWICE: &[TraceRow] = &[
 ];
 
 #[test]
-fn tells_what_is_left(rt: HostRuntime) {
+fn reports_what_is_left(rt: HostRuntime) {
     leaves(&rt, 1 << 40, &[FIRST, SECOND, SINK], &[]);
     leaves(&rt, 1 << 40, &[&[], &[], &[]], &[messages(4, 1)]);
     // two of its four chips are enough for one more firing
@@ -273,7 +273,7 @@ fn writes_a_long_run(rt: HostRuntime) {
 
 /// A writer that takes nothing.
 #[test]
-fn tells_a_write_that_failed(rt: HostRuntime) {
+fn reports_a_write_that_failed(rt: HostRuntime) {
     let mut full = Faulty::new(&rt, 0, false, true);
     let told = write_trace(rt.alloc(), &[&[fire(1)]], &mut full);
     assert!(rt; told == Err(TraceFault::Write));

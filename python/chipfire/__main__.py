@@ -12,8 +12,8 @@
     python -m chipfire board
 
 DETECTOR is a name or FILE.py:CLASS. `explore` ends with status 0 if the detector is right in all schedules of this game,
-2 if it can close the root too early, 3 if it can miss the end, 4 if there are more states than --most, and 5 if it looks
-at others; with 2, 3 and 5 a schedule shows it. `grade` ends with 0 if all classes are right on its games, 2 if one is
+2 if it can close the root too early, 3 if it can miss the end, 4 if there are more states than --most, and 5 if it reads
+other vertices; with 2, 3 and 5 a schedule shows it. `grade` ends with 0 if all classes are right on its games, 2 if one is
 wrong, and 4 if one is not decided or cannot be run. `judge` ends with 0 if all claims of the log are true, 2 if one is
 false, and 3 if the log misses the end; with LOG alone it is the program's `judge`. `board` opens the page beside the program
 on which sandpiles are played. An error is 1.
@@ -375,7 +375,7 @@ def _add_limits(command: argparse.ArgumentParser, limit: int | None, ring: int |
 
 
 def _add_looks(command: argparse.ArgumentParser) -> None:
-    """The options of how a page looks."""
+    """The options for the style of a page."""
     command.add_argument("--title", metavar="TEXT", help="what stands above the page")
     says = "where the vertices stand: rows vertex,right,down"
     command.add_argument("--positions", metavar="FILE", help=says)

@@ -239,7 +239,7 @@ class AsArray:
 
 
 class WithArea:
-    """What has the numbers of different vertices that fired, as `extent`."""
+    """A result with the numbers of different vertices that fired, as `extent`."""
 
     extent: Any
 

@@ -320,7 +320,7 @@ class Knowledge(unittest.TestCase):
     def test_what_is_said(self):
         found = chipfire.explore(PAIR, students.RootReads)
         self.assertEqual(found.status, 5)
-        self.assertRegex(str(found), "^not local: after [0-9]+ events the root is closed, and no message told it that vertex")
+        self.assertRegex(str(found), "^not local: after [0-9]+ events the root is closed, and no message reported that vertex")
         log = chipfire.model_log(PAIR, students.RootReads, found.not_local)
         self.assertIs(chipfire.judge_log(log).is_right, False)
 

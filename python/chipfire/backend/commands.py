@@ -238,7 +238,7 @@ def plain(
 ) -> Report:
     """Stabilizes chips on one thread.
 
-    It plays until no vertex can fire, or until all that can have fired `limit` times.
+    It plays until no vertex can fire, or each vertex that can has already fired `limit` times.
 
     Parameters
     ----------
@@ -249,8 +249,8 @@ def plain(
     limit : int, optional
         How often each vertex may fire, from 0 to 2^40, which is the default.
     guess : Chips or Report, optional
-        How often each vertex may have fired in the end. It changes no result. One that is nearly right saves most of
-        the play.
+        An initial guess of how often each vertex fires. It changes no result, and a nearly right one saves most of the
+        play.
     progress : bool, optional
         Whether progress is shown, by tqdm or in lines on `sys.stderr`: how often vertices have fired so far. With a
         guess that is shown at the end.
@@ -455,16 +455,16 @@ def drops(
     fired : bool, optional
         Whether to return which vertices each drop fires, and how often. This takes the library and NumPy.
     durations : bool, optional
-        Whether to return for how many rounds each drop lasts, in each of which each legal vertex fires once. This takes
-        the library. A vertex with many chips fires one time after another then. An interrupt that finds a long drop is
-        raised within a second; a thread ends the drop, and nobody gets what comes of it.
+        Whether to return the duration of each drop: its number of rounds, in each of which every legal vertex fires
+        once. This takes the library. An interrupt during a long drop is raised within a second; a thread finishes the
+        drop, and its result is discarded.
     progress : bool or callable, optional
         True shows how many of the drops are made, by tqdm or in lines on `sys.stderr`. A function is called with the
         number made and of all. A program that is asked writes lines, and calls no function.
     partial : bool, optional
         Whether an interrupt returns the drops that were made until then, in place of KeyboardInterrupt, as in `chains`.
-        This takes the library. The drops of the call that it finds, which was to take a tenth of a second, may not be
-        there. One that comes while the chips at the start are stabilized is raised, and so is a second one.
+        This takes the library. The drops of the library's last call, about a tenth of a second of them, may be missing.
+        An interrupt while the chips at the start are stabilized is raised, and so is a second one.
     program : path, optional
         The program to ask. By default the one that is found.
 
@@ -770,7 +770,8 @@ def replay(
 
     Notes
     -----
-    Proved: that the order is one, and that there is none if fault 70 is raised. Not proved: that Python passes it on.
+    Proved: that all rows fit together in this order, and in none if fault 70 is raised. Not proved: that Python passes
+    it on.
 
     Examples
     --------
@@ -939,7 +940,7 @@ def identity(graph: AnyGraph, *, program: AnyProgram = None) -> Configuration:
 
     Notes
     -----
-    Proved: the identity, if the library finds it in one call. If that is no short play, or without the library, the
+    Proved: the identity, if the library finds it in one call. For a long play, or without the library, the
     stabilizations are proved. Not proved: that the identity is passed on, or else the difference between the
     stabilizations.
 
@@ -1046,7 +1047,7 @@ def _method(function: Callable[P, T]) -> Callable[Concatenate[Program, P], T]:
 
 
 class Program:
-    """The program of a name, or the one that is found, with its commands as methods.
+    """A program by its name, or the one that is found, with its commands as methods.
 
     Each call starts the program. An option that is None is left out, so the program's own value stands.
 

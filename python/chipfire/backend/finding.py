@@ -1,7 +1,7 @@
 """Where the program is, and which version the package and a clone of the repository have.
 
-The head of the package says in which order the program is looked for. What the user names, by CHIPFIRE or the PATH,
-and what the package carries is started as it is. A clone is found by other means, so its program is started, and
+The head of the package gives the order in which places are searched. What the user names, by CHIPFIRE or the PATH, and
+what the package carries is started as it is. A clone is found by other means, so its program is started, and
 `./chipfire` in it run, only if nobody but this user and root can change what lies there (`chipfire.trust`).
 """
 
@@ -56,7 +56,7 @@ _ELSEWHERE = (
 
 
 class ProgramNotFound(FileNotFoundError):
-    """There is no program chipfire in any place where one is looked for, or it cannot be started.
+    """The program chipfire is in none of the searched places, or it cannot be started.
 
     See Also
     --------
@@ -236,7 +236,7 @@ def _found(is_asked: bool) -> str:
 
 
 def find_program() -> str:
-    """The program's file; the head of the package says in which order it is looked for."""
+    """The program's file; the head of the package gives the order in which places are searched."""
     try:
         return _found(is_asked=True)
     except ProgramNotFound as why:

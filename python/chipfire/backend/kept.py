@@ -187,7 +187,7 @@ class KeptPile:
         return int(self._found.chipfire_pile_play(self._at, visits, self._words[0]))
 
     def drop(self, vertex: int, amount: int) -> int:
-        """A drop, whose numbers `told` has then."""
+        """Makes a drop, after which `told` has its numbers."""
         if amount > self.light:
             return self.pour(vertex, amount)[0]
         number = self._dropped(vertex, amount)

@@ -396,8 +396,8 @@ def avalanches(
 ) -> None:
     """Drops `amounts` of chips on the vertices `at`, one after another, on `chips`, which gets what lies there then.
 
-    `sizes`, `extents` and `losts` get the numbers of each drop, as `Drops` has them. The limit is that of all firings
-    of a vertex; if it stops the play of a drop, that is fault 13."""
+    `sizes`, `extents` and `losts` get the numbers of each drop, as `Drops` has them. The limit counts all firings of a
+    vertex; if it stops the play of a drop, that is fault 13."""
     rows = {"sizes": sizes, "extents": extents, "losts": losts}
     _call_on("chipfire_avalanches", graph, limit, at=at, amounts=amounts, chips=chips, **rows)
 

@@ -17,7 +17,7 @@ _KEY = operator.attrgetter("chips", "fired", "over", "sealed", "prior")
 
 @dataclass(frozen=True, repr=False, eq=False)
 class Report(Drawn):
-    """How a play stands at its end: what `plain`, `run` and `resume` return, and a simulation whose root closed.
+    """The end of a play: the result of `plain`, `run` and `resume`, and of a simulation whose root closed.
 
     Attributes
     ----------
@@ -29,7 +29,7 @@ class Report(Drawn):
         The numbers of the vertices that can fire and fired as often as the limit allows. A call that takes names
         refuses these numbers, if the graph has other names.
     sealed : tuple of int
-        The numbers, likewise, of the other vertices that stopped because an edge was sealed.
+        The numbers of the other vertices that stopped because an edge was sealed.
     prior : tuple of int or None
         How often each vertex fired in the stages before, by numbers, or None in a report of the first one.
     graph : Graph or None

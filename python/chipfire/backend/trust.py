@@ -125,7 +125,7 @@ def doubt(path: str, top: str | None = None) -> str | None:
     rename or remove there what these two own. In `top` and below it others could add files, so none of its folders may
     be. If `top` is not said, it is the folder that the file lies in.
 
-    What is found so stays so: who can write to nothing on the way changes nothing between this look and its use.
+    The result holds until the path is used: who can write to nothing on the way changes nothing there.
 
     Lists of access (POSIX ACLs) are not read. If one lets others write, the file's group is shown as one that may
     write, which is in doubt if it is not the user's own."""

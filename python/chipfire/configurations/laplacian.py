@@ -20,7 +20,7 @@ def laplacian(graph: AnyGraph, *, sparse: bool) -> Any:
 
 
 def laplacian(graph: AnyGraph, *, sparse: bool = False) -> Any:
-    """Returns the Laplacian: the degree of each vertex on the diagonal, less the chips that it sends to each other one.
+    """Returns the Laplacian: degrees on the diagonal, and elsewhere minus the chips that one vertex sends to another.
 
     Parameters
     ----------

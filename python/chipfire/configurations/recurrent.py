@@ -52,8 +52,8 @@ def burning_script(graph: AnyGraph, *, program: AnyProgram = None) -> Configurat
     The script is due to Speer [1]_. It is one more than the odometer of the play that begins with one chip less on
     each vertex than edges lead into it.
 
-    Proved: the script, if the library finds it in one call. If that is no short play, or without the library, the
-    counts of a play are proved. Not proved: that the script is passed on.
+    Proved: the script, if the library finds it in one call. For a long play, or without the library, the counts of a
+    play are proved. Not proved: that the script is passed on.
 
     References
     ----------
@@ -71,7 +71,7 @@ def burning_script(graph: AnyGraph, *, program: AnyProgram = None) -> Configurat
 def burning_configuration(graph: AnyGraph, *, program: AnyProgram = None) -> Configuration:
     """Returns the chips that the burning script takes away.
 
-    Added to a recurrent configuration and stabilized, that comes back.
+    Its sum with a recurrent configuration stabilizes to that configuration.
 
     Parameters
     ----------
@@ -239,11 +239,11 @@ def recurrent_representative(
 
     Notes
     -----
-    To chips below 0 Python adds a configuration equivalent to zero until none is below 0.
+    While some chips are below 0, Python adds a configuration equivalent to zero.
 
-    Proved: the rest, if the library finds it in one call. If that is no short play, or without the library, the
-    identity is added, the stable sum is tested, and the stabilizations are proved. Not proved: that the chips are
-    lifted right, and passed on.
+    Proved: the rest, if the library finds it in one call. For a long play, or without the library, the identity is
+    added, the stable sum is tested, and the stabilizations are proved. Not proved: that the chips are lifted right, and
+    passed on.
 
     Examples
     --------
@@ -285,7 +285,7 @@ def superstable_representative(
 
     Notes
     -----
-    With `m` the maximal stable configuration, it is `m` less the recurrent representative of `m` less this one.
+    With `m` the maximal stable configuration, it is `m` minus the recurrent representative of `m` minus this one.
 
     Proved: what is proved of `recurrent_representative`. Not proved: that the chips are lifted right, and passed on;
     and where the library does not find it in one call, the two differences.
@@ -331,9 +331,9 @@ def inverse(graph: AnyGraph, chips: Chips, *, program: AnyProgram = None) -> Con
 
     Notes
     -----
-    Proved: the inverse, if no chips are below 0 and the library finds it in one call. If that is no short play, or
-    without the library, it is the representative of 0 less the chips, and the stabilizations are proved.
-    Not proved: that chips below 0 are lifted right, and that the inverse is passed on.
+    Proved: the inverse, if no chips are below 0 and the library finds it in one call. For a long play, or without the
+    library, it is the representative of 0 minus the chips, and the stabilizations are proved. Not proved: that chips
+    below 0 are lifted right, and that the inverse is passed on.
 
     Examples
     --------
@@ -379,7 +379,7 @@ def is_superstable(graph: AnyGraph, chips: Chips, *, program: AnyProgram = None)
 
     Notes
     -----
-    A configuration is superstable exactly if the maximal stable one, less this one, is recurrent.
+    A configuration is superstable exactly if the maximal stable one minus this one is recurrent.
 
     Proved: what is proved of `is_recurrent`. Not proved: what is not proved there, and the difference.
 

@@ -43,7 +43,7 @@ def tutte_polynomial(
     graph : Graph or path
         An undirected graph, or the name of its file.
     most : int, optional
-        How many different minors with one number of vertices there may be. They are counted first, which takes
+        The most different minors with the same number of vertices to allow. They are counted first, which takes
         seconds.
     progress : bool or callable, optional
         True shows how many minors are done, by tqdm or in lines. A function is called with the number done and of
@@ -65,8 +65,8 @@ def tutte_polynomial(
 
     Notes
     -----
-    The edges of one vertex after the other are deleted and contracted, and minors that come out the same are one. A
-    complete graph of 8 vertices takes 0.01 s, and 4 by 4 squares 1 s.
+    The edges of one vertex after the other are deleted and contracted, and equal minors are merged. A complete graph of
+    8 vertices takes 0.01 s, and 4 by 4 squares 1 s.
 
     Ctrl-C ends a call at once. The next call on the same graph goes on after the last vertex that was taken out.
 
@@ -91,14 +91,14 @@ def level_polynomial(
 ) -> dict[int, int]:
     """Returns how many recurrent configurations have each level.
 
-    The level of a configuration is the number of its chips, less the least number that a recurrent one has.
+    The level of a configuration is the number of its chips, minus the least number that a recurrent one has.
 
     Parameters
     ----------
     graph : Graph or path
         The graph, or the name of its file.
     most : int, optional
-        How many recurrent configurations of a directed graph, or minors of an undirected one, there may be.
+        The most recurrent configurations of a directed graph, or minors of an undirected one, to allow.
     program : path, optional
         The program to ask. By default the one that is found.
     progress : bool or callable, optional
@@ -121,8 +121,8 @@ def level_polynomial(
 
     Notes
     -----
-    On an undirected graph it is the Tutte polynomial at x = 1, by Merino [1]_, and found by deleting and contracting.
-    On others all recurrent configurations are visited. Loops are left out.
+    On an undirected graph it is the Tutte polynomial at x = 1, by Merino [1]_, and is found by deletion and
+    contraction. On others all recurrent configurations are visited. Loops are left out.
 
     Nothing of this is proved but the burning script of a directed graph.
 
@@ -177,7 +177,7 @@ def avalanche_polynomial(
 ) -> dict[int, int] | dict[tuple[int, ...], int]:
     """Returns how many avalanches have each size, over all recurrent configurations and all vertices.
 
-    Each avalanche is that of one chip which is dropped on a vertex of a recurrent configuration.
+    Each avalanche is caused by one chip, dropped on a vertex of a recurrent configuration.
 
     Parameters
     ----------
@@ -186,7 +186,7 @@ def avalanche_polynomial(
     multivariable : bool, optional
         Whether to count avalanches by their odometers in place of their sizes.
     most : int, optional
-        How many recurrent configurations there may be.
+        The most recurrent configurations to allow.
     program : path, optional
         The program to ask. By default the one that is found.
 
@@ -207,7 +207,7 @@ def avalanche_polynomial(
 
     Notes
     -----
-    Proved: the play that each chip causes. Not proved: that these are all, and the sums.
+    Proved: the play that each chip causes. Not proved: that these are all avalanches, and the sums.
 
     Examples
     --------

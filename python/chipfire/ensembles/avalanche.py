@@ -73,7 +73,7 @@ def random_drops(
 
 @dataclass(frozen=True, eq=False)
 class Avalanche(WithArea):
-    """What one chip causes that is dropped on a stable configuration.
+    """The avalanche of one chip dropped on a stable configuration.
 
     Attributes
     ----------
@@ -179,7 +179,7 @@ def avalanches(
     chips : Chips
         A stable configuration, on which the first chip falls.
     vertices : iterable of hashable
-        The names of the vertices on which chips fall. They are drawn as avalanches are asked for.
+        The names of the vertices on which chips fall. Each is read when its avalanche is asked for.
     program : path, optional
         The program to ask. By default the one that is found.
 
@@ -201,7 +201,7 @@ def avalanches(
 
     Notes
     -----
-    `drops` returns the numbers of all avalanches in columns, and sooner.
+    `drops` returns the numbers of all avalanches in columns, and is faster.
 
     Proved: the play that each chip causes, and its numbers. Not proved: that Python passes them on.
 

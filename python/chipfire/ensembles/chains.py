@@ -84,9 +84,9 @@ class Chains(WithArea):
     first : int
         The number of the first chain of that seed.
     duration : array of shape (n, drops) or None
-        For how many rounds each drop lasts, in each of which each legal vertex fires once, if that was asked for.
+        The number of rounds of each drop, in each of which every legal vertex fires once, if that was asked for.
     burn_in : int
-        How many chips played the start of each chain in; 0 if starts were given or drawn.
+        How many chips were dropped on each start before the first drop; 0 if starts were given or drawn.
 
     See Also
     --------
@@ -283,8 +283,8 @@ def chains(
     """Drops chips on random vertices in many independent chains.
 
     Each chain has a seed of its own and `drops` drops, each on what the avalanche of the one before it left. Chains
-    have numbers from `first` on. The seed and its number determine a chain, not the
-    others or who plays it.
+    have numbers from `first` on. A chain depends on `seed` and its number alone: not on other chains, nor on the
+    threads that play it.
 
     Parameters
     ----------
@@ -301,14 +301,14 @@ def chains(
         The number of the first chain.
     chips : Chips, or array of shape (n, vertices) or (n, vertices - 1), optional
         The start of all chains, or of each of them. By default each begins with a `random_recurrent` configuration of
-        its own, from which on the drops are stationary. None can be drawn on a directed graph: there each begins with
-        the greatest stable configuration, which is recurrent, and is played in.
+        its own, from which on the drops are stationary. On a directed graph none can be drawn: each chain begins there
+        with the maximal stable configuration, which is recurrent, and a burn-in.
     burn_in : int, optional
-        How many chips play each start in. They fall before the first drop, each on any vertex, the sink too, drawn
-        evenly: ``random.Random(seeds[k] + " burn-in").choices(range(graph.vertices), k=burn_in)`` has their numbers in
-        chain k. By default there are none, but on a directed graph without `chips` twice as many as the vertices times
-        the square of the most chips that a vertex sends. By a bound on the eigenvalues of such drops, each part of the
-        difference between the distribution of starts and the uniform one shrinks to less than 0.0004 of itself.
+        How many chips are dropped on each start before the first drop, each on any vertex, the sink too, drawn evenly:
+        ``random.Random(seeds[k] + " burn-in").choices(range(graph.vertices), k=burn_in)`` has their numbers in chain k.
+        By default 0; on a directed graph without `chips`, twice the number of vertices times the square of the largest
+        degree. By a bound on the eigenvalues of such drops, each part of the difference between the distribution of
+        starts and the uniform one shrinks to less than 0.0004 of itself.
     on : iterable of hashable, or mapping of names to weights, optional
         The vertices on which chips fall. By default all but the sink, alike.
     amounts : int or sequence of int, optional
@@ -321,8 +321,8 @@ def chains(
     fired : bool, optional
         Whether to return which vertices each drop fires. This takes NumPy.
     durations : bool, optional
-        Whether to return for how many rounds each drop lasts. It is played in rounds then, in which a vertex with many
-        chips fires one time after another.
+        Whether to return the number of rounds of each drop. Drops are then played in rounds, in each of which every
+        legal vertex fires once.
     until : {"loss", "spans"}, optional
         Ends a chain with the first drop that loses a chip to the sink, or whose firings touch two opposite borders of
         a grid of two directions. This takes NumPy. "spans" does not know which borders are joined.
@@ -330,17 +330,17 @@ def chains(
         Whether to return a number for each drop, or histograms alone, whose memory does not grow with the drops, unless
         `amounts` has a number for each. Histograms go with none of `fired`, `until` and `checkpoint`.
     progress : bool or callable, optional
-        True shows progress by tqdm or in lines. A function is called with the number of drops made and of all. In the
-        end all are said to be made, those too that `until` has left out.
+        True shows progress by tqdm or in lines. A function is called with the number of drops made and of all. At the
+        end all count as made, also those that `until` left out.
     checkpoint : path, optional
         A file to which parts are written as they are done. Another call with the same arguments, or with more chains,
-        goes on from it. Its numbers are believed, so nobody else should be able to write to it.
+        goes on from it. Its numbers are trusted, so nobody else should be able to write to it.
     partial : bool, optional
         Whether an interrupt returns what was made until then, in place of KeyboardInterrupt. Both come within about a
-        second. A long drop, and those of the same call of the library, which were to take a tenth of a second, are not
-        there if they have not ended by then: a thread ends them, and nobody gets what comes of them. Chains that had
-        not begun have the chips of their starts, which are drawn then if need be, and not played in. If that takes longer
-        and no drop was made, the interrupt is raised. So is a second one.
+        second. A long drop, and others of the same call of the library, are missing if they have not ended by then: a
+        thread finishes them, and their results are discarded. Chains that had not begun have the chips of their starts,
+        without a burn-in; if drawing them takes longer and no drop was made, the interrupt is raised. So is a second
+        one.
 
     Returns
     -------

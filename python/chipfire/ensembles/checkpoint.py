@@ -16,7 +16,7 @@ from chipfire.ensembles.firings import drops_of, joined, ordered
 from chipfire.ensembles.player import Plan, spanning, Table
 from chipfire.utils import FileName, import_optional
 
-#: How SQLite tells these files from those of other programs, and their version.
+#: The numbers by which SQLite knows these files from those of other programs, and their version.
 _APPLICATION = 0x63686970
 _VERSION = 2
 

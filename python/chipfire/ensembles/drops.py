@@ -61,7 +61,7 @@ class Drops(WithArea):
     fired : Firings or None
         Which vertices each drop fired, if that was asked for.
     duration : array of shape (n,) or None
-        For how many rounds each drop lasts, in each of which each legal vertex fires once, if that was asked for.
+        The number of rounds of each drop, in each of which every legal vertex fires once, if that was asked for.
 
     See Also
     --------
@@ -69,7 +69,7 @@ class Drops(WithArea):
 
     Notes
     -----
-    If a vertex has fired 2^40 times in all, that stops the play of a drop. This drop is the last, and has no row;
+    A vertex that has fired 2^40 times in all stops the play of a drop. This drop is the last, and has no row;
     `report.closed` is then false.
 
     Proved: each row, and the report. Not proved: that Python passes them on, and the histogram.

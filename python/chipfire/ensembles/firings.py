@@ -300,7 +300,7 @@ def ends_run(until: kept.Until, room: Room | None, columns: Sequence[Any], made:
 
 
 def _light(amounts: Any, most: int) -> int:
-    """How many drops of at most so many chips come before one of more."""
+    """How many drops of at most `most` chips come before one of more."""
     if amounts[0] > most:
         return 0
     numpy = numpy_in_use()

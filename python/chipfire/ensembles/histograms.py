@@ -41,7 +41,7 @@ class Histograms(WithArea):
     duration : list of Counter or None
         For each chain how many drops last for each number of rounds, if durations were asked for. `sums` have them too.
     burn_in : int
-        How many chips played the start of each chain in, as in `Chains`.
+        How many chips were dropped on each start before the first drop, as in `Chains`.
 
     See Also
     --------
@@ -173,7 +173,7 @@ def _histograms_of(said: dict[str, Any], arrays: dict[str, Any]) -> Histograms:
 
 
 def histograms(plan: Plan, tally: Tally, made: Any, chips: Any) -> Histograms:
-    """The histograms of a tally, whose chains made so many drops, and have these chips with those of loops."""
+    """The histograms of a tally, by the number of drops that each chain made, and its chips with those of loops."""
     names = TIMED_COLUMNS if plan.timed else COLUMNS
     size, extent, lost, *timed = ([*its] for its in zip(*tally.counts))
     sums = {pair: [its[at] for its in tally.sums] for at, pair in enumerate(pairs_of(names))}
@@ -208,7 +208,7 @@ def following(one: Any, other: Any) -> dict[str, Any]:
 
 
 def played_in(burn_in: int) -> str:
-    """What a title says of starts that so many chips play in; nothing if there are none."""
+    """What a title says of starts that chips of a burn-in play in; nothing if there are none."""
     return f", starts played in by {burn_in:,} chips" if burn_in else ""
 
 

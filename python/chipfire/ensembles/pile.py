@@ -77,10 +77,10 @@ class Pile:
 
     Notes
     -----
-    The library keeps the pile in this process, if it is there, and plays in portions, between which an interrupt is
-    seen; after one that ends a drop, or many of them, the pile is as it was before. Without the library the program plays,
-    with the same results. Threads may share a pile: one call waits for another. A forked child goes on with a pile of its own. A copy and a
-    pickle have graph, chips, counts and limit.
+    The library, if it is there, keeps the pile in this process and plays in portions. An interrupt is seen between two,
+    and leaves the pile as it was before the call. Without the library the program plays, with the same results. Threads
+    may share a pile: one call waits for another. A forked child goes on with a pile of its own. A copy and a pickle
+    have graph, chips, counts and limit.
 
     Proved: the chips, the counts and the numbers of each drop. Not proved: that Python passes them on, and adds.
 

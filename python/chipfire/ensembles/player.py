@@ -50,7 +50,7 @@ class Places:
     weights: tuple[float, ...] | None = None
 
     def drawn(self, draw: random.Random, count: int) -> list[int]:
-        """So many of them, as `random.Random.choices` draws."""
+        """`count` of them, as `random.Random.choices` draws."""
         return draw.choices(self.vertices, cum_weights=self.weights, k=count)
 
     def at(self, chances: Any) -> Any:
@@ -177,7 +177,7 @@ class Table:
         return memoryview(self.chips)[chain * self.width : (chain + 1) * self.width]
 
     def rows(self, count: int) -> list[Any]:
-        """Where the numbers of so many drops stand until they are taken, by columns."""
+        """Room by columns for the numbers of `count` drops until they are taken."""
         return [_zeros(count) for _ in self.columns]
 
     def add(self, chain: int, rows: list[Any], made: int) -> None:
@@ -256,7 +256,7 @@ class Tally:
         return memoryview(self.chips)[chain * self.width : (chain + 1) * self.width]
 
     def rows(self, count: int) -> list[Any]:
-        """Where the numbers of so many drops stand until they are counted, by columns."""
+        """Room by columns for the numbers of `count` drops until they are counted."""
         return [_zeros(count) for _ in self.counts[0]]
 
     def add(self, chain: int, rows: list[Any], made: int) -> None:
@@ -291,7 +291,7 @@ def _copy(numbers: Any, given: Any) -> None:
 
 
 def _zeros(count: int) -> Any:
-    """So many numbers of 64 bits: of NumPy, which takes memory as it is written, or the standard library's."""
+    """`count` zeros of 64 bits: of NumPy, which takes memory as it is written, or the standard library's."""
     numpy = import_optional("numpy")
     return numpy.zeros(count, "u8") if numpy else array("Q", bytes(8 * count))
 

@@ -34,12 +34,12 @@ _GAUSS = [(0.0, 128 / 225)] + [
 
 
 class PowerLaw(NamedTuple):
-    """A discrete power law: a size from `least` to `most` has a probability that goes with ``size ** -exponent``.
+    """A discrete power law: from `least` to `most` the probability of a size is proportional to ``size ** -exponent``.
 
     Attributes
     ----------
     exponent : float
-        The exponent by which the sizes that were seen are the most probable.
+        The exponent by which the observed sizes are the most probable.
     error : float
         Its standard error, if sizes do not depend on one another.
     least, most : int
@@ -49,7 +49,7 @@ class PowerLaw(NamedTuple):
     distance : float or None
         The distance of Kolmogorov and Smirnov between the sizes and the law, if it was asked for.
     p_value : float or None
-        The share of samples from the law whose distance is not less, if there were trials.
+        The share of samples from the law whose distance is at least as large, if there were trials.
 
     See Also
     --------
@@ -87,14 +87,13 @@ def power_law(
     Parameters
     ----------
     sizes : iterable of int, or mapping of int to int
-        The sizes one by one, or a histogram. Sizes out of the range are left out, as those of 0 are. Two at least
-        differ.
+        The sizes one by one, or a histogram. Sizes of 0 and out of the range are left out. At least two differ.
     least : int or "best", optional
-        The least size of the range, 1 or more. The "best" one is that whose law has the least distance of Kolmogorov
-        and Smirnov to the sizes, among up to 64 of those that were seen. The range of each is a decade at least, if
-        there is one. This takes NumPy.
+        The least size of the range, 1 or more. With "best" up to 64 of the observed sizes are tried, and the one whose
+        law has the least Kolmogorov-Smirnov distance is taken. The range of each is at least a decade, if there is one.
+        This takes NumPy.
     most : int, optional
-        The largest size of the range. By default the largest that was seen. The range has up to 10,000,000 sizes.
+        The largest size of the range. By default the largest observed one. The range has up to 10,000,000 sizes.
     trials : int, optional
         How many samples are drawn from the law, and fitted in the same way, for a p-value. This takes NumPy.
     seed : int, optional
@@ -119,8 +118,8 @@ def power_law(
     Notes
     -----
     The border of a grid ends the law of avalanches, so `most` is best far below the largest size. A p-value below 0.1
-    speaks against the law, if there are 100 trials or more [1]_. Below a best least size samples are drawn from what
-    was seen there.
+    speaks against the law, if there are 100 trials or more [1]_. Below a best least size, samples are drawn from the
+    sizes observed there.
 
     Error and p-value are those of sizes that do not depend on one another. Drops of one chain do, so the scatter of the
     exponents of several chains is a better error.
@@ -290,8 +289,7 @@ def plot_sizes(
     Returns
     -------
     matplotlib.axes.Axes
-        The axes. Each point has the sizes from a power of 2 up to the next, and is at the number of them for each
-        size.
+        The axes. Each point stands for the sizes from a power of 2 up to the next, at their mean number.
 
     Raises
     ------
@@ -338,7 +336,7 @@ def _draw_sizes(axes: Any, told: Mapping[int, int]) -> None:
             least = 2 ** (bits - 1)
             most = 2**bits - 1
             middles.append(math.sqrt(least * most))
-            heights.append(count / least)  # (there are `least` sizes of so many bits)
+            heights.append(count / least)  # (there are `least` sizes with this number of bits)
     axes.loglog(middles, heights, "o")
     axes.set_xlabel("size")
     axes.set_ylabel("how many, for each size")

@@ -18,7 +18,7 @@ _ORDERS = (1.0, 1.25, 1.5, 1.75, 2.0, 2.25, 2.5, 2.75, 3.0)
 
 
 class Moments(NamedTuple):
-    """Means of powers of what drops caused.
+    """Means of powers of a column of drops.
 
     Attributes
     ----------
@@ -198,7 +198,7 @@ def collapse(
     ----------
     sizes : mapping of float to sizes
         For each length its avalanches: sizes one by one, rows of them, or a histogram. Sizes of 0 are left out. There
-        are two lengths at least.
+        are at least two lengths.
     orders : sequence of float, optional
         The orders q of the moments.
 

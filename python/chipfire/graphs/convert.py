@@ -37,8 +37,7 @@ def from_networkx(
     loops : {"drop", "sage"}, optional
         Leaves loops out, or takes them as SageMath does. By default they are refused when something is played.
     weight_scale : int, optional
-        By how much weights are multiplied: 0.25 and ``Fraction(3, 4)`` are taken with 4, and a chip is a quarter
-        then.
+        The factor by which weights are multiplied: 4 takes 0.25 and ``Fraction(3, 4)``, and a chip is a quarter then.
 
     Returns
     -------
@@ -57,9 +56,9 @@ def from_networkx(
     Notes
     -----
     With ``loops="sage"`` a vertex needs one chip more to fire for each loop, or two for an undirected one, and keeps
-    it. The game is then that without loops, with as many chips less on each vertex. Plays, drops and what is stable
-    or recurrent are those of that game; sums, orders, the identity and what is superstable are not. Nothing is played
-    on fewer chips than loops.
+    these. The game is then the one without loops, with that many chips less on each vertex. Plays, drops and what is
+    stable or recurrent are those of that game; sums, orders, the identity and what is superstable are not. Nothing is
+    played on fewer chips than loops.
 
     Nothing of this is proved: Python makes the graph, and each play checks that it is one.
 
@@ -107,7 +106,7 @@ def from_edges(
     loops : {"drop", "sage"}, optional
         Leaves loops out, or takes them as SageMath does, as in `from_networkx`. By default they are refused by plays.
     weight_scale : int, optional
-        By how much weights are multiplied, for rational ones.
+        The factor by which weights are multiplied, for rational ones.
 
     Returns
     -------

@@ -111,7 +111,7 @@ def _checked_loops(loops: Sequence[int], vertices: int, sink: int) -> Sequence[i
 class Graph:
     """A directed multigraph with a sink: the sandpile graph.
 
-    A graph is never changed. A copy and a pickle have what it is made of, and nothing that was found out about it.
+    A graph is never changed. A copy and a pickle have its parameters, and no cached results.
 
     Parameters
     ----------
@@ -131,7 +131,7 @@ class Graph:
     from_sink : sequence of (head, mult) or None, optional
         The edges out of the sink, which only `laplacian` shows. None stands for one back for each edge into it.
     loops : sequence of int, optional
-        How many chips each vertex needs to fire beyond those that it sends, and keeps.
+        How many chips each vertex keeps, and needs to fire beyond those that it sends.
 
     Attributes
     ----------
@@ -141,7 +141,7 @@ class Graph:
     Raises
     ------
     ValueError
-        A number is out of its range, or the names are not one for each vertex and different.
+        A number is out of its range, or the names are not different, one for each vertex.
 
     See Also
     --------

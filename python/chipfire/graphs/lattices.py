@@ -84,11 +84,11 @@ def grid(
     rows, columns : int, optional
         The same sizes by other names: ``grid(rows=height, columns=width)``.
     periodic : bool or sequence of bool, optional
-        The directions whose borders are joined: all, or as said of each, that of the width first. Such a direction
+        The directions whose borders are joined: True for all, or a value for each, the width first. Such a direction
         has at least two vertices.
     loss : int or Chips, optional
         How many more chips a firing dissipates: one number for all vertices, or one for each. If all directions are
-        periodic, some is needed.
+        periodic, some vertex needs one.
     lattice : {"square", "triangular", "hexagonal"}, optional
         The neighbours of a vertex, as in `region`. A hexagonal lattice has an even size in a periodic direction.
 
@@ -226,7 +226,7 @@ def grid_for(chips: int) -> Graph:
     2`` of them, for each e above 0 and some c. Here e is 0 and c is 2. This was tried for all piles of up to 9,000
     chips and some greater ones. A million chips get 801 by 801 squares, and need 729.
 
-    Nothing of this is proved. A report whose sink has no chip says that the grid was large enough.
+    Nothing of this is proved. If a report's sink has no chip, the grid was large enough.
 
     References
     ----------
@@ -284,8 +284,8 @@ def region(mask: Iterable[Iterable[Any]], lattice: str = "square") -> Graph:
     mask : array or iterable of rows of bool
         Which squares are vertices. They are numbered by rows.
     lattice : {"square", "triangular", "hexagonal"}, optional
-        The neighbours of a vertex: 4; 6, also those above to the right and below to the left; or 3, left, right, and
-        below if row and column together are even, else above.
+        The neighbours of a vertex: 4; 6, with those above to the right and below to the left; or 3: left, right, and
+        below if ``row + column`` is even, else above.
 
     Returns
     -------

@@ -79,8 +79,8 @@ class Books:
     process : int, optional
         The number of the process in the log.
     log : file or list, optional
-        What gets a row (process, kind, channel) for `judge_log` at each call. Rows in files have no header. A file
-        stays open until `close`.
+        Gets a row (process, kind, channel) for `judge_log` at each call. Rows in files have no header. A file stays
+        open until `close`.
 
     Raises
     ------

@@ -32,7 +32,7 @@ def choice_page(
     Parameters
     ----------
     detector : str or type
-        A name of `chipfire.detectors.DETECTORS`, or a class. Events of a detector's own have no words on the page.
+        A name of `chipfire.detectors.DETECTORS`, or a class. The page has no words for events of its own.
     file : path
         The page to write, one HTML file that loads nothing.
     setting : Setting, optional
@@ -45,7 +45,7 @@ def choice_page(
     Raises
     ------
     ValueError
-        The game has more than 2,000 states, or the detector is none.
+        The game has more than 2,000 states, or there is no such detector.
 
     See Also
     --------

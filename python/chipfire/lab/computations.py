@@ -20,10 +20,10 @@ Sends = Iterable[tuple[int, Any]]
 class Computation:
     """What the vertices of a graph compute: a base class for computations of your own.
 
-    A vertex is passive until a message comes. It returns messages for its own edges, and may then be at work: it then
-    goes on of itself once all is sent, each time in one of some ways. A state is a vertex of the model. What the
-    computation knows stands in the state's attributes alone, as plain values, and so do loads. A state has the
-    vertex's `number`, and in `outs` its edges; `chips`, `fired`, `halt` and `parent` are the model's.
+    A vertex is passive until a message comes. It returns messages for its own edges, and may stay at work: once all is
+    sent it goes on by itself, each time in one of several ways. A state is a vertex of the model. All that the
+    computation knows is in the state's attributes, as plain values, and so are loads. A state has the vertex's
+    `number`, and in `outs` its edges; `chips`, `fired`, `halt` and `parent` are the model's.
 
     Parameters
     ----------

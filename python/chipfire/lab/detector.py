@@ -241,13 +241,13 @@ class Process:
 class Detector:
     """Detects that processes of your own are over, and sends their messages.
 
-    A message goes to the one inbox that each process has, which never fills up; edges come as they are needed. Each
-    process loops over its messages, and sends others. `begin` sends the first messages, by a root of the detector's
-    own. `wait`, or ``await`` in asyncio, returns when all is over. A refusal is raised in the process, and by `wait`
-    too, if that has not returned yet. In asyncio the detector is made inside the running loop.
+    Each process has one inbox, which never fills up; edges are made as they are needed. Each process loops over its
+    messages, and sends others. `begin` sends the first messages, from a root of the detector's own. `wait`, or
+    ``await`` in asyncio, returns when all is over. A refusal is raised in the process, and by `wait` too, if that has
+    not returned yet. In asyncio the detector is made inside the running loop.
 
     Files of a log are closed when all is over, those of a process of the system when its loop ends. A detector is a
-    context manager: its end, or `close`, closes them before.
+    context manager: its end, or `close`, closes them sooner.
 
     Parameters
     ----------
@@ -257,7 +257,7 @@ class Detector:
         How processes run. With "multiprocessing", or a context of that module, ``detector[name]`` goes to a process
         of the system as an argument, before it is used.
     log : path, optional
-        A folder, which is made, in which each process writes a file of rows; then `check` judges them.
+        A folder to make, in which each process writes a file of rows; `check` judges them.
 
     Raises
     ------

@@ -82,7 +82,7 @@ class Explored:
         if status == MISSED:
             return f"{self._missed(after)} ({among}{'' if self.is_whole else '; the others are not tried'})"
         if status == NOT_LOCAL:
-            return f"not local: {after} the root is closed, and no message told it that {self.unknown} ({among})"
+            return f"not local: {after} the root is closed, and no message reported that {self.unknown} ({among})"
         right = "never too early in any schedule of this game, and the root can always be closed"
         return f"{right}; the detector was not found to read other vertices ({among})"
 

@@ -89,10 +89,10 @@ def explore(
     -----
     Other chips, feeds, seals, limits and rings are not tried, nor messages that are lost, doubled or overtaken. The
     logs of the shortest schedule to each closed root, and of up to 1,000 random ones, show whether messages reported
-    each act to the root. A read of other parts that never helps to close the root is not found.
+    each act to the root. A read of other vertices that never helps to close the root is not found.
 
-    The state is all that stands in attributes of the game, its edges and its vertices, but for those that the class
-    names in `not_state`. The schedules found, and 200 random ones, are played a second time.
+    The state is all attributes of the game, its edges and its vertices, except those that the class names in
+    `not_state`. The schedules found, and 200 random ones, are played a second time.
 
     Nothing of this is proved.
 

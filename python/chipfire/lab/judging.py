@@ -117,7 +117,7 @@ def judge(
     Raises
     ------
     ValueError
-        A row is none, an event is neither known nor listed, or the log is that of another computation.
+        A row is malformed, an event is neither known nor listed, or the log is that of another computation.
 
     See Also
     --------
@@ -125,7 +125,7 @@ def judge(
 
     Notes
     -----
-    A claim is judged where it stands and by the game alone: by what was taken, fired and sent. So a detector that
+    A claim is judged at its row and by the game alone: by what was taken, fired and sent. So a detector that
     acknowledges otherwise than the right one has a row that differs, and may be right. A log that ends with an open
     root missed the end if nothing is left, so log until your machine rests. Messages may be acknowledged and settled
     one by one. An edge holds as many messages as the log puts there, and may be said to be full when it holds one.

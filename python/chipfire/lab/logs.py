@@ -95,8 +95,8 @@ def judge_log(
     first : bool, optional
         Whether to stop at the first early claim, by process and row, and to report that one alone, if there is one.
     processes : int or iterable of hashable, optional
-        The processes that need to have a row, or how many, from 0 on. Without a process that began active and whose
-        rows are all lost, an early claim might be called right.
+        The processes that need to have a row, or their number, if they are 0, 1 and so on. If all rows of one that
+        began active are lost, an early claim might be called right.
     reactive : bool, optional
         For processes that do not log when they become passive. A process that gets a message is then active until its
         last ``send`` before it gets the next one, and one that sends before it gets any begins active. If it is
@@ -382,8 +382,7 @@ def read_json_lines(
     files : path or iterable of path
         The files, with an object in each line.
     process : str, callable or None, optional
-        The key of the process, or a function that finds it in an object. With None each file is a process of its
-        name.
+        The key of the process, or a function that finds it in an object. With None each file is a process, by its name.
     kind : str or callable, optional
         The key of the kind, or a function that finds it. A line whose kind is None is passed over.
     channel : str or callable, optional

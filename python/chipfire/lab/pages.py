@@ -73,7 +73,7 @@ def page(
     ----------
     simulation : Simulation or Play
         What `simulate`, `recorded` or `play` returned, of at most 10,000 rows. The program simulates once more, with
-        books and with the events of rounds; of a `Play` nothing is asked.
+        books and with the events of rounds; for a `Play` it is not asked.
     file : path
         The page to write, one HTML file that loads nothing.
     title : str, optional
@@ -292,8 +292,8 @@ def recorded(
 
     Notes
     -----
-    No trace says when a vertex sent and acknowledged, nor how the rows of different vertices lie beside each other.
-    Such events are added as early as possible.
+    No trace says when a vertex sent and acknowledged, nor how the rows of different vertices interleave. Such events
+    are added as early as possible.
 
     Proved: the replies and the books. Not proved: which events are added.
 

@@ -196,7 +196,7 @@ def play(setting: Game, events: Iterable[Sequence[Any]], detector: Detector = "r
     Raises
     ------
     ValueError
-        An event is none, or the detector cannot be played.
+        An entry is no event, or the detector cannot be played.
 
     See Also
     --------
@@ -386,7 +386,7 @@ def model_log(
     Raises
     ------
     ValueError
-        An event is none, or `tells` lacks one.
+        An entry is no event, or `tells` lacks one.
 
     See Also
     --------
@@ -395,7 +395,7 @@ def model_log(
     Notes
     -----
     Messages of edge e are on channel e, and its acknowledgements go back there. With m edges, those of the root among
-    them, what a tail reads of the cells of e is on channel m + e, and of a seal on 2m + e.
+    them, channel m + e has what the tail of e reads of its cells, and 2m + e what it reads of a seal.
 
     Nothing of this is proved.
 

@@ -81,7 +81,7 @@ class Picture:
     title : str, optional
         What the picture shows, in words.
     most : int, optional
-        What the last colour but that of the sink stands for, if the colours are spread from 0 to there.
+        The number of the last colour but the sink's, if the colours are spread from 0 to it.
 
     See Also
     --------

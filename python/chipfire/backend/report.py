@@ -129,7 +129,7 @@ class Report(Drawn):
 
     @classmethod
     def read(cls, file: FileName, graph: Graph | None = None) -> Report:
-        """The report of a file. A graph that it cannot be of, as `fits` says, is refused."""
+        """The report of a file. It is refused if it cannot be of the graph, as `fits` says."""
         with open(file, encoding="utf-8", newline="") as text:
             report = cls.parse(text.read(), graph)
         if graph is not None and not report.fits(graph):
@@ -152,7 +152,7 @@ class Report(Drawn):
         return min(start) >= 0 and legal <= {*self.over, graph.sink}
 
     def text(self) -> str:
-        """The text of the report, to the byte that of the program."""
+        """The text of the report, to the byte as the program writes it."""
         told = {
             name: value
             for name, value in vars(self).items()

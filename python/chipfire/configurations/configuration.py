@@ -192,7 +192,7 @@ class Configuration(Drawn, Sums):
     __rand__ = __and__
 
     def stabilize(self, *, program: FileName | None = None) -> Configuration:
-        """What lies there when no vertex can fire any more: `chipfire.stabilize`."""
+        """The configuration when no vertex can fire any more: `chipfire.stabilize`."""
         return Configuration(self.graph, stabilized(self, program)[0])
 
     def is_stable(self) -> bool:
@@ -220,7 +220,7 @@ class Configuration(Drawn, Sums):
         return representative("inverse", self, program)
 
     def order(self) -> int:
-        """How many times it is added to itself until that is equivalent to zero. Nothing of this is proved."""
+        """The least number of copies whose sum is equivalent to zero. Nothing of this is proved."""
         return smith.order_of(smith.reduced(self.graph), dict(enumerate(self.values())))
 
     def _values(self, of: str) -> Sequence[int]:

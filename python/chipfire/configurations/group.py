@@ -77,8 +77,8 @@ class Group:
         return f"<Group of {' x '.join(f'Z/{factor}' for factor in self.factors) or 'one element'}>"
 
     def coordinates(self, chips: Chips) -> tuple[int, ...]:
-        """The coordinates of chips, which may be below 0: how many times each generator they are, from 0 to its order
-        less 1. Sums of chips have the sums, and exactly those that are equivalent have the same.
+        """The coordinates of chips, which may be below 0: a multiple of each generator, from 0 to its order minus 1.
+        Sums of chips have the sums, and two have the same exactly if they are equivalent.
         This is the discrete logarithm."""
         counts = [*Configuration(self.graph, chips).values()]
         found = []
@@ -90,8 +90,8 @@ class Group:
     def element(self, coordinates: Sequence[int], *, program: AnyProgram = None) -> Configuration:
         """The recurrent configuration of these coordinates, of which there is a number for each factor.
 
-        Plays make it of the identity: each multiplies the chips by 4, adds some and stabilizes. There are as many plays
-        as the largest factor has digits in base 4.
+        Plays make it from the identity: each multiplies the chips by 4, adds some and stabilizes. There are as many
+        plays as the largest factor has digits in base 4.
         Proved: the plays. Not proved: which chips are added."""
         times = as_ints(
             listed(coordinates, "coordinates stand in a list"), lambda at: f"coordinate {at}", None
@@ -123,6 +123,6 @@ class Group:
         return tuple(self.element([int(at == place) for at in places]) for place in places)
 
     def order(self, chips: Chips) -> int:
-        """How many times chips are added to themselves until that is equivalent to zero."""
+        """The order of chips in the group: the least number of copies whose sum is equivalent to zero."""
         pairs = zip(self.coordinates(chips), self.factors)
         return math.lcm(*(factor // math.gcd(count, factor) for count, factor in pairs))

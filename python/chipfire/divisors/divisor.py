@@ -88,7 +88,7 @@ class Divisor(AsArray, Sums):
         return min(self.numbers) >= 0
 
     def fire(self, counts: Chips) -> Divisor:
-        """What lies there after these firings of the vertices, the sink too, legal or not; counts below 0 borrow."""
+        """The divisor after these firings of the vertices, the sink too, legal or not; counts below 0 borrow."""
         left = list(self.numbers)
         for count, row in zip(Divisor(self.graph, counts).numbers, smith.undirected(self.graph)):
             for vertex, less in row.items():
@@ -96,8 +96,8 @@ class Divisor(AsArray, Sums):
         return Divisor(self.graph, left)
 
     def reduced(self, vertex: Hashable = None, *, program: AnyProgram = None) -> Divisor:
-        """The one equivalent divisor that is q-reduced, with q the vertex, or the sink if none is named: no vertex but
-        q is below 0, and no vertices without q can fire together and stay so.
+        """The equivalent divisor that is q-reduced, with q the vertex, or the sink if none is named: no vertex but q is
+        below 0, and if any set of vertices without q fires together, one of them falls below 0.
         Proved: the stabilizations. Not proved: the sums between them."""
         graph = self.graph
         if vertex is not None:
@@ -123,8 +123,8 @@ class Divisor(AsArray, Sums):
         return found if found.is_effective() else None
 
     def rank(self, *, most: int = MOST) -> int:
-        """The rank r, by Baker and Norine: if any r chips are taken away, what is left is equivalent to an effective
-        divisor, but not so if any r + 1 are; -1 if this one is equivalent to no effective divisor.
+        """The rank, by Baker and Norine: the greatest r so that, whichever r chips are taken away, the rest is
+        equivalent to an effective divisor; -1 if this divisor is equivalent to none.
 
         By Riemann and Roch, r(D) - r(K - D) = degree - genus + 1 with K the canonical divisor. The search begins at D
         or K - D, of which it takes the one of lower degree. It takes away one chip after another, and visits what is

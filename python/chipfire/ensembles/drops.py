@@ -141,8 +141,8 @@ class Drops(WithArea):
         return [*COLUMNS] + ["duration"] * (self.duration is not None)
 
     def save(self, file: FileName) -> None:
-        """Writes all of it, the graph too, to a file of arrays (`.npz`) of NumPy, which `Drops.load` reads. A file that is
-        there is replaced when the new one is whole, and stays if an error comes before. Names of vertices are numbers,
+        """Writes all of it, the graph too, to a file of arrays (`.npz`) of NumPy, which `Drops.load` reads. An existing
+        file is replaced once the new one is whole, and stays if an error comes before. Names of vertices are numbers,
         texts, bytes, None, and tuples of them; others are a TypeError. Without NumPy that is an ImportError.
         """
         numpy = archive.numpy_of_files()
@@ -162,8 +162,8 @@ class Drops(WithArea):
 
     @classmethod
     def load(cls, file: FileName) -> Drops:
-        """The drops of a file that `save` wrote. One of another kind or of a later version, and what is no such file, is
-        a ValueError that says so. Nothing that stands in a file is run."""
+        """The drops of a file that `save` wrote. Other files, and those of a later version, are a ValueError that says
+        so. Nothing in a file is run."""
         return archive.load(file, "Drops", _drops_of)
 
 

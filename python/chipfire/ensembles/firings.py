@@ -71,8 +71,8 @@ class Firings(NamedTuple):
 
     def radii(self, graph: Graph, vertices: Any) -> tuple[Any, Any]:
         """Two radii of each drop on a square grid of two directions with open borders, or on a region of one, in the
-        lengths of an edge, and 0 if nothing fired. Other graphs are a ValueError. The radius is the greatest distance of a
-        vertex that fired from that on which the drop fell; `vertices` are those. The gyration radius is the root of the
+        lengths of an edge, and 0 if nothing fired. Other graphs are a ValueError. The radius is the greatest distance
+        of a vertex that fired from the vertex of the drop, which `vertices` has. The gyration radius is the root of the
         mean square distance of the vertices that fired from their centre."""
         numpy = import_optional("numpy")
         places = _open_places(numpy, graph)

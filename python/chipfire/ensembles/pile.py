@@ -136,7 +136,7 @@ class Pile:
 
     @property
     def fired(self) -> tuple[int, ...]:
-        """How often each vertex has fired since chips were put there, by their numbers."""
+        """How often each vertex has fired since chips were put there, by the vertices' numbers."""
         with self._alone():
             return tuple(self._ends()[1])
 
@@ -152,8 +152,8 @@ class Pile:
             return self._report()
 
     def put(self, chips: Chips, limit: int | None = None) -> None:
-        """Other chips in place of all that are there, which are played to their end. All counts are 0 before. Without a
-        limit the one before stays. Chips that are refused change nothing."""
+        """Replaces all chips by others, which are stabilized, with counts from 0. Without a limit the one before stays.
+        Chips that are refused change nothing."""
         start = self._start_of(chips)
         with self._alone():
             _refuse_more(start, self.graph)
@@ -198,7 +198,7 @@ class Pile:
             return self._by_program(at, many)
 
     def close(self) -> None:
-        """Gives the memory back. Nothing can be asked of the pile any more."""
+        """Gives the memory back. The pile cannot be used any more."""
         with self._alone(is_open=False):
             self._is_closed = True
             pile, self._kept, self._end = self._kept, None, None

@@ -254,7 +254,7 @@ class Graph:
 
     @classmethod
     def read(cls, file: FileName) -> Graph:
-        """The graph of a graph file. `check(file)` says what exactly is wrong with one that is none."""
+        """The graph of a graph file. `check(file)` says exactly what is wrong with a file that is refused."""
         with open(file, encoding="utf-8") as text:
             value = json.load(text)
         wanted = ["edges", "sink", "version", "vertices"]
@@ -299,8 +299,8 @@ class Graph:
         yield f'],"sink":{self.sink},"version":1,"vertices":{self.vertices}}}\n'.encode()
 
     def number(self, name: Hashable) -> int:
-        """The number of the vertex with this name or, without names, on this square (row, column); else a KeyError. A number
-        that a result has is a TypeError, if the name of that vertex is another one."""
+        """The number of the vertex with this name or, without names, on this square (row, column); else a KeyError. A
+        vertex's number in a result is a TypeError, if that vertex has another name."""
         if isinstance(name, int) and isinstance(self.names, range) and 0 <= name < self.vertices:
             return int(name)
         if isinstance(name, VertexNumber) and not isinstance(self.names, range):
@@ -489,9 +489,9 @@ class Graph:
     def chips(self, chips: Chips) -> tuple[int, ...]:
         """Chips as one number for each vertex, 0 or more.
 
-        They come by names from what has items, as dicts and Series of pandas, and from a configuration; as an array of
-        the graph's shape, or rows of one; as a sequence with a number for each vertex, or for each but the sink; as one
-        number for each but the sink; or from a report. Configurations and reports of another graph are refused.
+        The forms are a mapping by names, as a dict, a Series of pandas or a configuration; an array of the graph's
+        shape, or rows of one; a sequence with a number for each vertex, or for each but the sink; one number for each
+        but the sink; and a report. Configurations and reports of another graph are refused.
         """
         return self.numbers(chips, least=0)
 

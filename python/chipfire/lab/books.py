@@ -194,7 +194,7 @@ class Books:
         self._note("send", edge)
 
     def got(self, edge: int) -> None:
-        """Notes a message into the process, with it and before it is worked on."""
+        """Notes a message into the process, when it comes and before it is worked on."""
         edge = _as_edge(edge)
         self._call("got", f"no message can be got on edge {edge}", edge)
         self._owed.add(edge)
@@ -202,10 +202,10 @@ class Books:
         self._note("receive", edge)
 
     def acknowledge(self, passive: bool) -> list[tuple[int, int]]:
-        """Acknowledges all that may be: pairs of an edge and how many of its messages are acknowledged so far.
+        """Acknowledges all that it may, and returns pairs of an edge and its number of acknowledged messages so far.
 
-        Each goes to the tail of its edge, for `settled`; a later pair of an edge makes an earlier one needless. `passive`
-        says that the process sends nothing, and nothing but a message makes it work again."""
+        Each goes to the tail of its edge, for `settled`; a later pair of an edge replaces an earlier one. `passive`
+        says that the process sends nothing, and that only a message makes it work again."""
         if passive:
             self._rest()
         pairs = [self._acknowledged(edge, passive) for edge in sorted(self._owed, key=self._last)]
@@ -222,7 +222,7 @@ class Books:
         return more.value
 
     def is_over(self, ended: bool = True) -> bool:
-        """Whether all is over, as the root sees it. It has `ended` if it sends no more; that stays."""
+        """Whether all is over, as the root sees it. It has `ended` if it sends no more; that stays so."""
         if not self.is_root:
             raise ValueError(f"process {self.process} is not the root, which alone can know")
         if ended:

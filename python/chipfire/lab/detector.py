@@ -344,7 +344,7 @@ class Detector:
             self._hear(item)
 
     def close(self) -> None:
-        """Closes the files of the log that are open here. What is still noted opens them for each row."""
+        """Closes the files of the log that are open here. Each later row opens its file for itself."""
         with self._lock:
             processes = [*self._processes.values()]
         for process in processes:

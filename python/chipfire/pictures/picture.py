@@ -152,7 +152,7 @@ class Picture:
         return [*map(str, range(last)), f"{last} or more", "the sink"]
 
     def legend(self, used: Iterable[int] | None = None) -> str:
-        """What the colours mean that are used, or that stand in the picture, as HTML."""
+        """The meaning of the colours that are used, or that stand in the picture, as HTML."""
         labels = self.labels()
         box = '<span style="display:inline-block;width:1em;height:1em;border:1px solid #555;background:{}"></span> {}'
         shown = sorted({*(itertools.chain(*self.rows) if used is None else used)})
@@ -170,7 +170,7 @@ class Picture:
     __repr__ = __str__
 
     def data(self) -> str:
-        """The picture, with a point for a square, as an address that has a PNG file inside."""
+        """The picture as a data URL of a PNG file, with a point for each square."""
         return f"data:image/png;base64,{base64.b64encode(rasters.png(self.points(1), self.colours())).decode()}"
 
     def _repr_html_(self) -> str:

@@ -144,9 +144,9 @@ module _ (g : Setting) (s : Part) (a : Actor) (stands : StandsFor g s a) where
       let books = books_still (does g (saw (Halt v) seen) s) refl (λ e. refl) (λ e mine. refl) (λ e. refl) in
       search (rules, arith, nat_tests)
 
-  -- ---- a look at a cell, a claim, a put
+  -- ---- a read of a cell, a claim, a put
 
-  -- a vertex looks at a cell only with a place left
+  -- a vertex reads a cell only with a place left
   pub may_look : (e : ℕ) → tail_of g e ≡ a.vertex → unmet_rule g (Clear e) s ≡ None
       → may_clear (tail_state e g.ring (s.out e).link) ≡ true
   may_look e at may =

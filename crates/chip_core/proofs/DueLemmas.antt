@@ -18,7 +18,7 @@ use Rattle.chip_core.proofs.Names.{work_in, refusals_in}
 use Rattle.chip_core.proofs.Names.{contains_cases}
 use Rattle.chip_core.proofs.LogLemmas.{part_kept, head_inside, edge_counts, tail_inside, link_step}
 use Rattle.chip_core.proofs.InstanceLemmas.{net, was, events_of, is_network, legal_there, shows, may_same}
-use Rattle.chip_core.proofs.OrderLemmas.{silent_there, closed_here}
+use Rattle.chip_core.proofs.OrderLemmas.{quiescent_there, closed_here}
 use Rattle.chip_diffusing.proofs.DueLemmas as diffusing
 use Rattle.chip_core.proofs.NumberLemmas.{empty_is}
 use Rattle.chip_core.proofs.ReachingLemmas.{step_legal, run_legal}
@@ -79,7 +79,7 @@ module _ (g : Setting) where
               ∙ quiet.acked e l;
         })
         (events_of g log) (legal_there g game some_ring log legal)
-        (silent_there g game some_ring log legal (λ v inside. idle_passive g v (part_in g log v) (no_unput v)
+        (quiescent_there g game some_ring log legal (λ v inside. idle_passive g v (part_in g log v) (no_unput v)
         (no_pending v inside) (quiet.fired v inside)) all_taken end))
 
 -- the first number that passes a test, or none does

@@ -52,10 +52,10 @@ module _ (g : Setting) (game : IsGame g.game) (some_ring : 0 < g.ring) (log : Lo
 
   -- ---- the same worlds are over and have a closed root
 
-  pub silent_there : ((v : ℕ) → v < g.game.graph.vertices → is_passive g v (part_in g log v) ≡ true)
+  pub quiescent_there : ((v : ℕ) → v < g.game.graph.vertices → is_passive g v (part_in g log v) ≡ true)
       → ((e : ℕ) → e < all_edges g → claims_of (out_in g log e).link ≤ length (into_in g log e).got)
       → (part_in g log (root g)).ended ≡ true → diffusing.IsQuiescent (net g) (was g log)
-  silent_there passive taken end = record {
+  quiescent_there passive taken end = record {
     delivered = λ e l. let a = taken e l in let b = (shows g log).sent e l in let c = (shows g log).got e l in omega arith;
     passive = λ p l. (let a = passive p in let b = at_root g p (part_in g log p) in grind (arith, nat_tests));
   }

@@ -15,7 +15,7 @@ use Rattle.chip_core.proofs.RoundLemmas.{makes_turn, settles_all, own_in}
 use Rattle.chip_core.proofs.ReachingLemmas.{part_own}
 use Rattle.chip_core.proofs.InstanceLemmas.{net, was, events_of, is_network, legal_there, one_event, shows}
 use Rattle.chip_core.proofs.InstanceLemmas.{may_same, owes_same}
-use Rattle.chip_core.proofs.OrderLemmas.{silent_there, closed_here}
+use Rattle.chip_core.proofs.OrderLemmas.{quiescent_there, closed_here}
 use Rattle.chip_diffusing.specs.Computation as diffusing
 use Rattle.chip_diffusing.specs.Ending as rounds
 use Rattle.chip_diffusing.proofs.KeptLemmas.{legal_kept}
@@ -178,7 +178,7 @@ module _ (g : Setting) where
         let c = length-sent_counts (out_in g log e).link in omega arith in
         closed_here g game some_ring (xs ++ mid) new (theorem.depth_closes (net g) (is_network g game some_ring)
         (events_of g log) (was g log) (legal_there g game some_ring log legal)
-        (silent_there g game some_ring log legal over.passive taken over.end) depth
+        (quiescent_there g game some_ring log legal over.passive taken over.end) depth
         (record { level = deep.level; below = λ p l e is. deep.below p (engaged_inside log legal p e is) e is })
         (was g mid) (was g (xs ++ mid)) has (goes xs mid new)
         (λ e out.

@@ -1,4 +1,4 @@
--- Serves Wasting.antt. The number of new looks is bounded, so that of advancing steps is; and if none is due the root
+-- Serves Wasting.antt. The number of new reads is bounded, so that of advancing steps is; and if none is due the root
 -- is closed.
 use Rattle.chip_core.proofs.Names.{◌≡◌, ℕ, zero, suc, ◌+◌, ◌*◌, ◌<◌, ◌≤◌, ◌||◌, Bool, true, cond, eqb, [], ◌∷◌}
 use Rattle.chip_core.proofs.Names.{◌++◌, length, refl, ap, ◌∙◌, arith, true≢false, ⊎_elim, nat_tests, dite}
@@ -14,7 +14,7 @@ use Rattle.chip_core.proofs.DueLemmas.{never_stuck, look_finds, tells_in}
 use Rattle.chip_core.proofs.WorkLemmas.{refused_on, few_refusals, one_term}
 use Rattle.chip_core.proofs.ScheduleLemmas.{ends_longer, bounds_stay, few_after}
 
--- the effect of new looks at an edge: each is followed by a claim, or a refusal, or is still noted
+-- the effect of new reads of an edge: each is followed by a claim, or a refusal, or is still noted
 abbrev looked : Tail → ℕ
 looked t = claims_of t + refused_on t + cond t.clear 1 0
 

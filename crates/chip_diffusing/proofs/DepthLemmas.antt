@@ -66,9 +66,9 @@ module _ (net : Network) (is : IsNetwork net) (level : ℕ → ℕ) where
       let all = (kept.sound (net.head e) (is.heads e l)).neutral none in
       let a = open_within_total (w (net.head e)).books.ins e in omega arith
 
-  module _ (a : World) (kept : IsKept net a) (silent : IsQuiescent net a) (b : World) (round : HasMomentRound net a b) where
+  module _ (a : World) (kept : IsKept net a) (quiescent : IsQuiescent net a) (b : World) (round : HasMomentRound net a b) where
     to_end : IsLater net is a b
-    to_end = later net is a kept silent round.goes.0 b round.goes.1
+    to_end = later net is a kept quiescent round.goes.0 b round.goes.1
 
     module _ (p : ℕ) (l : p < net.parts) (other : p ≡ net.root → ⊥) where
       abbrev turn : HasMoment net a b p
@@ -78,10 +78,10 @@ module _ (net : Network) (is : IsNetwork net) (level : ℕ → ℕ) where
       m = turn.moment
 
       to_moment : IsLater net is a m
-      to_moment = later net is a kept silent turn.before.0 m turn.before.1
+      to_moment = later net is a kept quiescent turn.before.0 m turn.before.1
 
       from_moment : IsLater net is m b
-      from_moment = later net is m to_moment.kept to_moment.silent turn.after.0 b turn.after.1
+      from_moment = later net is m to_moment.kept to_moment.quiescent turn.after.0 b turn.after.1
 
     -- after a round messages are owed only on parent edges
     round_rests : Rested b
@@ -132,7 +132,7 @@ module _ (net : Network) (is : IsNetwork net) (level : ℕ → ℕ) where
                 let o = (here.kept.outs p l).none_else i has in
                 let heard = (turn p l other).heard i o in
                 let x = acked i o.0 o.1 in
-                let y = silent.delivered i o.0 in
+                let y = quiescent.delivered i o.0 in
                 let s : sent_on net (m p l other) i ≡ sent_on net a i = here.sent (net.tail i) i in
                 let z : outstanding (m p l other (net.tail i)).books i ≡ 0 = omega arith in
                 subst (λ (q : ℕ). outstanding (m p l other q).books i ≡ 0) o.1 z
@@ -140,11 +140,11 @@ module _ (net : Network) (is : IsNetwork net) (level : ℕ → ℕ) where
             free : (m p l other p).books.parent ≡ None
             free =
                 let here = to_moment p l other in
-                rests (m p l other p).books (m p l other p).passive (here.kept.sound p l) (here.silent.passive p l)
+                rests (m p l other p).books (m p l other p).passive (here.kept.sound p l) (here.quiescent.passive p l)
                 (sum_none (outstanding (m p l other p).books) (out_edges (m p l other p).books) waits)
                 (λ i has. (turn p l other).given i ((here.kept.ins p l).none_else i has))
 
-  module _ (w : World) (kept : IsKept net w) (silent : IsQuiescent net w) (depth : ℕ) (low : Low w depth) where
+  module _ (w : World) (kept : IsKept net w) (quiescent : IsQuiescent net w) (depth : ℕ) (low : Low w depth) where
     record After (k : ℕ) (v : World) : Type 0 where
       way : IsLater net is w v
       rested : Rested v
@@ -153,22 +153,22 @@ module _ (net : Network) (is : IsNetwork net) (level : ℕ → ℕ) where
     after_rounds : (k : ℕ) → k ≤ depth → (v : World) → HasMomentRounds net (suc k) w v → After k v
     after_rounds zero few v (u, same, round) =
         let kept_u : IsKept net u = subst (IsKept net) same kept in
-        let silent_u : IsQuiescent net u = subst (IsQuiescent net) same silent in
+        let quiescent_u : IsQuiescent net u = subst (IsQuiescent net) same quiescent in
         let low_u : Low u depth = subst (λ (x : World). Low x depth) same low in
         record {
-          way = subst (λ (x : World). IsLater net is x v) (sym same) (to_end u kept_u silent_u v round);
-          rested = round_rests u kept_u silent_u v round;
+          way = subst (λ (x : World). IsLater net is x v) (sym same) (to_end u kept_u quiescent_u v round);
+          rested = round_rests u kept_u quiescent_u v round;
           lower = subst (Low v) (let z : depth ≡ depth - 0 = omega arith in z)
-              (round_keeps u kept_u silent_u v round depth low_u);
+              (round_keeps u kept_u quiescent_u v round depth low_u);
         }
     after_rounds (suc k) few v (u, rounds, round) =
         let before = after_rounds k (omega arith) u rounds in
         let kept_u = before.way.kept in
-        let silent_u = before.way.silent in
+        let quiescent_u = before.way.quiescent in
         record {
-          way = then_later net is w u v before.way (to_end u kept_u silent_u v round);
-          rested = round_rests u kept_u silent_u v round;
-          lower = round_lowers u kept_u silent_u v round (depth - suc k)
+          way = then_later net is w u v before.way (to_end u kept_u quiescent_u v round);
+          rested = round_rests u kept_u quiescent_u v round;
+          lower = round_lowers u kept_u quiescent_u v round (depth - suc k)
               (subst (Low u) (let z : depth - k ≡ suc (depth - suc k) = omega arith in z) before.lower) before.rested;
         }
 
@@ -182,14 +182,14 @@ module _ (net : Network) (is : IsNetwork net) (level : ℕ → ℕ) where
     closes v end rounds goes heard =
         let all = after_rounds depth (omega arith) v rounds in
         let flat : Low v 0 = subst (Low v) (let z : depth - depth ≡ 0 = omega arith in z) all.lower in
-        let last = later net is v all.way.kept all.way.silent goes.0 end goes.1 in
+        let last = later net is v all.way.kept all.way.quiescent goes.0 end goes.1 in
         record {
-          ended = last.silent.passive net.root is.root;
+          ended = last.quiescent.passive net.root is.root;
           settled = sum_none (outstanding (end net.root).books) (out_edges (end net.root).books)
               (λ i has.
               let o = (last.kept.outs net.root is.root).none_else i has in
               let x = none_owed v all.way.kept i o.0 (no_parent v flat (net.head i) (is.heads i o.0)) in
-              let y = all.way.silent.delivered i o.0 in
+              let y = all.way.quiescent.delivered i o.0 in
               let s : sent_on net end i ≡ sent_on net v i = last.sent (net.tail i) i in
               let h = heard i o in
               let z : outstanding (end (net.tail i)).books i ≡ 0 = omega arith in
@@ -197,8 +197,8 @@ module _ (net : Network) (is : IsNetwork net) (level : ℕ → ℕ) where
         }
 
 pub depth_closes : DepthCloses
-depth_closes net is log w legal silent depth deep v end rounds goes heard =
-    closes net is deep.level w (legal_kept net is log w legal) silent depth (record { below = deep.below }) v end rounds
+depth_closes net is log w legal quiescent depth deep v end rounds goes heard =
+    closes net is deep.level w (legal_kept net is log w legal) quiescent depth (record { below = deep.below }) v end rounds
     goes heard
 
 -- ---- the place in a detection order as a level

@@ -46,10 +46,10 @@ module _ (net : Network) (is : IsNetwork net) where
     )
 
     pub quiet_closes : (log : Log) → IsLegalLog net log w → IsQuiescent net w → HasClosedRoot net w
-    quiet_closes log legal silent =
+    quiet_closes log legal quiescent =
         let o = detection_order net is log w legal in
         let deep = depth_is_counted net is log w legal o.0 o.1 in
-        depth_closes net is log w legal silent (length o.0) deep w w (stays (suc (length o.0))) ([], refl)
+        depth_closes net is log w legal quiescent (length o.0) deep w w (stays (suc (length o.0))) ([], refl)
         (λ e i. quiet.heard e i.0)
 
   -- the first number that is above 0, or none is
@@ -63,13 +63,13 @@ module _ (net : Network) (is : IsNetwork net) where
 
   pub due_or_closed : (log : Log) (w : World) → IsLegalLog net log w → IsQuiescent net w
       → ((x : Event) × MayTell net w x) ⊎ HasClosedRoot net w
-  due_or_closed log w legal silent = let kept = legal_kept net is log w legal in ⊎_elim
+  due_or_closed log w legal quiescent = let kept = legal_kept net is log w legal in ⊎_elim
       (λ t. let more = t.2 in let least = kept.heard t.0 t.1 in
       inl (Settle t.0 (acked_on net w t.0), ((t.1, least, omega arith), omega arith)))
       (λ no_settle. ⊎_elim
       (λ t. inl (Ack t.0 (may_ack (w (net.head t.0)).books t.0 (w (net.head t.0)).passive), ((t.1, omega arith), t.2)))
       (λ no_ack. inr (quiet_closes w
-      record { heard = λ e l. (let a = no_settle e l in omega arith); given = no_ack } log legal silent))
+      record { heard = λ e l. (let a = no_settle e l in omega arith); given = no_ack } log legal quiescent))
       (find net.edges (λ e. may_ack (w (net.head e)).books e (w (net.head e)).passive)))
       (find net.edges (λ e. acked_on net w e - settled_on net w e))
 
@@ -94,7 +94,7 @@ module _ (net : Network) (is : IsNetwork net) where
 
   -- ---- the number left is bounded
 
-  module _ (old : World) (kept : IsKept net old) (silent : IsQuiescent net old) (new : World) where
+  module _ (old : World) (kept : IsKept net old) (quiescent : IsQuiescent net old) (new : World) where
     abbrev at_edge : World → ℕ → ℕ
     at_edge w e = (sent_on net w e - acked_on net w e) + (sent_on net w e - settled_on net w e)
 
@@ -107,11 +107,11 @@ module _ (net : Network) (is : IsNetwork net) where
     due_falls (Ack e n) due step =
         let b = (old (net.head e)).books in
         let most = within_owed e b.parent (owed b e) (all_owed b) (deficit b) (old (net.head e)).passive in
-        falls (one_later net is old kept silent new (Ack e n) step) e step.may.0
+        falls (one_later net is old kept quiescent new (Ack e n) step) e step.may.0
         (grind (arith, nat_tests, counted net old new (Ack e n) step e, kept.got e step.may.0, step.may.1, due.1))
     due_falls (Settle e word) due step =
         let most = acked_most net is old kept e step.may.0 in
-        falls (one_later net is old kept silent new (Settle e word) step) e step.may.0
+        falls (one_later net is old kept quiescent new (Settle e word) step) e step.may.0
         (grind (arith, nat_tests, counted net old new (Settle e word) step e, kept.got e step.may.0, step.may.2, due.1))
     due_falls _ due step = absurd due.1
 
@@ -121,25 +121,25 @@ module _ (net : Network) (is : IsNetwork net) where
 
   few_left : (w : World) → IsKept net w → IsQuiescent net w → (xs : Log) (new : World) → LeadsDue net w xs new
       → length xs + left net new ≤ left net w
-  few_left w kept silent [] new same = let a = ap (left net) same in omega arith
-  few_left w kept silent (x ∷ xs) new (v, way, due, step) =
-      let a = later net is w kept silent xs v (leads_due w xs v way) in
-      let b = few_left w kept silent xs v way in
-      let c = due_falls v a.kept a.silent new x due step in
+  few_left w kept quiescent [] new same = let a = ap (left net) same in omega arith
+  few_left w kept quiescent (x ∷ xs) new (v, way, due, step) =
+      let a = later net is w kept quiescent xs v (leads_due w xs v way) in
+      let b = few_left w kept quiescent xs v way in
+      let c = due_falls v a.kept a.quiescent new x due step in
       omega arith
 
   pub few_are_left : (log : Log) (w : World) → IsLegalLog net log w → IsQuiescent net w → (xs : Log) (new : World)
       → LeadsDue net w xs new → (length xs ≤ left net w) × (((x : Event) → MayTell net new x → ⊥) → HasClosedRoot net new)
-  few_are_left log w legal silent xs new way =
+  few_are_left log w legal quiescent xs new way =
       let kept = legal_kept net is log w legal in
       let plain = leads_due w xs new way in
-      let a = few_left w kept silent xs new way in
-      let b = later net is w kept silent xs new plain in (
+      let a = few_left w kept quiescent xs new way in
+      let b = later net is w kept quiescent xs new plain in (
         omega arith,
         λ none. ⊎_elim (λ due. absurd (none due.0 due.1)) (λ closed. closed)
-            (due_or_closed (xs ++ log) new (go_on net is log w legal xs new plain) b.silent),
+            (due_or_closed (xs ++ log) new (go_on net is log w legal xs new plain) b.quiescent),
       )
 
 pub never_stuck : NeverStuck
-never_stuck net is log w legal silent not_closed = ⊎_elim (λ due. due) (λ closed. absurd (not_closed closed))
-    (due_or_closed net is log w legal silent)
+never_stuck net is log w legal quiescent not_closed = ⊎_elim (λ due. due) (λ closed. absurd (not_closed closed))
+    (due_or_closed net is log w legal quiescent)

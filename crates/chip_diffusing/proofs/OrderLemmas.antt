@@ -225,8 +225,8 @@ module _ (net : Network) (is : IsNetwork net) where
         let a = rest.1 in let b = open_within_total (w (net.tail e)).books.outs e in omega arith) in
         record { got = omega arith; acked = omega arith; settled = omega arith }
 
-    pub closed_silent : IsQuiescent net w
-    closed_silent = record {
+    pub closed_quiescent : IsQuiescent net w
+    closed_quiescent = record {
       delivered = λ e l. (let a = (settled_up e l).got in omega arith);
       passive = λ p l. dite (ℕ_discrete p net.root)
           (λ root. ap (λ (q : ℕ). (w q).passive) root ∙ closed.ended)
@@ -236,4 +236,4 @@ module _ (net : Network) (is : IsNetwork net) where
 -- what the root's own books imply for all processes
 pub tells_over : (books : Books) (ended : Bool) → ended ≡ true → deficit books ≡ 0 → IsOver books ended
 tells_over books ended on none net is log w legal same also =
-    closed_silent net is log w legal (record { ended = also ∙ on; settled = ap deficit same ∙ none })
+    closed_quiescent net is log w legal (record { ended = also ∙ on; settled = ap deficit same ∙ none })

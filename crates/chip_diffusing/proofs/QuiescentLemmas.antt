@@ -8,25 +8,25 @@ use Rattle.chip_diffusing.specs.Computation.{PartState, World, Event, Send, Get,
 use Rattle.chip_diffusing.specs.Computation.{process_of, IsLegalLog, IsQuiescent}
 use Rattle.chip_diffusing.specs.Laws.{ClosedForGood}
 use Rattle.chip_diffusing.proofs.KeptLemmas.{IsKept, grows, each, was_parent, kept_after, legal_kept, sum_none}
-use Rattle.chip_diffusing.proofs.OrderLemmas.{closed_silent}
+use Rattle.chip_diffusing.proofs.OrderLemmas.{closed_quiescent}
 
 module _ (net : Network) (is : IsNetwork net) where
   -- a later world: no process sent or got any more, and a parent may be gone
   pub record IsLater (old new : World) : Type 0 where
     pub kept : IsKept net new
-    pub silent : IsQuiescent net new
+    pub quiescent : IsQuiescent net new
     pub sent : (p e : ℕ) → sent_of (new p).books e ≡ sent_of (old p).books e
     pub got : (p e : ℕ) → got_of (new p).books e ≡ got_of (old p).books e
     pub acked : (p e : ℕ) → acked_of (old p).books e ≤ acked_of (new p).books e
     pub settled : (p e : ℕ) → settled_of (old p).books e ≤ settled_of (new p).books e
     pub parent : (p e : ℕ) → (new p).books.parent ≡ Some e → (old p).books.parent ≡ Some e
 
-  module _ (old : World) (kept : IsKept net old) (silent : IsQuiescent net old) (new : World) where
+  module _ (old : World) (kept : IsKept net old) (quiescent : IsQuiescent net old) (new : World) where
     no_send : (e : ℕ) → Happens net old (Send e) new → ⊥
-    no_send e step = true≢false (sym (silent.passive (net.tail e) (is.tails e step.may.0)) ∙ step.may.1)
+    no_send e step = true≢false (sym (quiescent.passive (net.tail e) (is.tails e step.may.0)) ∙ step.may.1)
 
     no_get : (e : ℕ) → Happens net old (Get e) new → ⊥
-    no_get e step = let a = silent.delivered e step.may.0 in let b = step.may.1 in absurd (omega arith)
+    no_get e step = let a = quiescent.delivered e step.may.0 in let b = step.may.1 in absurd (omega arith)
 
     abbrev IsStill : PartState → PartState → Type 0
     IsStill s t = (e : ℕ) → (sent_of t.books e ≡ sent_of s.books e) × (got_of t.books e ≡ got_of s.books e)
@@ -47,11 +47,11 @@ module _ (net : Network) (is : IsNetwork net) where
     pub one_later : (x : Event) → Happens net old x new → IsLater old new
     one_later x step = record {
       kept = kept_after net is old kept new x step;
-      silent = record {
+      quiescent = record {
         delivered = λ e l. (let a = (all_still x step (net.tail e) e).0 in
-            let b = (all_still x step (net.head e) e).1 in let c = silent.delivered e l in omega arith);
+            let b = (all_still x step (net.head e) e).1 in let c = quiescent.delivered e l in omega arith);
         passive = λ p l. each net is old kept new (λ s t. s.passive ≡ true → t.passive ≡ true) x step (λ s z. z)
-            (mine_passive x step) p (silent.passive p l);
+            (mine_passive x step) p (quiescent.passive p l);
       };
       sent = λ p e. (all_still x step p e).0;
       got = λ p e. (all_still x step p e).1;
@@ -62,9 +62,9 @@ module _ (net : Network) (is : IsNetwork net) where
     }
 
   at_once : (w : World) → IsKept net w → IsQuiescent net w → IsLater w w
-  at_once w kept silent = record {
+  at_once w kept quiescent = record {
     kept = kept;
-    silent = silent;
+    quiescent = quiescent;
     sent = λ p e. refl;
     got = λ p e. refl;
     acked = λ p e. omega arith;
@@ -75,7 +75,7 @@ module _ (net : Network) (is : IsNetwork net) where
   pub then_later : (a b c : World) → IsLater a b → IsLater b c → IsLater a c
   then_later a b c ab bc = record {
     kept = bc.kept;
-    silent = bc.silent;
+    quiescent = bc.quiescent;
     sent = λ p e. bc.sent p e ∙ ab.sent p e;
     got = λ p e. bc.got p e ∙ ab.got p e;
     acked = λ p e. let x = ab.acked p e in let y = bc.acked p e in omega arith;
@@ -84,10 +84,10 @@ module _ (net : Network) (is : IsNetwork net) where
   }
 
   pub later : (w : World) → IsKept net w → IsQuiescent net w → (xs : Log) (new : World) → Leads net w xs new → IsLater w new
-  later w kept silent [] new same = subst (IsLater w) same (at_once w kept silent)
-  later w kept silent (x ∷ xs) new (v, way, step) =
-      let first = later w kept silent xs v way in
-      then_later w v new first (one_later v first.kept first.silent new x step)
+  later w kept quiescent [] new same = subst (IsLater w) same (at_once w kept quiescent)
+  later w kept quiescent (x ∷ xs) new (v, way, step) =
+      let first = later w kept quiescent xs v way in
+      then_later w v new first (one_later v first.kept first.quiescent new x step)
 
   -- a process that waits for nothing never does
   pub no_deficit_later : (old new : World) → IsLater old new → (p : ℕ) → deficit (old p).books ≡ 0
@@ -109,10 +109,10 @@ module _ (net : Network) (is : IsNetwork net) where
 
 pub closed_for_good : ClosedForGood
 closed_for_good net is log w legal closed xs new way =
-    let l = later net is w (legal_kept net is log w legal) (closed_silent net is log w legal closed) xs new way in (
+    let l = later net is w (legal_kept net is log w legal) (closed_quiescent net is log w legal closed) xs new way in (
       record {
-        ended = l.silent.passive net.root is.root;
+        ended = l.quiescent.passive net.root is.root;
         settled = no_deficit_later net is w new l net.root closed.settled;
       },
-      l.silent,
+      l.quiescent,
     )

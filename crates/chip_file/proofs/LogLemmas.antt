@@ -9,7 +9,7 @@ use Rattle.chip_file.proofs.Names.{strip_bom, is_bom, default_config, SizeLimits
 use Rattle.chip_file.proofs.Names.{LogRow, Stream, Step, Out, In, Active, steps_of, sends}
 use Rattle.chip_file.proofs.Names.{gets, active_after, begins_active, AreSent, IsWellFormed, may_send, Fits}
 use Rattle.chip_file.proofs.Names.{FitsRow, steps_of-append, active_after-append, same_stream_is, count_no, FileFault}
-use Rattle.chip_file.proofs.Names.{Row, records_of, rows_under_header, NotesAt, end_number, activity, active_behind}
+use Rattle.chip_file.proofs.Names.{Row, records_of, rows_under_header, NotesAt, end_number, activity, next_activity}
 use Rattle.chip_file.proofs.Names.{AreHolders, AreActive, IsFaultless, uses, MayMake, AreAllowed, IsSoundLog, IsSoFar}
 use Rattle.chip_file.proofs.Names.{AreBeginners, begins_with, first_step, begins_with-append}
 use Rattle.chip_file.specs.declared.log.LogSoFar.{LogSoFar}
@@ -156,23 +156,23 @@ pub active_known : (steps : List Step) → unwrap_or (activity steps) false ≡ 
 active_known [] = refl
 active_known (step ∷ steps) = refl
 
-first_behind : (step : Step) → activity (step ∷ []) ≡ Some (active_behind None step)
-first_behind (Out s) = refl
-first_behind step = refl
+first_activity : (step : Step) → activity (step ∷ []) ≡ Some (next_activity None step)
+first_activity (Out s) = refl
+first_activity step = refl
 
-later_behind : (was : Bool) (first step : Step) (rest : List Step) → may_begin (first ∷ rest) step ≡ true
-    → active_after was (step ∷ []) ≡ active_behind (Some was) step
-later_behind was first Active rest may = cc may
-later_behind was first step rest may = refl
+later_activity : (was : Bool) (first step : Step) (rest : List Step) → may_begin (first ∷ rest) step ≡ true
+    → active_after was (step ∷ []) ≡ next_activity (Some was) step
+later_activity was first Active rest may = cc may
+later_activity was first step rest may = refl
 
 activity-push : (steps : List Step) (step : Step) → may_begin steps step ≡ true
-    → activity (steps ++ step ∷ []) ≡ Some (active_behind (activity steps) step)
-activity-push [] step may = first_behind step
+    → activity (steps ++ step ∷ []) ≡ Some (next_activity (activity steps) step)
+activity-push [] step may = first_activity step
 activity-push (first ∷ rest) step may =
     let began = begins_active (first ∷ rest) in
     ap (λ b. Some (active_after b (first ∷ (rest ++ step ∷ [])))) (begins_more first (rest ++ step ∷ []) rest)
     ∙ ap Some (active_after-append began (first ∷ rest) (step ∷ [])
-    ∙ later_behind (active_after began (first ∷ rest)) first step rest may)
+    ∙ later_activity (active_after began (first ∷ rest)) first step rest may)
 
 active_by : (b : Bool) (was : Bool) (step : Step) (steps : List Step) (h : Option Bool) → h ≡ activity steps
     → (b ≡ true → Some was ≡ activity (steps ++ step ∷ []))
@@ -182,7 +182,7 @@ active_by false was step steps h same now = rw append-nil same
 
 pub active_noted : (log : List LogRow) (x : LogRow) (now : Bool) (old new : List (Option Bool)) → AreActive log old
     → may_begin (steps_of x.process log) x.step ≡ true
-    → now ≡ active_behind (slice_index_or old x.process None) x.step → NotesAt x.process now old new
+    → now ≡ next_activity (slice_index_or old x.process None) x.step → NotesAt x.process now old new
     → AreActive (log ++ x ∷ []) new
 active_noted log x now old new are may behind noted p =
     noted p ∙ active_by (x.process == p) now x.step (steps_of p log) _ (are p)

@@ -71,7 +71,8 @@ pub use Rattle.chip_file.specs.GraphText.{file_of_text, graph_of_file, graph_of_
 pub use Rattle.chip_file.specs.GraphText.{IsGraphTextFault}
 pub use Rattle.chip_file.specs.Kinds.{kind_at, kind_named, named_kinds}
 pub use Rattle.chip_file.specs.LogLaws.{AreMixed, MixedLogs}
-pub use Rattle.chip_file.specs.LogSoFar.{NotesAt, end_number, activity, active_behind, AreHolders, AreActive, IsFaultless}
+pub use Rattle.chip_file.specs.LogSoFar.{NotesAt, end_number, activity, next_activity, AreHolders, AreActive}
+pub use Rattle.chip_file.specs.LogSoFar.{IsFaultless}
 pub use Rattle.chip_file.specs.LogSoFar.{uses, MayMake, AreAllowed, IsSoundLog, IsSoFar}
 pub use Rattle.chip_file.specs.Numbers.{number_at, number_in, number_of}
 pub use Rattle.chip_file.specs.Rows.{Row, records_of, rows_under_header, first_row_fault, has_header, records_fault}

@@ -78,12 +78,12 @@ pub record GoesOnAs (text : List ℕ) (from next : ℕ) : Type 0 where
   pub inside : next < length text
   pub plain : get_or text next 0 < 128
 
--- these edges are the first member of the object that a text is, and its other members are the text `behind`
-pub record HasEdgesBefore (most : ℕ) (text : List ℕ) (edges : Vec Edge Global) (behind : List ℕ) : Type 0 where
+-- these edges are the first member of the object that a text is, and its other members are the text `others`
+pub record HasEdgesBefore (most : ℕ) (text : List ℕ) (edges : Vec Edge Global) (others : List ℕ) : Type 0 where
   pub rows : Items
   pub kept : AreEdgeRows most rows (Some edges)
   pub read : (what : Option (Members × List Token))
-      → MembersAre (max_depth - 1) (tokens behind) (put (codes "edges") (array rows) no_members) what
+      → MembersAre (max_depth - 1) (tokens others) (put (codes "edges") (array rows) no_members) what
       → next_value max_depth (tokens text) ≡ parse_map object what
 
 -- these edges are the first member, and the others begin at `next`

@@ -27,11 +27,11 @@ activity [] = None
 activity (step ∷ steps) = Some (active_after (begins_active (step ∷ steps)) (step ∷ steps))
 
 -- whether a process is active after one more step
-abbrev pub active_behind : Option Bool → Step → Bool
-active_behind was (step.In s) = if s.is_control then unwrap_or was false else true
-active_behind was step.Passive = false
-active_behind None step.Active = true
-active_behind was _ = unwrap_or was false
+abbrev pub next_activity : Option Bool → Step → Bool
+next_activity was (step.In s) = if s.is_control then unwrap_or was false else true
+next_activity was step.Passive = false
+next_activity None step.Active = true
+next_activity was _ = unwrap_or was false
 
 -- for each end the process that has it, by the number of the end
 abbrev pub AreHolders : List LogRow → List (Option ℕ) → Type 0

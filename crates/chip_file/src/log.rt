@@ -12,7 +12,8 @@ ghost use Rattle.chip_file.specs.Answer.{Gives, ReadsText};
 ghost use Rattle.chip_file.specs.LogText.{stream, step_of_kind, log_row_in, channels_to, most_processes, most_channels};
 ghost use Rattle.chip_file.specs.LogText.{lone_row_fault, placed_fault, log_row_fault, log_text_fault, log_of_text};
 ghost use Rattle.chip_file.specs.LogText.{holder, may_hold, may_begin, sizes_of};
-ghost use Rattle.chip_file.specs.LogSoFar.{NotesAt, end_number, active_behind, AreHolders, AreActive, IsFaultless, IsSoFar};
+ghost use Rattle.chip_file.specs.LogSoFar.{NotesAt, end_number, next_activity, AreHolders, AreActive, IsFaultless};
+ghost use Rattle.chip_file.specs.LogSoFar.{IsSoFar};
 ghost use Rattle.chip_file.specs.Source.{IsFresh, ReadsSource};
 
 use crate::fault::FileFault;
@@ -203,7 +204,7 @@ fn act(active: &mut Vec<Option<bool>>, row: LogRow) -> Result<(), AllocError>
         → may_begin (steps_of row.process log) row.step ≡ true → AreActive (log ++ row ∷ []) active.new.items) }
 {
     let process = row.process as usize;
-    let now = active_behind(known(active, process), row.step);
+    let now = next_activity(known(active, process), row.step);
     note(active, process, now)?;
     Ok(())
 }
@@ -268,8 +269,8 @@ fn end_number(step: Step) -> Option<usize>
 }
 
 /// Whether a process is active after a step, by whether it was before, if it had a row.
-fn active_behind(was: Option<bool>, step: Step) -> bool
-    ensures { result ≡ active_behind was step }
+fn next_activity(was: Option<bool>, step: Step) -> bool
+    ensures { result ≡ next_activity was step }
 {
     match step {
         Step::In(stream) if !stream.is_control => true,

@@ -47,11 +47,11 @@ module _ (net : Network) (old new : World) (marked : List Bool) (done : List ℕ
 
 -- at the end
 pub marks_reached : (m : Marking) → let n = net m.run in IsFlooded m → IsQuiescent n (world m.run) → MarksReached n m.marked.items
-marks_reached m was silent = record { count_is = was.all_marked; each = λ p l. (was.reached p, λ way. along way.0 p way.1) }
+marks_reached m was quiescent = record { count_is = was.all_marked; each = λ p l. (was.reached p, λ way. along way.0 p way.1) }
   where
     along : (es : List ℕ) (p : ℕ) → IsPath (net m.run) es p → is_marked m.marked.items p ≡ true
     along [] p at = rw at was.root
-    along (e ∷ es) p (l, head, way) = rw (← head) (let a = was.edges e l in let b = silent.delivered e l in
+    along (e ∷ es) p (l, head, way) = rw (← head) (let a = was.edges e l in let b = quiescent.delivered e l in
         let tail = along es ((net m.run).tail e) way in grind (arith, nat_tests))
 
 -- ---- the beginning

@@ -115,7 +115,7 @@ impl Run {
     /// Whether the root may report that the computation is over.
     pub fn is_over(&self) -> bool
         ensures closed { IsTrue result ↔ HasClosedRoot (net self.now) (world self.now) }
-        ensures silent { IsTrue result → IsQuiescent (net self.now) (world self.now) }
+        ensures quiescent { IsTrue result → IsQuiescent (net self.now) (world self.now) }
         ensures run { IsLegalState self.now }
     {
         let root = &self.processes[self.topology.root];

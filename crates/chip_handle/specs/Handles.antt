@@ -58,7 +58,7 @@ abbrev pub CopiesOf : (KeptGame → List ℕ) → (handle handle' : Option KeptG
     → Result (Unit {0}) CallFault → Type 0
 CopiesOf numbers = ReadsOf (λ k. Copies (numbers k))
 
--- what drawing so many configurations of a pile's graph returns
+-- what drawing these rows of configurations of a pile's graph returns
 abbrev pub DrawsOf : ℕ → (handle handle' : Option KeptGame) → (old new : List ℕ) → Result (Unit {0}) CallFault → Type 0
 DrawsOf rows = ReadsOf (λ k. DrawsOn k.pile.game.graph rows)
 

@@ -22,7 +22,7 @@ use Rattle.chip_diffusing.specs.Network.{Network, IsNetwork, AreAll}
 use Rattle.chip_diffusing.specs.Computation.{PartState, World, Event, Send, Get, Ack, Settle, Work, Log, May, NotesEvent, Happens}
 use Rattle.chip_diffusing.specs.Computation.{Leads, IsLegalLog, HasClosedRoot, process_of, sent_on, got_on, acked_on, settled_on}
 use Rattle.chip_diffusing.proofs.KeptLemmas.{IsKept, opens_kept, kept_after, acked_most, may_call, who_inside}
-use Rattle.chip_diffusing.proofs.OrderLemmas.{no_parents, settled_up, closed_silent}
+use Rattle.chip_diffusing.proofs.OrderLemmas.{no_parents, settled_up, closed_quiescent}
 use Rattle.chip_log.specs.Log.{steps_of, is_out, is_in, count_steps, sends, gets, count_rows, outs, ins, active_after}
 use Rattle.chip_log.specs.Log.{begins_active, is_enabled, AreEnabled, IsInterleaving}
 use Rattle.chip_log.specs.Books.{IsOf}
@@ -273,7 +273,7 @@ module _ (net : Network) (is : IsNetwork net) (log : Log) (last : World) (legal 
 
   -- ---- each row is enabled
 
-  -- a step that is always enabled is so many times
+  -- a step that is always enabled may be repeated
   repeat_met : (p n : ℕ) (step : Step) (pre : List LogRow) → ((pre : List LogRow) → is_enabled rows pre p step ≡ true)
       → AreEnabled rows pre (rows_by p (replicate n step))
   repeat_met p zero step pre may = tt
@@ -336,11 +336,11 @@ module _ (net : Network) (is : IsNetwork net) (log : Log) (last : World) (legal 
         ∙ grind (arith, nat_tests, (show.shows net.root is.root).claims)
 
     -- and all is over at the end
-    silent : IsQuiescentAfter rows xs
-    silent = record {
+    quiescent : IsQuiescentAfter rows xs
+    quiescent = record {
       quiet = λ c. got_all (basic c);
       passive = λ p. dite (dec_lt p net.parts)
-          (λ l. rw ((full.shows p l).begins, (show_any.shows p l).active) (rw ((closed_silent net is log last legal closed).passive p l) refl))
+          (λ l. rw ((full.shows p l).begins, (show_any.shows p l).active) (rw ((closed_quiescent net is log last legal closed).passive p l) refl))
           (λ no. rw (show_any.outside p (omega arith), full.outside p (omega arith)) refl);
     }
 
@@ -364,21 +364,21 @@ module _ (net : Network) (is : IsNetwork net) (log : Log) (last : World) (legal 
   nothing_after pre (y ∷ z ∷ after) any some =
       let a = nothing_after (pre ++ y ∷ []) (z ∷ after) (rw append_assoc any) (omega (arith, push_le is_over pre y)) in absurd (cc)
 
-  -- all is over behind a claim
-  behind : (p : ℕ) (before between after : List LogRow) → IsInterleaving rows ((before ++ claim p ∷ between) ++ after)
+  -- all is over after a claim
+  over_after : (p : ℕ) (before between after : List LogRow) → IsInterleaving rows ((before ++ claim p ∷ between) ++ after)
       → IsQuiescentAfter rows (before ++ claim p ∷ between)
-  behind p before between after any = let pre = before ++ claim p ∷ between in
+  over_after p before between after any = let pre = before ++ claim p ∷ between in
       let nothing = nothing_after pre after any (omega (arith, rows-append is_over before (claim p ∷ between))) in
-      silent (rw (nothing, append-nil) at any)
+      quiescent (rw (nothing, append-nil) at any)
 
   -- each claim is right
   right : (p i : ℕ) → IsRight rows p i
   right p i = record {
-    at = λ before here. let s = behind p before [] here.after (rw append_assoc here.whole) in record {
+    at = λ before here. let s = over_after p before [] here.after (rw append_assoc here.whole) in record {
       quiet = λ c. grind (arith, nat_tests, rows-append, s.quiet c);
       passive = λ q. grind (arith, nat_tests, steps_of-append, active_after-append, s.passive q);
     };
-    behind = λ before between after any place. behind p before between after any;
+    later = λ before between after any place. over_after p before between after any;
   }
 
   -- ---- the judge

@@ -35,11 +35,11 @@ OneCellHead =
     (message_taken 0 fresh ≡ None) × (head_after_take 0 fresh ≡ fresh)
     × (message_taken 2 fresh ≡ Some (worked_message 0 0 2)) × (message_taken 5 one ≡ Some (worked_message 0 1 5))
 
--- a tail that looks, claims one chip and puts it
+-- a tail that reads, claims one chip and puts it
 abbrev pub send_one : List EdgeStep → List EdgeStep
 send_one rest = Clear ∷ Claim 1 ∷ Put ∷ rest
 
--- three messages over a ring of two cells: the third look finds it full, and after a take it is clear again; the fourth
+-- three messages over a ring of two cells: the third read finds it full, and after a take it is clear again; the fourth
 -- take finds nothing
 abbrev pub RingOfTwo : Type 0
 RingOfTwo =

@@ -7,7 +7,7 @@ ghost use Rattle.chip_link.specs.WordLaws.{FiredWordReads, FiredWordStands, Adds
 ghost use Rattle.chip_link.specs.WordLaws.{HaltReads, HaltsByLimit, HaltByLimitReads};
 ghost use Rattle.chip_link.specs.Worked.{OneCellTail, OneCellHead, RingOfTwo, SealedBetween};
 
-/// One edge, end to end, for every ring and every list of steps: looks, claims, puts, takes and seals in any order.
+/// One edge, end to end, for every ring and every list of steps: reads, claims, puts, takes and seals in any order.
 pub fn one_edge()
     ensures prefix { TakesPrefix }
     ensures in_order { ClaimsInOrder }

@@ -5,9 +5,9 @@ use Rattle.chip_log.proofs.Names.{steps_of, begins_active, HasEnds, IsInterleavi
 use Rattle.chip_log.proofs.Names.{is_claim, length-append, nat_tests, LogRow, Step, Active, Over}
 use Rattle.chip_log.specs.Cut.{CutKeepsVerdicts}
 use Rattle.chip_log.proofs.PastLemmas.{least_past}
-use Rattle.chip_log.proofs.QuiescentLemmas.{silent_is_right}
+use Rattle.chip_log.proofs.QuiescentLemmas.{quiescent_is_right}
 use Rattle.chip_log.proofs.ProgressLemmas.{rows-append, first_of, whole_progress, goes_on}
-use Rattle.chip_log.proofs.SameLemmas.{are_met_as, silent_as, judged_by}
+use Rattle.chip_log.proofs.SameLemmas.{are_met_as, quiescent_as, judged_by}
 use Rattle.chip_log.proofs.RightLemmas.{find_over}
 
 -- rows of a log that were done
@@ -59,7 +59,7 @@ module _ (log : List LogRow) (ends : HasEnds log) (xs : List LogRow) (all : IsIn
       let here : IsBefore part p i found.0 =
       record { after = found.1; whole = subst (IsInterleaving part) found.2 whole; place = found.3 } in
       let least = least_past log ends p i found.0 (to_log found.0 here) in
-      silent_is_right log ends p i least.0 least.1 (silent_as part log (λ q. sym (begins q)) least.0
+      quiescent_is_right log ends p i least.0 least.1 (quiescent_as part log (λ q. sym (begins q)) least.0
       (right.at least.0 (to_part found.0 least.0 here least.1)))
 
 -- what is left does not say how a process begins, since a step that does is made

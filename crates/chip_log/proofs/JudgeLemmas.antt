@@ -11,7 +11,7 @@ use Rattle.chip_log.proofs.Names.{Sizes, LogRow, Step, Out, In, Active, Over, St
 use Rattle.chip_log.proofs.CountLemmas.{count-append, active_after-append, own_few}
 use Rattle.chip_log.proofs.MetLemmas.{count_no}
 use Rattle.chip_log.proofs.PastLemmas.{met_le, rest_of, now_le, outs_by}
-use Rattle.chip_log.proofs.QuiescentLemmas.{silent_is_right}
+use Rattle.chip_log.proofs.QuiescentLemmas.{quiescent_is_right}
 use Rattle.chip_log.proofs.LeftLemmas.{IsLeftAfter}
 use Rattle.chip_log.specs.declared.books.Said.TheVariants as said
 use Rattle.chip_log.specs.declared.verdict.Verdict.TheVariants as verdict
@@ -139,7 +139,7 @@ module _ (log : List LogRow) (is : IsLog log) (sizes : Sizes) (fits : Fits sizes
       omega (arith, own_few (is_out s) (is.ends.sender s) log)
 
   pub verdict_left : (v : Verdict) → IsLeftOver sizes beginners b v → IsVerdict log claim.process claim.row v
-  verdict_left verdict.Right left = silent_is_right log is.ends claim.process claim.row past is_past.is_past
+  verdict_left verdict.Right left = quiescent_is_right log is.ends claim.process claim.row past is_past.is_past
       (left_is log sizes fits past b is_past.keeps le few is_past.sized beginners made verdict.Right left)
   verdict_left v left =
       (past, is_past.is_past, left_is log sizes fits past b is_past.keeps le few is_past.sized beginners made v left)

@@ -10,7 +10,7 @@ use Rattle.chip_log.specs.Missing.{staying, stay_below, IsWithout, RightWithoutR
 use Rattle.chip_log.proofs.CountLemmas.{rows-append, steps_of-append, active_after-append}
 use Rattle.chip_log.proofs.MetLemmas.{same_self}
 use Rattle.chip_log.proofs.PastLemmas.{are_met_second, are_met_both, met_le, least_past}
-use Rattle.chip_log.proofs.QuiescentLemmas.{silent_is_right}
+use Rattle.chip_log.proofs.QuiescentLemmas.{quiescent_is_right}
 use Rattle.chip_log.proofs.OrderingLemmas.{sent_at}
 use Rattle.chip_log.proofs.ProgressLemmas.{rows, rows-append as own-rows, first_of, whole_progress, next_own, along, owner_of}
 
@@ -122,17 +122,17 @@ module _ (stays : ℕ → ℕ → Bool) (told : Stream → ℕ → Bool) (log le
   }
 
   -- where what is left is quiescent, so is the log
-  silent_here : (pre acc : List LogRow) → IsProgress log pre → IsKept pre acc → IsQuiescentAfter left acc
+  quiescent_here : (pre acc : List LogRow) → IsProgress log pre → IsKept pre acc → IsQuiescentAfter left acc
       → IsQuiescentAfter log pre
-  silent_here pre acc done kept silent =
+  quiescent_here pre acc done kept quiescent =
       let got : (c : ℕ) → (outs (basic c) pre ≡ ins (basic c) pre) × (ins (basic c) pre ≤ ins (basic c) acc) = λ c.
-      omega (arith, met_le (basic c) log [] pre done.met, below_all (told (basic c)) (is.basic c), silent.quiet c) in
-      record { quiet = λ c. (got c).0; passive = λ q. kept.passive q (λ c. (got c).1) (silent.passive q) }
+      omega (arith, met_le (basic c) log [] pre done.met, below_all (told (basic c)) (is.basic c), quiescent.quiet c) in
+      record { quiet = λ c. (got c).0; passive = λ q. kept.passive q (λ c. (got c).1) (quiescent.passive q) }
 
   -- the log is quiescent when the claim is made, since the rows before it that stay come before it in what is left
-  silent_before : (p i : ℕ) → stays p i ≡ true → IsRight left p (stay_below (stays p) i)
+  quiescent_before : (p i : ℕ) → stays p i ≡ true → IsRight left p (stay_below (stays p) i)
       → (before : List LogRow) → IsBefore log p i before → IsQuiescentAfter log before
-  silent_before p i here right before at =
+  quiescent_before p i here right before at =
       let claim : LogRow = record { process = p; step = Over } in
       let all : IsProgress log ((before ++ claim ∷ []) ++ at.after) =
       rw append_assoc (whole_progress log (before ++ claim ∷ at.after) at.whole) in
@@ -145,18 +145,18 @@ module _ (stays : ℕ → ℕ → Bool) (told : Stream → ℕ → Bool) (log le
         whole = λ q. rw append-nil at (on.1.own q [] (rw (append-nil, append_assoc) (at.whole.whole q)));
         met = on.1.met;
       } in
-      silent_here before acc was kept
+      quiescent_here before acc was kept
       (right.at acc (record { after = on.0; whole = rw append_assoc at whole; place = rw at.place at (kept.sized p) }))
 
 pub right_without_rows : RightWithoutRows
 right_without_rows stays told log left p i ends is stay right =
-    let silent = silent_before stays told log left ends is p i stay right in
+    let quiescent = quiescent_before stays told log left ends is p i stay right in
     record {
-      at = silent;
-      behind = λ before between after whole place.
+      at = quiescent;
+      later = λ before between after whole place.
           let here : IsBefore log p i before = record { after = between ++ after; whole = rw append_assoc at whole; place = place } in
           let past = least_past log ends p i before here in
-          (silent_is_right log ends p i past.0 past.1 (silent past.0 past.1.here)).behind before between after whole place;
+          (quiescent_is_right log ends p i past.0 past.1 (quiescent past.0 past.1.here)).later before between after whole place;
     }
 
 -- ---- the steps of each process in an interleaving

@@ -14,7 +14,7 @@ use Rattle.chip_log.proofs.MetLemmas.{owner_is, push_no, same_self}
 use Rattle.chip_log.proofs.PastLemmas.{rest_of, now_met, now_le, outs_by, ins_by}
 
 module _ (log : List LogRow) (ends : HasEnds log) (p i : ℕ) (past : List LogRow) (is : IsPast log p i past)
-    (silent : IsQuiescentAfter log past) (other left : List LogRow) (whole : IsInterleaving log (other ++ left))
+    (quiescent : IsQuiescentAfter log past) (other left : List LogRow) (whole : IsInterleaving log (other ++ left))
     (least : (q : ℕ) → length (steps_of q past) ≤ length (steps_of q other)) where
   abbrev claim : LogRow
   claim = record { process = p; step = Over }
@@ -61,7 +61,7 @@ module _ (log : List LogRow) (ends : HasEnds log) (p i : ℕ) (past : List LogRo
       all_used : length (steps_of q past) ≤ length (steps_of q now) → is_active log now q ≡ false
       all_used enough =
           rw (same_beginning (steps_of q now) (steps_of q later) (steps_of q past) (rest q) (steps_of q log)
-          (rest_of log ends now later all q) (rest_is q) (omega (arith, within))) (silent.passive q)
+          (rest_of log ends now later all q) (rest_is q) (omega (arith, within))) (quiescent.passive q)
 
     -- all of them were used: q is passive, and no basic message is there for it
     module _ (enough : length (steps_of q past) ≤ length (steps_of q pre)) where
@@ -70,7 +70,7 @@ module _ (log : List LogRow) (ends : HasEnds log) (p i : ℕ) (past : List LogRo
           let a = longer_counts (is_in (basic c)) (steps_of q past) (rest q) (steps_of q pre) (steps_of q (x ∷ later))
           (steps_of q log) (rest_is q) (rest_of log ends pre (x ∷ later) before q) enough in
           let f = rw (← e) at (ins_by log ends past (claim ∷ is.here.after) is.here.whole (basic c)) in
-          omega (arith, own_few (is_in (basic c)) q pre, silent.quiet c, calm.outs c)
+          omega (arith, own_few (is_in (basic c)) q pre, quiescent.quiet c, calm.outs c)
 
       stays_passive : (step : Step) → x.step ≡ step → is_enabled log pre q step ≡ true → active_after false (step ∷ []) ≡ false
       stays_passive (In s) e met = by s.is_control refl
@@ -129,18 +129,18 @@ module _ (log : List LogRow) (ends : HasEnds log) (p i : ℕ) (past : List LogRo
   at_start : Calm []
   at_start = record {
     outs = λ c. omega arith;
-    passive = λ q none. rw (nil_from_length (steps_of q past) (omega arith)) at (silent.passive q);
+    passive = λ q none. rw (nil_from_length (steps_of q past) (omega arith)) at (quiescent.passive q);
   }
 
-  pub silent_other : IsQuiescentAfter log other
-  silent_other = record {
+  pub quiescent_other : IsQuiescentAfter log other
+  quiescent_other = record {
     quiet = λ c.
         let r = ends.receiver (basic c) in
         let a = longer_counts (is_in (basic c)) (steps_of r past) (rest r) (steps_of r other) (steps_of r left)
         (steps_of r log) (rest_is r) (rest_of log ends other left whole r) (least r) in
         let g = ins_by log ends past (claim ∷ is.here.after) is.here.whole (basic c) in
         let h = ins_by log ends other left whole (basic c) in
-        omega (arith, calm.outs c, now_le log ends other left whole (basic c), silent.quiet c);
+        omega (arith, calm.outs c, now_le log ends other left whole (basic c), quiescent.quiet c);
     passive = λ q. calm.passive q (least q);
   }
     where
@@ -149,13 +149,13 @@ module _ (log : List LogRow) (ends : HasEnds log) (p i : ℕ) (past : List LogRo
 
 -- so a claim with a quiescent causal past is right
 module _ (log : List LogRow) (ends : HasEnds log) (p i : ℕ) (past : List LogRow) (is : IsPast log p i past)
-    (silent : IsQuiescentAfter log past) where
-  pub silent_is_right : IsRight log p i
-  silent_is_right = record {
-    at = λ before here. silent_other log ends p i past is silent before (record { process = p; step = Over } ∷ here.after)
+    (quiescent : IsQuiescentAfter log past) where
+  pub quiescent_is_right : IsRight log p i
+  quiescent_is_right = record {
+    at = λ before here. quiescent_other log ends p i past is quiescent before (record { process = p; step = Over } ∷ here.after)
         here.whole (is.least before here);
-    behind = λ before between after whole place.
-        silent_other log ends p i past is silent (before ++ record { process = p; step = Over } ∷ between) after whole
+    later = λ before between after whole place.
+        quiescent_other log ends p i past is quiescent (before ++ record { process = p; step = Over } ∷ between) after whole
         (λ q.
         let here : IsBefore log p i before = record {
           after = between ++ after;

@@ -60,10 +60,10 @@ module _ (log : List LogRow) (ends : HasEnds log) (p i j : ℕ) (is : is_claim l
   abbrev claim : LogRow
   claim = record { process = p; step = Over }
 
-  silent_later : (before between after : List LogRow) → length (steps_of p before) ≡ j
+  quiescent_later : (before between after : List LogRow) → length (steps_of p before) ≡ j
       → IsInterleaving log ((before ++ between) ++ after) → IsQuiescentAfter log (before ++ between)
-  silent_later before between after place whole =
-      rw all (right.behind found.0 (found.1 ++ between) after (rw all at whole) found.3)
+  quiescent_later before between after place whole =
+      rw all (right.later found.0 (found.1 ++ between) after (rw all at whole) found.3)
     where
       rest : steps_of p before ++ steps_of p (between ++ after) ≡ steps_of p log
       rest = rest_of log ends before (between ++ after) (rw append_assoc at whole) p
@@ -80,8 +80,8 @@ module _ (log : List LogRow) (ends : HasEnds log) (p i j : ℕ) (is : is_claim l
   pub right_stays : IsRight log p j
   right_stays = record {
     at = λ before here. rw append-nil at
-        (silent_later before [] (claim ∷ here.after) here.place (rw append-nil here.whole));
-    behind = λ before between after whole place. silent_later before (claim ∷ between) after place whole;
+        (quiescent_later before [] (claim ∷ here.after) here.place (rw append-nil here.whole));
+    later = λ before between after whole place. quiescent_later before (claim ∷ between) after place whole;
   }
 
 pub over_at : (xs ys : List Step) → is_over_at (xs ++ Over ∷ ys) (length xs) ≡ true

@@ -32,11 +32,11 @@ module _ (log other : List LogRow) (begins : (p : ℕ) → begins_active (steps_
   are_met_as before (x ∷ xs) met =
       (rw (met_as before x.process x.step) at met.0, are_met_as (before ++ x ∷ []) xs met.1)
 
-  same_behind : (before : List LogRow) → SameAfter log before other before
-  same_behind before = record { outs = λ s. refl; ins = λ s. refl; active = active_as before }
+  same_after : (before : List LogRow) → SameAfter log before other before
+  same_after before = record { outs = λ s. refl; ins = λ s. refl; active = active_as before }
 
-  pub silent_as : (before : List LogRow) → IsQuiescentAfter log before → IsQuiescentAfter other before
-  silent_as before is = left_as log before other before (same_behind before) verdict.Right is
+  pub quiescent_as : (before : List LogRow) → IsQuiescentAfter log before → IsQuiescentAfter other before
+  quiescent_as before is = left_as log before other before (same_after before) verdict.Right is
 
   -- where the causal past of a claim stays, and that it is right, so does its judgment
   module _ (w : Bool) (c : ClaimVerdict)
@@ -46,7 +46,7 @@ module _ (log other : List LogRow) (begins : (p : ℕ) → begins_active (steps_
     verdict_by verdict.Right is = right_as is
     verdict_by (verdict.OnItsWay d k) is = (is.0, past_as is.0 is.1, is.2)
     verdict_by (verdict.Active q) is =
-        (is.0, past_as is.0 is.1, left_as log is.0 other is.0 (same_behind is.0) (verdict.Active q) is.2)
+        (is.0, past_as is.0 is.1, left_as log is.0 other is.0 (same_after is.0) (verdict.Active q) is.2)
 
     shown_by : (b : Bool) → AreShown b log c.process c.row c.past.items → AreShown b other c.process c.row c.past.items
     shown_by true is = (is.0, past_as is.0 is.1, is.2)
@@ -118,12 +118,12 @@ module _ (log other : List LogRow) (same : SameRows log other) where
 
   pub right_as : (p i : ℕ) → IsRight log p i → IsRight other p i
   right_as p i is =
-      let silent = silent_as log other (begins_as log other same) in
+      let quiescent = quiescent_as log other (begins_as log other same) in
       record {
-        at = λ before here. silent before (is.at before (before_as other log back p i before here));
-        behind = λ before between after whole place.
+        at = λ before here. quiescent before (is.at before (before_as other log back p i before here));
+        later = λ before between after whole place.
             let now = before ++ record { process = p; step = Over } ∷ between in
-            silent now (is.behind before between after (interleaving_as other log back (now ++ after) whole) place);
+            quiescent now (is.later before between after (interleaving_as other log back (now ++ after) whole) place);
       }
 
   judged_as : (w : Bool) (c : ClaimVerdict) → IsJudged w log c → IsJudged w other c

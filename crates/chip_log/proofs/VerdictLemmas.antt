@@ -18,8 +18,8 @@ module _ (log : List LogRow) (ends : HasEnds log) (p i : ℕ) where
         (rest_of log ends m (behind m is_m) is_m.here.whole q) (rest_of log ends n (behind n is_n) is_n.here.whole q)
         (let a = is_m.least n is_n.here q in let b = is_n.least m is_m.here q in omega arith)
 
-    same_behind : SameAfter log m log n
-    same_behind = record {
+    same_after : SameAfter log m log n
+    same_after = record {
       outs = λ s.
           let a = outs_by log ends m (behind m is_m) is_m.here.whole s in
           let b = outs_by log ends n (behind n is_n) is_n.here.whole s in let c = same_steps (ends.sender s) in cc;
@@ -31,7 +31,7 @@ module _ (log : List LogRow) (ends : HasEnds log) (p i : ℕ) where
 
   of_past : (v : Verdict) → IsVerdict log p i v → (m : List LogRow) → IsPast log p i m → IsLeftAfter log m v
   of_past verdict.Right is m past = is.at m past.here
-  of_past v is m past = left_as log is.0 log m (same_behind is.0 m is.1 past) v is.2
+  of_past v is m past = left_as log is.0 log m (same_after is.0 m is.1 past) v is.2
 
   pub one_verdict : (v w : Verdict) → IsVerdict log p i v → IsVerdict log p i w → v ≡ w
   one_verdict verdict.Right verdict.Right a b = refl

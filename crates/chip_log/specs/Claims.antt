@@ -47,7 +47,7 @@ pub record IsBusy (log before : List LogRow) (q : ℕ) : Type 0 where
 -- in each interleaving the log is quiescent when the claim that is step i of p is made, and at each moment after it
 pub record IsRight (log : List LogRow) (p i : ℕ) : Type 0 where
   pub at : (before : List LogRow) → IsBefore log p i before → IsQuiescentAfter log before
-  pub behind : (before between after : List LogRow)
+  pub later : (before between after : List LogRow)
       → IsInterleaving log ((before ++ record { process = p; step = Over } ∷ between) ++ after)
       → length (steps_of p before) ≡ i → IsQuiescentAfter log (before ++ record { process = p; step = Over } ∷ between)
 

@@ -25,10 +25,10 @@ stay_below stays (suc n) = stay_below stays n + (if stays n then 1 else 0)
 pub record IsWithout (stays : ℕ → ℕ → Bool) (told : Stream → ℕ → Bool) (log left : List LogRow) : Type 0 where
   pub rows : (p : ℕ) → steps_of p left ≡ staying (stays p) 0 (steps_of p log)
   pub begins : (p : ℕ) → begins_active (steps_of p log) ≡ true → begins_active (steps_of p left) ≡ true
-  pub tells : (p : ℕ) (s : Stream) (before : List Step) (step : Step) (behind : List Step)
-      → before ++ step ∷ behind ≡ steps_of p log → is_out s step ≡ true → stays p (length before) ≡ told s (sends s before)
-  pub hears : (p : ℕ) (s : Stream) (before : List Step) (step : Step) (behind : List Step)
-      → before ++ step ∷ behind ≡ steps_of p log → is_in s step ≡ true → stays p (length before) ≡ true
+  pub tells : (p : ℕ) (s : Stream) (before : List Step) (step : Step) (after : List Step)
+      → before ++ step ∷ after ≡ steps_of p log → is_out s step ≡ true → stays p (length before) ≡ told s (sends s before)
+  pub hears : (p : ℕ) (s : Stream) (before : List Step) (step : Step) (after : List Step)
+      → before ++ step ∷ after ≡ steps_of p log → is_in s step ≡ true → stays p (length before) ≡ true
       → told s (gets s before) ≡ true
   pub basic : (c n : ℕ) → told (basic c) n ≡ true
   pub sent : (p : ℕ) → AreSent (begins_active (steps_of p left)) (steps_of p left)

@@ -243,7 +243,7 @@ fn one_chip_more_on_a_long_path(rt: HostRuntime) {
     }
 }
 
-/// It sets off so many that rounds go on.
+/// It sets off enough firings that rounds go on.
 #[test]
 fn one_chip_more_far_from_the_ends(rt: HostRuntime) {
     expect_one_more(&rt, 1_000, true);

@@ -10,7 +10,7 @@ use Rattle.chip_report.proofs.Names.{ne_eqb, nat_tests, take_at, get_or_at, get_
 use Rattle.chip_report.proofs.Names.{length-map, All-nil, All-cons, All-append, All-from_get_or, slice_split_none}
 use Rattle.chip_report.proofs.Names.{slice_split_at, position_or_len_is, IsAscii-append, IsAscii-nil, IsAscii-cons}
 use Rattle.chip_report.proofs.Names.{comma, array_text, GivesReport, opening_bracket, closing_bracket, first_list}
-use Rattle.chip_report.proofs.Names.{text_behind_list, text_behind_lists, spelled_number, numbers_spelled, list_at}
+use Rattle.chip_report.proofs.Names.{text_after_list, text_after_lists, spelled_number, numbers_spelled, list_at}
 use Rattle.chip_report.proofs.Names.{AreReportNumbers, IsNoNumber, IsNoList, HasNoList, ReportFault}
 use Rattle.std.proofs.Common.{decimal}
 use Rattle.std.proofs.lemmas.Fmt.{decimal_is_IsNumeral, decimal_nonempty, digits_decimal, parse-decimal}
@@ -205,9 +205,9 @@ first_list-part : (front ns rest : List ℕ) → All (λ b. b ≢ opening_bracke
 first_list-part front ns rest plain fit =
     rw (opened front ns rest plain) (before-cut closing_bracket (joined ns) rest (no_closing ns fit))
 
-behind_list-part : (front ns rest : List ℕ) → All (λ b. b ≢ opening_bracket) front → AreShort ns
-    → text_behind_list (front ++ (array_text ns ++ rest)) ≡ rest
-behind_list-part front ns rest plain fit = ap (after_first (λ b. eqb b closing_bracket)) (opened front ns rest plain)
+after_list-part : (front ns rest : List ℕ) → All (λ b. b ≢ opening_bracket) front → AreShort ns
+    → text_after_list (front ++ (array_text ns ++ rest)) ≡ rest
+after_list-part front ns rest plain fit = ap (after_first (λ b. eqb b closing_bracket)) (opened front ns rest plain)
     ∙ after-cut closing_bracket (joined ns) rest (no_closing ns fit)
 
 -- ---- where a program finds no list
@@ -234,9 +234,9 @@ none_listed most text none front ns rest plain listed e =
 
 -- the numbers of the first list, as they are taken
 pub taken : (most : ℕ) (text rest list : List ℕ) (result : Result (Vec ℕ Global) ReportFault) → list ≡ first_list text
-    → rest ≡ text_behind_list text
+    → rest ≡ text_after_list text
     → GivesReport (λ numbers. (numbers.items ≡ numbers_spelled list) × (length numbers.items ≤ most)) (IsNoList most list) result
-    → GivesReport (λ numbers. (numbers.items ≡ numbers_spelled (first_list text)) × (rest ≡ text_behind_list text)
+    → GivesReport (λ numbers. (numbers.items ≡ numbers_spelled (first_list text)) × (rest ≡ text_after_list text)
     × (length numbers.items ≤ most)) (HasNoList most text) result
 taken most text rest list (Ok numbers) first left is = (is.0 ∙ ap numbers_spelled first, left, is.1)
 taken most text rest list (Err f) first left (inl memory) = inl memory
@@ -252,17 +252,17 @@ list_at-text_of most (part ∷ parts) end are zero l =
     ap numbers_spelled (first_list-part part.0 part.1 (text_of parts end) (no_opening part.0 are.0.plain) are.0.listed.1)
     ∙ numbers_of-joined part.1 are.0.listed.1
 list_at-text_of most (part ∷ parts) end are (suc k) l =
-    ap (list_at k) (behind_list-part part.0 part.1 (text_of parts end) (no_opening part.0 are.0.plain) are.0.listed.1)
+    ap (list_at k) (after_list-part part.0 part.1 (text_of parts end) (no_opening part.0 are.0.plain) are.0.listed.1)
     ∙ list_at-text_of most parts end are.1 k (omega arith)
 
 pub not_HasNoList : (most : ℕ) (parts : List Part) (end : List ℕ) → AllByRecursion (IsPart most) parts → (k : ℕ)
-    → k < length parts → HasNoList most (text_behind_lists k (text_of parts end)) → ⊥
+    → k < length parts → HasNoList most (text_after_lists k (text_of parts end)) → ⊥
 not_HasNoList most [] end are k l none = absurd (omega arith)
 not_HasNoList most (part ∷ parts) end are zero l none =
     none part.0 part.1 (text_of parts end) (no_opening part.0 are.0.plain) are.0.listed refl
 not_HasNoList most (part ∷ parts) end are (suc k) l none =
     not_HasNoList most parts end are.1 k (omega arith)
-    (rw (behind_list-part part.0 part.1 (text_of parts end) (no_opening part.0 are.0.plain) are.0.listed.1) at none)
+    (rw (after_list-part part.0 part.1 (text_of parts end) (no_opening part.0 are.0.plain) are.0.listed.1) at none)
 
 -- ---- such a text is ASCII
 

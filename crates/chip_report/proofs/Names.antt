@@ -41,8 +41,9 @@ pub use Rattle.chip_sequence.specs.declared.outcome.Outcome.{Outcome}
 pub use Rattle.chip_sequence.specs.declared.resumed.Resumed.{Resumed}
 pub use Rattle.chip_report.specs.Laws.{RoundTrip, RoundTripTwo}
 pub use Rattle.chip_report.specs.OutcomeParts.{AreDisjoint, AreReportCounts, AreHalted}
-pub use Rattle.chip_report.specs.ReportLists.{opening_bracket, closing_bracket, first_list, text_behind_list}
-pub use Rattle.chip_report.specs.ReportLists.{text_behind_lists, spelled_number, numbers_spelled, list_at, AreReportNumbers}
+pub use Rattle.chip_report.specs.ReportLists.{opening_bracket, closing_bracket, first_list, text_after_list}
+pub use Rattle.chip_report.specs.ReportLists.{text_after_lists, spelled_number, numbers_spelled, list_at}
+pub use Rattle.chip_report.specs.ReportLists.{AreReportNumbers}
 pub use Rattle.chip_report.specs.ReportLists.{IsNoNumber, IsNoList, HasNoList}
 pub use Rattle.chip_report.specs.ReportText.{comma, array_text, bool_text, is_empty, is_closed, member_text}
 pub use Rattle.chip_report.specs.Reportable.{GivesReport, Content, content, IsReportOf, GrowsForALine, IsNoReportWithin}

@@ -6,7 +6,8 @@ use Rattle.chip_report.proofs.Names.{replicate, rules, ◌⊎◌, ◌&&◌, All,
 use Rattle.chip_report.proofs.Names.{IsUtf8-from_ascii, length-replicate, All-replicate, Outcome, Resumed, IsOutcome}
 use Rattle.chip_report.proofs.Names.{IsResumed, max_prior, SizeLimits, max_limit, max_total, max_vertices, AreReportCounts}
 use Rattle.chip_report.proofs.Names.{AreHalted, bool_text, array_text, is_empty, is_closed, RoundTrip, Content, content}
-use Rattle.chip_report.proofs.Names.{IsReportOf, GrowsForALine, GivesReport, list_at, text_behind_lists, AreReportNumbers, HasNoList}
+use Rattle.chip_report.proofs.Names.{IsReportOf, GrowsForALine, GivesReport, list_at, text_after_lists}
+use Rattle.chip_report.proofs.Names.{AreReportNumbers, HasNoList}
 use Rattle.chip_report.proofs.Names.{IsReportIn, IsNoReportIn, IsToldBy, content_by_text, text_in, ReportFault}
 use Rattle.chip_report.specs.ReportText.{report_text}
 use Rattle.chip_report.specs.ReportTwo.{IsReportTwoOf, StageContent, stage_content}
@@ -265,7 +266,7 @@ as_many : (went_on : Bool) (t : StageContent) → length (parts went_on t) ≡ l
 as_many went_on t = grind arith
 
 none_without_list : (went_on : Bool) (limits : SizeLimits) (bytes : List ℕ) (k : ℕ) → k < lists_in went_on
-    → HasNoList limits.vertices (text_behind_lists k bytes) → IsNoReportIn went_on limits bytes
+    → HasNoList limits.vertices (text_after_lists k bytes) → IsNoReportIn went_on limits bytes
 none_without_list went_on limits bytes k l none = none_in went_on limits bytes (λ t is fits.
     not_HasNoList limits.vertices (parts went_on t) (version went_on)
     (are_parts went_on limits.vertices t is.in_range fits) k (rw (as_many went_on t) l) (rw is.spelled at none))
@@ -290,7 +291,7 @@ passed_on IsRight (Err g) f is (inr none) then = inr (is ∙ none.0, then none.1
 
 -- a list that is not taken of a text, at the place of one of a report
 pub none_taken : (went_on : Bool) (limits : SizeLimits) (text : List ℕ) (most k : ℕ) → most ≡ limits.vertices
-    → k < lists_in went_on → (rest : List ℕ) → rest ≡ text_behind_lists k text
+    → k < lists_in went_on → (rest : List ℕ) → rest ≡ text_after_lists k text
     → (result : Result Resumed ReportFault) (f : ReportFault) → IsErrAnd result (λ e. e ≡ f)
     → (f ≡ fault.NoMemory) ⊎ ((f ≡ fault.NotReport) × HasNoList most rest)
     → GivesReport (IsToldBy went_on limits text) (IsNoReportIn went_on limits text) result

@@ -1,6 +1,7 @@
 -- Serves ReportLists.antt, Versions.antt.
 -- Worked texts and lists, computed on the definitions.
-use Rattle.chip_report.proofs.Names.{◌≡◌, true, false, [], ◌∷◌, codes, refl, first_list, text_behind_list, numbers_spelled}
+use Rattle.chip_report.proofs.Names.{◌≡◌, true, false, [], ◌∷◌, codes, refl, first_list, text_after_list}
+use Rattle.chip_report.proofs.Names.{numbers_spelled}
 use Rattle.chip_report.proofs.Names.{content_by_text}
 
 -- the small triangle, played to its end
@@ -22,7 +23,7 @@ other_fronts = refl
 first : first_list (codes "a[1,2],[3]") ≡ codes "1,2"
 first = refl
 
-rest : text_behind_list (codes "a[1,2],[3]") ≡ codes ",[3]"
+rest : text_after_list (codes "a[1,2],[3]") ≡ codes ",[3]"
 rest = refl
 
 -- a list without a number, and one with leading zeros

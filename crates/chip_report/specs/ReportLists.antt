@@ -18,13 +18,13 @@ abbrev pub first_list : List ℕ → List ℕ
 first_list text = before_first (λ b. b == closing_bracket) (after_first (λ b. b == opening_bracket) text)
 
 -- the text after them
-abbrev pub text_behind_list : List ℕ → List ℕ
-text_behind_list text = after_first (λ b. b == closing_bracket) (after_first (λ b. b == opening_bracket) text)
+abbrev pub text_after_list : List ℕ → List ℕ
+text_after_list text = after_first (λ b. b == closing_bracket) (after_first (λ b. b == opening_bracket) text)
 
 -- the text after the first `lists` lists
-abbrev pub text_behind_lists : ℕ → List ℕ → List ℕ
-text_behind_lists zero text = text
-text_behind_lists (suc lists) text = text_behind_lists lists (text_behind_list text)
+abbrev pub text_after_lists : ℕ → List ℕ → List ℕ
+text_after_lists zero text = text
+text_after_lists (suc lists) text = text_after_lists lists (text_after_list text)
 
 -- the number that digits spell
 abbrev pub spelled_number : List ℕ → ℕ
@@ -37,7 +37,7 @@ numbers_spelled (b ∷ bs) = map spelled_number (slice_split (λ c. c == comma) 
 
 -- the numbers of the list after the first `lists` lists
 abbrev pub list_at : ℕ → List ℕ → List ℕ
-list_at lists text = numbers_spelled (first_list (text_behind_lists lists text))
+list_at lists text = numbers_spelled (first_list (text_after_lists lists text))
 
 -- ---- what no report has
 

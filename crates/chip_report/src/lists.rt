@@ -2,7 +2,7 @@
 
 ghost use Rattle.std.specs.Prelude.{◌≡◌, ◌≤◌, length, IsUtf8, MatchOption};
 ghost use Rattle.chip_report.specs.Reportable.{GivesReport};
-ghost use Rattle.chip_report.specs.ReportLists.{first_list, text_behind_list, spelled_number, numbers_spelled};
+ghost use Rattle.chip_report.specs.ReportLists.{first_list, text_after_list, spelled_number, numbers_spelled};
 ghost use Rattle.chip_report.specs.ReportLists.{IsNoNumber, IsNoList, HasNoList};
 
 use crate::fault::ReportFault;
@@ -30,7 +30,7 @@ impl<'t> Lists<'t> {
     /// Takes the numbers between the next brackets, if there are at most `most`.
     pub(crate) fn take(&mut self, alloc: Global, most: u64) -> Result<Vec<u64>, ReportFault>
         ensures { GivesReport (λ numbers. (numbers.items ≡ numbers_spelled (first_list self.old.rest.now))
-            × (self.new.rest.now ≡ text_behind_list self.old.rest.now) × (length numbers.items ≤ most))
+            × (self.new.rest.now ≡ text_after_list self.old.rest.now) × (length numbers.items ≤ most))
             (HasNoList most self.old.rest.now) result }
     {
         let Some((_, opened)) = self.rest.split_once('[') else {

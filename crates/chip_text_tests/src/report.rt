@@ -193,7 +193,7 @@ fn refuses_what_is_no_report(rt: HostRuntime) {
     assert!(rt; is_refused(&rt, b"\"\xff\"\n"), "no text");
     assert!(rt;
         is_refused(&rt, b"{\"chips\":[0],\xff\n"),
-        "no text behind a list"
+        "no text after a list"
     );
     assert!(rt; is_refused(&rt, &[b'['; 200]), "too deep");
 }

@@ -131,13 +131,13 @@ pub fn file_of_text(alloc: Global, text: &[u8], most: u64) -> Result<GraphFile, 
         return Err(FileFault::NotJson);
     };
     if let Some(found) = first_edges(alloc, text.as_bytes(), most)? {
-        return file_behind(alloc, found.value, &text[found.next..], most);
+        return file_after_edges(alloc, found.value, &text[found.next..], most);
     }
     file_of_tokens(alloc, text, most)
 }
 
 /// The graph file of an object with these edges, and with the members that follow in a text.
-fn file_behind(
+fn file_after_edges(
     alloc: Global,
     edges: Vec<Edge>,
     rest: &str,

@@ -1,9 +1,9 @@
-use Rattle.chip_diffusing.proofs.OrderLemmas.{closed_silent, settled_up}
+use Rattle.chip_diffusing.proofs.OrderLemmas.{closed_quiescent, settled_up}
 use Rattle.chip_diffusing.proofs.QuiescentLemmas.{closed_for_good}
 use Rattle.chip_diffusing.proofs.laws.closed_roots.Goals as goal
 
 pub returns-clause-quiescent : goal.returns-clause-quiescent
-returns-clause-quiescent c = closed_silent
+returns-clause-quiescent c = closed_quiescent
 
 pub returns-clause-settled : goal.returns-clause-settled
 returns-clause-settled c = settled_up

@@ -10,4 +10,4 @@ unwrap-edge-requires c = ⊎_elim (λ none. let told = c.is_over.ensures.closed.
 
 pub returns : goal.returns
 returns c = rw (← c.loop-marking.invariant.topology) (marks_reached c.loop-marking.marking c.loop-marking.invariant.flooded
-    (c.is_over.ensures.silent c.loop-marking-test.false))
+    (c.is_over.ensures.quiescent c.loop-marking-test.false))

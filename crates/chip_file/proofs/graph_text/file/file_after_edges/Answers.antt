@@ -1,7 +1,7 @@
 use Rattle.chip_file.proofs.JsonNames.{◌≡◌, None, arith, codes, tokens, array, no_members, object, put}
 use Rattle.chip_file.proofs.Standing.{or_refused}
 use Rattle.chip_file.proofs.Texts.{text_refused}
-use Rattle.chip_file.proofs.graph_text.file.file_behind.Goals as goal
+use Rattle.chip_file.proofs.graph_text.file.file_after_edges.Goals as goal
 
 pub returns-in_err-parts : goal.returns-in_err-parts
 returns-in_err-parts c = λ text utf8 has.

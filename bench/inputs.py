@@ -153,7 +153,7 @@ def random_graph(draw, vertices=VERTICES):
     return vertices, sink, edges, {v: chips[v] for v in range(sink)}
 
 
-def in_vain(_):
+def refused_guess(_):
     """Two vertices that pass 2^20 chips to each other and dissipate one of them each time: no test of a guess is
     passed, since one vertex gets more than it sends by an edge from a third one, which never fires.
     """
@@ -200,7 +200,7 @@ GAMES = [
     random_graph,
     chain,
     uphill,
-    in_vain,
+    refused_guess,
     largest,
 ]
 

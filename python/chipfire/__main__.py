@@ -239,7 +239,7 @@ def _add_page(commands: Any) -> None:
     says = "how many rounds of turns follow a schedule at most"
     command.add_argument("--rounds", type=int, metavar="N", help=says)
     command.add_argument("--fed", action="store_true", help="the schedule may feed chips")
-    _add_looks(command)
+    _add_style(command)
 
 
 def _add_wrong(commands: Any) -> None:
@@ -250,7 +250,7 @@ def _add_wrong(commands: Any) -> None:
     more = ", beside the right one"
     command = _add(commands, "wrong", says, more, make=_tried, text=wrong_page_text)
     _add_detector(command)
-    _add_looks(command)
+    _add_style(command)
 
 
 def _add_choose(commands: Any) -> None:
@@ -258,7 +258,7 @@ def _add_choose(commands: Any) -> None:
     more = ", on a game of at most 2,000 states"
     command = _add(commands, "choose", says, more, make=_tried, text=choice_page_text)
     _add_detector(command)
-    _add_looks(command)
+    _add_style(command)
 
 
 def _add_explore(commands: Any) -> None:
@@ -374,7 +374,7 @@ def _add_limits(command: argparse.ArgumentParser, limit: int | None, ring: int |
     command.add_argument("--ring", type=int, default=ring, metavar="R", help=says)
 
 
-def _add_looks(command: argparse.ArgumentParser) -> None:
+def _add_style(command: argparse.ArgumentParser) -> None:
     """The options for the style of a page."""
     command.add_argument("--title", metavar="TEXT", help="what stands above the page")
     says = "where the vertices stand: rows vertex,right,down"

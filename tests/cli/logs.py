@@ -54,7 +54,7 @@ class Log:
         self.empty, self.whole = tuple(0 for _ in self.processes), tuple(len(self.steps[p]) for p in self.processes)
 
     def flight(self, cut):
-        """How many messages of each stream are on their way."""
+        """How many messages of each stream are in transit."""
         flight = Counter()
         for p, count in zip(self.processes, cut):
             for kind, channel in self.steps[p][:count]:

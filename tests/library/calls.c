@@ -578,7 +578,7 @@ static void try_sums(void)
     EXPECT(chipfire_books_open(&books) == 46 && books.deficit == UINT64_MAX);
 }
 
-/* Slices of length 0 that are null: all of them, on the sink alone, and those that games and drops on the triangle may leave
+/* Arrays of length 0 that are null: all of them, on the sink alone, and those that games and drops on the triangle may leave
  * out. Vertices without chips are fault 9, and books without edges have none. */
 static void try_nulls(void)
 {

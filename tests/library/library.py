@@ -41,7 +41,7 @@ def loaded(path=SHARED):
 LIBRARY = loaded()
 
 
-class Slice:
+class CArray:
     """Numbers in memory as C has them, with a guard after them that no call may write."""
 
     GUARD = 0x5A5A5A5A5A5A5A5A
@@ -65,7 +65,7 @@ class Graph:
 
     def __init__(self, vertices, sink, edges):
         self.vertices, self.sink, self.edges = vertices, sink, [tuple(it) for it in edges]
-        self.columns = [Slice(map(operator.itemgetter(i), self.edges)) for i in range(3)]
+        self.columns = [CArray(map(operator.itemgetter(i), self.edges)) for i in range(3)]
 
     def words(self):
         return self.vertices, self.sink, *(word for it in self.columns for word in it.words())
@@ -76,7 +76,7 @@ def called(function, graph, limit, inputs, outputs):
 
     On a fault these are as they were, which is checked here. `limit` is None where the call has none, and a tuple where it
     has several numbers there."""
-    inputs, outputs, place = [Slice(it) for it in inputs], [Slice(it) for it in outputs], Slice([7])
+    inputs, outputs, place = [CArray(it) for it in inputs], [CArray(it) for it in outputs], CArray([7])
     words = [word for it in (*inputs, *outputs) for word in it.words()]
     numbers = limit if isinstance(limit, tuple) else (limit,) * (limit is not None)
     status = function(*graph.words(), *numbers, *words, place.words()[0])

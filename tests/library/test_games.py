@@ -10,7 +10,7 @@ import resource
 import threading
 import unittest
 
-from library import HEADER, LARGEST, LIBRARY, PROGRAM, WORD, Graph, Room, Slice
+from library import HEADER, LARGEST, LIBRARY, PROGRAM, WORD, CArray, Graph, Room
 from library import avalanches, called, run, stabilize_all, verify
 
 TRIANGLE = Graph(3, 2, [(0, 1, 1), (0, 2, 1), (1, 0, 1), (1, 2, 1)])
@@ -273,17 +273,17 @@ class Memory(unittest.TestCase):
 
     def test_sizes_are_read_before_memory_is_taken(self):
         """With one edge too many, where no edge can be copied."""
-        edges, place, empty = (WORD * (2**23 + 1))(), Slice([7]), Slice([])
+        edges, place, empty = (WORD * (2**23 + 1))(), CArray([7]), CArray([])
         column = ctypes.addressof(edges), len(edges)
         functions = (LIBRARY.chipfire_stabilize_all, 4), (LIBRARY.chipfire_avalanches, 6), (LIBRARY.chipfire_verify, 3)
         for vertices, sink, fault in (0, 3, 1), (2**21 + 1, 0, 1), (3, 3, 2), (3, 2, 3):
-            for function, slices in functions:
-                words = [vertices, sink, *column * 3, LARGEST, *empty.words() * slices, place.words()[0]]
+            for function, arrays in functions:
+                words = [vertices, sink, *column * 3, LARGEST, *empty.words() * arrays, place.words()[0]]
                 self.assertEqual(self.status(function, words, [], 0), fault)
 
     def child(self, function, graph, inputs, outputs, room):
         """Returns the status of a call in a process that may take `room` bytes more; 255 if other arrays were written."""
-        inputs, outputs, place = [Slice(it) for it in inputs], [Slice(it) for it in outputs], Slice([7])
+        inputs, outputs, place = [CArray(it) for it in inputs], [CArray(it) for it in outputs], CArray([7])
         words = [*graph.words(), LARGEST, *(word for it in (*inputs, *outputs) for word in it.words()), place.words()[0]]
         return self.status(function, words, outputs, room)
 

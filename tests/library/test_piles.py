@@ -8,7 +8,7 @@ import resource
 import threading
 import unittest
 
-from library import LARGEST, LIBRARY, WORD, Graph, Slice, avalanches, stabilize_all
+from library import LARGEST, LIBRARY, WORD, CArray, Graph, avalanches, stabilize_all
 from test_games import TRIANGLE, drawn, grid, stepped
 
 GUARD = 0x5A5A5A5A
@@ -43,28 +43,28 @@ class Pile:
         return self.new_on(self.graph, chips, limit)
 
     def new_on(self, graph, chips, limit=LARGEST):
-        chips, place = Slice(chips), Slice([7])
+        chips, place = CArray(chips), CArray([7])
         status = LIBRARY.chipfire_pile_new(self.at, *graph.words(), limit, *chips.words(), place.words()[0])
         return status, place.now()[0]
 
     def put(self, chips, limit=LARGEST):
-        chips = Slice(chips)
+        chips = CArray(chips)
         return LIBRARY.chipfire_pile_put(self.at, limit, *chips.words())
 
     def play(self, visits):
-        left = Slice([GUARD])
+        left = CArray([GUARD])
         status = LIBRARY.chipfire_pile_play(self.at, visits, left.words()[0])
         return self.result(status, left.now()[0], GUARD)
 
     def drop(self, vertex, amount):
-        numbers = [Slice([GUARD]) for _ in range(3)]
+        numbers = [CArray([GUARD]) for _ in range(3)]
         status = LIBRARY.chipfire_pile_drop(self.at, vertex, amount, *(it.words()[0] for it in numbers))
         return self.result(status, tuple(it.now()[0] for it in numbers), (GUARD,) * 3)
 
     def drops(self, drops):
         """Returns the status, the place and all rows, of which those that were not written are guards."""
-        columns = [Slice(it) for it in zip(*drops)] if drops else [Slice([]), Slice([])]
-        rows, place = [Slice([GUARD] * len(drops)) for _ in range(3)], Slice([7])
+        columns = [CArray(it) for it in zip(*drops)] if drops else [CArray([]), CArray([])]
+        rows, place = [CArray([GUARD] * len(drops)) for _ in range(3)], CArray([7])
         words = [word for it in (*columns, *rows) for word in it.words()]
         status = LIBRARY.chipfire_pile_drops(self.at, *words, place.words()[0])
         return status, place.now()[0], list(zip(*(it.now() for it in rows)))
@@ -72,17 +72,17 @@ class Pile:
     def measure(self, drops, timed=False, room=None, loses=0, marks=()):
         """Returns the status, the place, and what is written: all rows, durations, ends, and what fired. There is room for
         `room` vertices; None leaves them out. A drop that loses chips, or fires vertices with such marks, ends the run."""
-        columns = [Slice(it) for it in zip(*drops)] if drops else [Slice([]), Slice([])]
+        columns = [CArray(it) for it in zip(*drops)] if drops else [CArray([]), CArray([])]
         many = [len(drops)] * 3 + [len(drops) * timed, 0 if room is None else len(drops)] + 2 * [room or 0]
-        written, place, marks = [Slice([GUARD] * it) for it in many], Slice([7]), Slice(marks)
-        drops, others = ([word for it in slices for word in it.words()] for slices in (columns, [marks, *written]))
+        written, place, marks = [CArray([GUARD] * it) for it in many], CArray([7]), CArray(marks)
+        drops, others = ([word for it in arrays for word in it.words()] for arrays in (columns, [marks, *written]))
         status = LIBRARY.chipfire_pile_measure(self.at, *drops, loses, *others, place.words()[0])
         rows, others = [it.now() for it in written[:3]], [it.now() for it in written[3:]]
         return status, place.now()[0], list(zip(*rows)), *others
 
     def draw(self, seed, first, rows, length=None):
         """Returns the status, with random recurrent configurations, and the place."""
-        chips, place = Slice([GUARD] * (self.graph.vertices * rows if length is None else length)), Slice([7])
+        chips, place = CArray([GUARD] * (self.graph.vertices * rows if length is None else length)), CArray([7])
         words = (*chips.words(), place.words()[0])
         status = LIBRARY.chipfire_pile_random_recurrent(self.at, seed, first, rows, *words)
         return *self.result(status, chips.now(), chips.numbers), place.now()[0]
@@ -91,7 +91,7 @@ class Pile:
         return LIBRARY.chipfire_pile_size(self.at)
 
     def copy(self, function):
-        numbers = Slice([GUARD] * self.graph.vertices)
+        numbers = CArray([GUARD] * self.graph.vertices)
         status = function(self.at, *numbers.words())
         return self.result(status, numbers.now(), numbers.numbers)
 
@@ -302,13 +302,13 @@ class Small(Piles):
         lengths = [2, 2, 2, 2, 2, 2, 2, 9, 9, 3]
         wrong = [{1: 1}, {2: 3}, {3: 1}, {4: 0}, {5: 1}, {5: 3}, {6: 1}, {6: 0}, {6: 0, 7: 0}, {7: 8}, {8: 10}, {9: 2}, {9: 4}]
         for changes in wrong:
-            slices = [Slice(([0, 1], [1, 1])[it] * 2 if it < 2 else [GUARD] * 9) for it in range(10)]
-            before = [it.now() for it in slices]
-            place = Slice([7])
-            words = [(s.words()[0], changes.get(it, lengths[it])) for it, s in enumerate(slices)]
+            arrays = [CArray(([0, 1], [1, 1])[it] * 2 if it < 2 else [GUARD] * 9) for it in range(10)]
+            before = [it.now() for it in arrays]
+            place = CArray([7])
+            words = [(s.words()[0], changes.get(it, lengths[it])) for it, s in enumerate(arrays)]
             drops, others = ([word for pair in pairs for word in pair] for pairs in (words[:2], [words[9], *words[2:9]]))
             status = LIBRARY.chipfire_pile_measure(pile.at, *drops, 1, *others, place.words()[0])
-            self.assertEqual((status, place.now(), [it.now() for it in slices]), (12, [0], before), changes)
+            self.assertEqual((status, place.now(), [it.now() for it in arrays]), (12, [0], before), changes)
             self.assertEqual(pile.now(), [[1, 1, 0], [0, 0, 0]])
         for drops, fault, place in ([(2, 0), (3, 1)], 26, 1), ([(2, LARGEST - 2), (0, 1)], 10, 1):
             found = pile.measure(drops, True, 9)
@@ -476,7 +476,7 @@ class Memory(Piles):
         """A call returns 90 and changes nothing, and with enough memory it does not. A drop takes none."""
         graph = grid(120)
         chips, pile = [2] * graph.vertices, self.pile(graph)
-        numbers, place, outcome = Slice(chips), Slice([7]), [Slice([7]) for _ in range(3)]
+        numbers, place, outcome = CArray(chips), CArray([7]), [CArray([7]) for _ in range(3)]
         self.assertEqual(pile.new([1] * graph.vertices, 9), (0, 0))
         new = (pile.at, *graph.words(), LARGEST, *numbers.words(), place.words()[0])
         before = pile.now()
@@ -490,7 +490,7 @@ class Memory(Piles):
             self.assertEqual(found, [90] * enough + [0] * (len(found) - enough))
         drop = (pile.at, 0, 5, *(it.words()[0] for it in outcome))
         self.assertEqual(self.within(0, lambda: LIBRARY.chipfire_pile_drop(*drop), lambda status: status), 0)
-        columns = [Slice([0, 7, 9]), *(Slice([it] * 3) for it in (5, GUARD, GUARD, GUARD))]
+        columns = [CArray([0, 7, 9]), *(CArray([it] * 3) for it in (5, GUARD, GUARD, GUARD))]
         drops = (pile.at, *(word for it in columns for word in it.words()), place.words()[0])
         self.assertEqual(self.within(0, lambda: LIBRARY.chipfire_pile_drops(*drops), lambda status: status), 0)
 
@@ -501,7 +501,7 @@ class Memory(Piles):
         for it in (pile, whole):
             self.assertEqual(it.new(chips), (0, 0))
         self.assertEqual(whole.play(2**64 - 1), (0, 0))
-        ends, left = whole.now(), Slice([GUARD])
+        ends, left = whole.now(), CArray([GUARD])
         play = (pile.at, 2**64 - 1, left.words()[0])
 
         def look(status):
@@ -516,7 +516,7 @@ class Memory(Piles):
         self.assertEqual(pile.new([5] * graph.vertices), (0, 0))
         self.assertEqual(pile.play(1000)[0], 0)
         before, (_, drawn, _) = pile.now(), pile.draw(1, 0, 1)
-        chips, place = Slice([GUARD] * graph.vertices), Slice([7])
+        chips, place = CArray([GUARD] * graph.vertices), CArray([7])
         words = (pile.at, 1, 0, 1, *chips.words(), place.words()[0])
 
         def look(status):

@@ -63,6 +63,14 @@ export interface Limited {
   limit?: Whole;
 }
 
+/** Which configurations of a seed are drawn. */
+export interface Drawn {
+  /** The number of the first one: 0 by default. */
+  first?: Whole;
+  /** How many there are: 1 by default. */
+  rows?: Whole;
+}
+
 /** How a game ends. */
 export interface Stabilized {
   /** The chips of each vertex at the end. */
@@ -121,6 +129,8 @@ export interface Pile {
    * before the first is dropped, so a fault changes nothing, but for 13: there the limit stopped the drop at its place,
    * and `made` of the fault has the rows of those before. */
   drops(at: Wholes, amounts?: Wholes): Columns;
+  /** Random recurrent configurations of the graph, as those of `Chipfire.randomRecurrent`. The pile stays as it is. */
+  randomRecurrent(seed: Whole, options?: Drawn): BigUint64Array;
   /** The chips of each vertex; before the first drop those that were put there. */
   chips(): BigUint64Array;
   /** How often each vertex has fired. */
@@ -188,6 +198,9 @@ export class Chipfire {
   inverse(graph: Graph, chips: Wholes): BigUint64Array;
   /** The identity of the sandpile group. */
   identity(graph: Graph): BigUint64Array;
+  /** Random recurrent configurations, one's chips after another's. Graph, seed and the number of a configuration determine
+   * it. If each edge that does not lead to the sink has one back, all are equally probable, which is not proved. */
+  randomRecurrent(graph: Graph, seed: Whole, options?: Drawn): BigUint64Array;
   /** Keeps a game. It plays nothing yet. */
   pile(graph: Graph, chips: Wholes, options?: Limited): Pile;
   /** New books of a process, by the numbers of its edges. */

@@ -36,11 +36,14 @@ const given = ({ vertices, sink, tails, heads, mults }) => [word(vertices), word
 /** How many configurations of a graph lie one after another; a part of one counts too, and is refused. */
 const configurations = (graph, chips) => Math.ceil(chips.length / Math.max(Number(graph.vertices), 1));
 
-/** Numbers that a call writes, one for each vertex, of which a graph has up to 2^21. */
-function none({ vertices }) {
+/** Numbers that a call writes, in each row one for each vertex, of which a graph has up to 2^21. */
+function none({ vertices }, rows = 1) {
   if (vertices > 2 ** 21) throw new ChipfireFault(FAULT.vertices, 0);
-  return new BigUint64Array(Number(vertices));
+  return new BigUint64Array(Number(rows) * Number(vertices));
 }
+
+/** What a call that draws takes of a seed, of the number of the first configuration, and of how many there are. */
+const draws = (seed, { first = 0, rows = 1 } = {}) => [seed, first, rows].map(word);
 
 /** Columns that a call writes, one number for each drop. */
 const columns = (drops) => Object.fromEntries(["sizes", "areas", "losts"].map((it) => [it, new BigUint64Array(drops)]));
@@ -162,6 +165,11 @@ export class Chipfire {
     return this.#call("identity", graph, [], { chips: none(graph) }).chips;
   }
 
+  randomRecurrent(graph, seed, options) {
+    const drawn = draws(seed, options);
+    return this.#call("random_recurrent", graph, drawn, { chips: none(graph, drawn[2]) }).chips;
+  }
+
   #represented(name, graph, chips) {
     const found = words(chips).slice();
     return this.#call(name, graph, [BigInt(configurations(graph, found))], { found }).found;
@@ -226,6 +234,12 @@ function pileOf(instance, graph, chips, { limit = MAX_LIMIT } = {}) {
         throw Object.assign(fault, { made: Object.fromEntries(made) });
       }
       return found;
+    },
+    randomRecurrent(seed, options) {
+      const drawn = draws(seed, options);
+      const chips = none(graph, drawn[2]);
+      call("pile_random_recurrent", drawn, { chips });
+      return chips;
     },
     chips: () => copied("pile_chips"),
     fired: () => copied("pile_fired"),

@@ -19,7 +19,7 @@ from library import BUILT, LARGEST, ROOT, Room, avalanches, called, need, stabil
 from test_books import NEUTRAL
 from test_games import drawn, grid, spoilt, stepped
 from test_piles import Pile
-from test_recurrents import are_recurrent, burning, identity, represented
+from test_recurrents import are_recurrent, burning, drawn_at_random, identity, represented
 from test_sums import Kept
 from packing import web
 
@@ -118,7 +118,11 @@ def piles(draw):
 
 def step_on(draw, pile, limit, drop):
     """Draws a call on a pile. Returns what is given, and what the native library returns of it."""
-    what = draw.choice(["put", "drops", "drops", *["drop"] * 7])
+    what = draw.choice(["put", "draw", "drops", "drops", *["drop"] * 7])
+    if what == "draw":
+        numbers = numbers_of_draw(draw)
+        status, chips, place = pile.draw(*numbers)
+        return [what, *numbers], ended(status, place, [chips])
     if what == "put":
         chips = chips_of(draw, pile.graph)
         return [what, chips], [pile.put(chips, limit), 0]
@@ -130,6 +134,17 @@ def step_on(draw, pile, limit, drop):
     made = {0: len(rows), 13: place}.get(status, 0)
     columns = [[row[i] for row in rows[:made]] for i in range(3)]
     return [what, *([it[i] for it in its] for i in range(2))], [status, place, *(columns if status in (0, 13) else [])]
+
+
+def numbers_of_draw(draw):
+    """Draws a seed, the number of the first random configuration, and how many there are."""
+    return [draw.choice([0, 1, 2**53 + 1, NEUTRAL]), draw.choice([0, 0, 3, NEUTRAL]), draw.choice([0, 1, 1, 3])]
+
+
+def draws(draw):
+    graph, numbers = graph_of(draw), numbers_of_draw(draw)
+    status, place, rows = drawn_at_random(graph, *numbers)
+    return "draw", [columns_of(graph), *numbers], [ended(status, place, [sum(rows, [])])]
 
 
 def groups(draw):
@@ -214,7 +229,7 @@ def texts(it):
     return str(it) if isinstance(it, int) and not isinstance(it, bool) else it
 
 
-DRAWN = games, drops, claims, piles, books, grids, groups
+DRAWN = games, drops, claims, piles, books, grids, groups, draws
 
 
 @unittest.skipUnless(os.path.isdir(WEB), f"{contents.WEB}/ is not beside the program: tools/webassembly.py makes it")

@@ -32,6 +32,7 @@ const CALLS = {
     let pile;
     const found = [outcome(() => ((pile = chipfire.pile(graphOf(graph), chips, { limit })), []))];
     const calls = {
+      draw: (seed, first, rows) => [pile.randomRecurrent(seed, { first, rows })],
       put: (its) => (pile.put(its, { limit }), []),
       drop: (vertex, amount) => Object.values(pile.drop(vertex, amount)),
       drops: (at, amounts) => Object.values(pile.drops(at, amounts)),
@@ -41,6 +42,9 @@ const CALLS = {
     }
     pile?.free();
     return found;
+  },
+  draw(graph, seed, first, rows) {
+    return [outcome(() => [chipfire.randomRecurrent(graphOf(graph), seed, { first, rows })])];
   },
   group(graph, name, chips) {
     const calls = {

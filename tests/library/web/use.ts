@@ -19,6 +19,7 @@ async function play(): Promise<void> {
   pile.free();
   const { script } = chipfire.burning(grid);
   const configurations = [chipfire.identity(grid), chipfire.recurrent(grid, chips), chipfire.superstable(grid, script)];
+  configurations.push(chipfire.randomRecurrent(grid, 1n), pile.randomRecurrent(1, { first: 2n, rows: 3 }));
   const areAll: boolean = chipfire.areRecurrent(grid, chipfire.inverse(grid, dropped)).every((is) => is);
   if (areAll) configurations.pop();
   const books: Books = chipfire.books([1], new Set<Whole>([2, 3n]));

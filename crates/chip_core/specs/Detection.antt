@@ -1,5 +1,5 @@
 -- The tree of Dijkstra and Scholten (Termination detection for diffusing computations, 1980), as a list of its members.
--- In terms of the core, this is `IsDetectionOrder` of `chip_diffusing`.
+-- In terms of the core, this is `IsEngagementOrder` of `chip_diffusing`.
 use Rattle.std.specs.Prelude.{◌≡◌, ◌⊎◌, ℕ, ◌<◌, List, [], ◌∷◌, Contains, Some}
 use Rattle.chip_part.specs.Setting.{Setting}
 use Rattle.chip_part.specs.Part.{owed_on}

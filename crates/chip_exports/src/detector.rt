@@ -7,7 +7,7 @@ ghost use Rattle.chip_detect.specs.Acknowledging.{may_ack};
 ghost use Rattle.chip_detect.specs.Steps.{Got, Acked, Sent};
 ghost use Rattle.chip_diffusing.specs.Laws.{IsOver};
 ghost use Rattle.chip_library.specs.declared.detector.BooksFault.TheVariants.{NotSound};
-ghost use Rattle.chip_library.specs.PartBooks.{AreBooks, books_of, HasEdge, Notes, Tells, Settling, AddsUp, AddsUpForParent};
+ghost use Rattle.chip_library.specs.PartBooks.{AreBooks, books_of, HasEdge, Notes, ReadsBooks, Settling, AddsUp, AddsUpForParent};
 ghost use Rattle.chip_exports.specs.Status.{Status, status_of, count_of, flag_of, is_true};
 
 use chip_detect::Tally;
@@ -44,7 +44,7 @@ pub extern "C" fn chipfire_may_ack(
     count: &mut u64,
 ) -> u64
     ensures { let books = books_of ins.now outs.now parent in
-        Status result (λ done. Tells books (HasEdge (in_edges books) edge)
+        Status result (λ done. ReadsBooks books (HasEdge (in_edges books) edge)
         (λ n. n ≡ may_ack books edge (is_true passive)) done
         × AddsUpForParent ins.now outs.now parent edge done × (count.new ≡ count_of done count.old)) }
 {
@@ -80,7 +80,7 @@ pub extern "C" fn chipfire_settled(outs: &mut [Tally], edge: u64, word: u64, mor
 #[unsafe(no_mangle)]
 pub extern "C" fn chipfire_deficit(outs: &[Tally], count: &mut u64) -> u64
     ensures { Status result (λ done. ((ins : List Tally) → (parent : ℕ) → let books = books_of ins outs.now parent in
-        Tells books (Unit {0}) (λ n. n ≡ deficit books) done)
+        ReadsBooks books (Unit {0}) (λ n. n ≡ deficit books) done)
         × AddsUp outs.now done × (count.new ≡ count_of done count.old)) }
 {
     told(deficit(outs), count)
@@ -90,7 +90,7 @@ pub extern "C" fn chipfire_deficit(outs: &[Tally], count: &mut u64) -> u64
 #[unsafe(no_mangle)]
 pub extern "C" fn chipfire_is_over(outs: &[Tally], ended: u64, over: &mut u64) -> u64
     ensures { Status result (λ done. ((ins : List Tally) → (parent : ℕ) → let books = books_of ins outs.now parent in
-        Tells books (Unit {0}) (λ is. (IsTrue is ↔ IsTrue (is_true ended) × (deficit books ≡ 0))
+        ReadsBooks books (Unit {0}) (λ is. (IsTrue is ↔ IsTrue (is_true ended) × (deficit books ≡ 0))
         × (IsTrue is → IsOver books (is_true ended))) done)
         × AddsUp outs.now done × (over.new ≡ flag_of done over.old)) }
 {

@@ -25,7 +25,7 @@ use Rattle.chip_library.specs.Drops.{Told, AreOn, CanFall}
 use Rattle.chip_library.specs.KeptGames.{KeptGame, IsKept, Plays, Rows, with_rows, DropsOnStable, DropsEach}
 use Rattle.chip_library.specs.Measures.{Noted, told_of, AreNoted, LeavesNoted, noted_on, MeasuresOnStable}
 use Rattle.chip_library.specs.Measures.{Measures, is_timed, AreMeasures, fired_in, times_in, ends_from, at_front}
-use Rattle.chip_library.specs.Measures.{fires_marked, fires_both, EndsRun, LastEnds, IsFull, IsOver, AreAsked, AreWritten}
+use Rattle.chip_library.specs.Measures.{fires_marked, fires_both, EndsRun, LastEnds, IsFull, RunHasEnded, AreAsked, AreWritten}
 use Rattle.chip_library.specs.Measures.{MeasuresSome, MeasuresEach}
 use Rattle.chip_library.proofs.DropLemmas.{leaves_none, on_more}
 use Rattle.chip_library.proofs.KeptLemmas.{more_drops, drops_well, played_once, first_more, first_all}
@@ -260,7 +260,7 @@ pub record SoFar (old new : KeptGame) (at amounts : List ℕ) (Ends : Noted → 
   pub fired : HoldsRows notes before.ends before.vertices before.times now.ends now.vertices now.times end
   pub within : end ≤ length now.vertices
   pub over : MatchBool is_over (LastEnds Ends notes) (LastEnds Ends notes → ⊥)
-  pub going : (j : ℕ) → j < i → IsOver old.pile.game.graph before Ends (take j notes) → ⊥
+  pub going : (j : ℕ) → j < i → RunHasEnded old.pile.game.graph before Ends (take j notes) → ⊥
 
 -- no drops yet
 pub so_far_none : (k : KeptGame) (at amounts : List ℕ) (Ends : Noted → Type 0) (before : Measures)
@@ -285,7 +285,7 @@ pub not_over : (old new : KeptGame) (at amounts : List ℕ) (Ends : Noted → Ty
     → SoFar old new at amounts Ends before now notes is_over end i → length now.ends ≡ length before.ends
     → length now.vertices ≡ length before.vertices → is_over ≡ false
     → (0 < length now.ends → end + new.pile.game.graph.vertices ≤ length now.vertices)
-    → IsOver old.pile.game.graph before Ends notes → ⊥
+    → RunHasEnded old.pile.game.graph before Ends notes → ⊥
 not_over old new at amounts Ends before now notes is_over end i so_far ends_each vertices_each going room (inr ends) =
     let not : LastEnds Ends notes → ⊥ = rw going at so_far.over in not ends
 not_over old new at amounts Ends before now notes is_over end i so_far ends_each vertices_each going room
@@ -343,7 +343,7 @@ rows_more told t i before now now' long (sizes, extents, losts) so_far more =
 pub so_far_more : (old new new' : KeptGame) (at amounts : List ℕ) (Ends : Noted → Type 0) (before now now' : Measures)
     (notes : List Noted) (is_over is_over' : Bool) (end end' i : ℕ) (m : Measured) → AreMeasures at amounts before
     → i < length at → length now.ends ≡ length before.ends → length now'.vertices ≡ length before.vertices
-    → SoFar old new at amounts Ends before now notes is_over end i → (IsOver old.pile.game.graph before Ends notes → ⊥)
+    → SoFar old new at amounts Ends before now notes is_over end i → (RunHasEnded old.pile.game.graph before Ends notes → ⊥)
     → MeasuresOnStable new new' (slice_index at i) (slice_index amounts i) (is_timed before) (Some m)
     → now'.rows ≡ record {
       sizes = set now.rows.sizes i m.avalanche.size;
@@ -391,7 +391,7 @@ so_far_more old new new' at amounts Ends before now now' notes is_over is_over' 
           measures.times_each ends_each (λ any. omega arith) so_far.fired writes;
       within = within;
       over = last_push Ends is_over' notes n over;
-      going = each_more (λ (made : List Noted). IsOver old.pile.game.graph before Ends made → ⊥) notes n i long so_far.going not;
+      going = each_more (λ (made : List Noted). RunHasEnded old.pile.game.graph before Ends made → ⊥) notes n i long so_far.going not;
     }
 
 pub so_far_written : (old new : KeptGame) (at amounts : List ℕ) (Ends : Noted → Type 0) (before now : Measures)
@@ -421,7 +421,7 @@ written_played old played new at amounts Ends before after notes first made =
       on = made.on;
       measured = (end, (played_once old played end first again.0, again.1), stable, leaves);
       written = made.written;
-      going = subst (λ (g : ChipGame). (i : ℕ) → i < length notes → IsOver g.graph before Ends (take i notes) → ⊥)
+      going = subst (λ (g : ChipGame). (i : ℕ) → i < length notes → RunHasEnded g.graph before Ends (take i notes) → ⊥)
           first.0.same_game made.going;
     }
 
@@ -437,7 +437,7 @@ measures_played old played new at amounts loses marks before after measures can 
     notes,
     written_played old played new at amounts (EndsRun loses marks) before after notes first written,
     long,
-    subst (λ (g : ChipGame). (made ≡ length at) ⊎ ((made < length at) × IsOver g.graph before (EndsRun loses marks) notes))
+    subst (λ (g : ChipGame). (made ≡ length at) ⊎ ((made < length at) × RunHasEnded g.graph before (EndsRun loses marks) notes))
         first.0.same_game stops,
   ),
 )
@@ -452,7 +452,7 @@ measures_played old played new at amounts loses marks before after measures can 
         written_played old played k at amounts (EndsRun loses marks) before after notes first written,
         long,
         inside,
-        subst (λ (g : ChipGame). IsOver g.graph before (EndsRun loses marks) notes → ⊥) first.0.same_game room,
+        subst (λ (g : ChipGame). RunHasEnded g.graph before (EndsRun loses marks) notes → ⊥) first.0.same_game room,
         stopped,
       ),
     )

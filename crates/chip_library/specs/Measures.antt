@@ -147,8 +147,8 @@ LastEnds Ends (n ∷ []) = Ends n
 LastEnds Ends (n ∷ m ∷ more) = LastEnds Ends (m ∷ more)
 
 -- no drop is made after these: there is no room for the next one, or the last one ends the run
-abbrev pub IsOver : Multigraph → Measures → (Noted → Type 0) → List Noted → Type 0
-IsOver G m Ends notes = IsFull G m notes ⊎ LastEnds Ends notes
+abbrev pub RunHasEnded : Multigraph → Measures → (Noted → Type 0) → List Noted → Type 0
+RunHasEnded G m Ends notes = IsFull G m notes ⊎ LastEnds Ends notes
 
 -- the first drops were made, none after one that ends the run, each with room, and what is asked for of them is written
 pub record AreWritten (old new : KeptGame) (at amounts : List ℕ) (Ends : Noted → Type 0) (before after : Measures)
@@ -156,21 +156,21 @@ pub record AreWritten (old new : KeptGame) (at amounts : List ℕ) (Ends : Noted
   pub on : AreOn (told_of notes) (take (length notes) at) (take (length notes) amounts)
   pub measured : AreMeasured old new (is_timed before) notes
   pub written : after ≡ with_notes notes before
-  pub going : (i : ℕ) → i < length notes → IsOver old.pile.game.graph before Ends (take i notes) → ⊥
+  pub going : (i : ℕ) → i < length notes → RunHasEnded old.pile.game.graph before Ends (take i notes) → ⊥
 
 -- this number of drops was made: all, or there is no room before the next one, or the last one ends the run
 abbrev pub MakesSome : (old new : KeptGame) → (at amounts : List ℕ) → (Noted → Type 0) → (before after : Measures) → ℕ
     → Type 0
 MakesSome old new at amounts Ends before after made =
     (notes : List Noted) × AreWritten old new at amounts Ends before after notes × (length notes ≡ made)
-    × ((made ≡ length at) ⊎ ((made < length at) × IsOver old.pile.game.graph before Ends notes))
+    × ((made ≡ length at) ⊎ ((made < length at) × RunHasEnded old.pile.game.graph before Ends notes))
 
 -- the limit stopped the play of drop i, which was to be made; the drops before it were made
 abbrev pub StopsMeasure : (old new : KeptGame) → (at amounts : List ℕ) → (Noted → Type 0) → (before after : Measures)
     → ℕ → Type 0
 StopsMeasure old new at amounts Ends before after i =
     (notes : List Noted) × (k : KeptGame) × AreWritten old k at amounts Ends before after notes × (length notes ≡ i)
-    × (i < length at) × (IsOver old.pile.game.graph before Ends notes → ⊥)
+    × (i < length at) × (RunHasEnded old.pile.game.graph before Ends notes → ⊥)
     × DropsOnStable k new (slice_index at i) (slice_index amounts i) None
 
 -- what drops that can fall return on a stable pile: the number made; or the limit stops one

@@ -61,9 +61,9 @@ pub record Settling (old new : List Tally) (e word : ℕ) (told : Result ℕ Boo
   pub more : IfOk told (λ more. AreTallies old → more ≡ word - answered_on old e)
 
 -- what a call returns that reads books: what is right of sound ones, if they have what is asked for
-abbrev pub Tells : {T : Type 0} → Books → Type 0 → (T → Type 0) → Result T BooksFault → Type 0
-Tells b has right (Ok told) = IsSound b → has × right told
-Tells b has right (Err fault) = (fault ≡ NotSound) × (IsSound b → has → ⊥)
+abbrev pub ReadsBooks : {T : Type 0} → Books → Type 0 → (T → Type 0) → Result T BooksFault → Type 0
+ReadsBooks b has right (Ok told) = IsSound b → has × right told
+ReadsBooks b has right (Err fault) = (fault ≡ NotSound) × (IsSound b → has → ⊥)
 
 -- at most as many are answered as there are messages, within the limit
 pub record IsPossible (t : Tally) : Type 0 where

@@ -8,7 +8,7 @@ use Rattle.chip_library.specs.declared.detector.BooksFault.{BooksFault}
 use Rattle.chip_library.specs.declared.detector.BooksFault.TheVariants.{NotSound}
 use Rattle.chip_library.specs.declared.sums.SummedBooks.{SummedBooks}
 use Rattle.chip_library.specs.declared.sums.Acknowledged.{Acknowledged}
-use Rattle.chip_library.specs.PartBooks.{books_of, HasEdge, AreBooks, Notes, Tells}
+use Rattle.chip_library.specs.PartBooks.{books_of, HasEdge, AreBooks, Notes, ReadsBooks}
 
 -- books, the kept sum of all that is owed, and the kept deficit
 pub record Summed : Type 0 where
@@ -55,7 +55,7 @@ count_in (Err fault) = 0
 
 -- what a call returns that acknowledges all messages of an edge that may be acknowledged
 pub record AcknowledgesAll (old new : Summed) (e : ℕ) (passive : Bool) (told : Result Acknowledged BooksFault) : Type 0 where
-  pub all : HasSums old → Tells old.books (HasEdge (in_edges old.books) e) (λ now. now.count ≡ may_ack old.books e passive) told
+  pub all : HasSums old → ReadsBooks old.books (HasEdge (in_edges old.books) e) (λ now. now.count ≡ may_ack old.books e passive) told
   pub notes : NotesSummed old new passive (Acked e (count_in told)) told
   pub so_far : IfOk told (λ now. IsSound old.books → now.so_far ≡ acked_of new.books e)
 

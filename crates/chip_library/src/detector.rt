@@ -14,7 +14,7 @@ ghost use Rattle.chip_detect.specs.Acknowledging.{may_ack};
 ghost use Rattle.chip_detect.specs.Steps.{Got, Acked, Sent};
 ghost use Rattle.chip_diffusing.specs.Laws.{IsOver};
 ghost use Rattle.chip_library.specs.declared.detector.BooksFault.TheVariants.{NotSound};
-ghost use Rattle.chip_library.specs.PartBooks.{books_of, parent_of, HasEdge, Notes, Tells, IsPossible, ArePossible, IsFound, Suits, Settling};
+ghost use Rattle.chip_library.specs.PartBooks.{books_of, parent_of, HasEdge, Notes, ReadsBooks, IsPossible, ArePossible, IsFound, Suits, Settling};
 ghost use Rattle.chip_library.specs.PartBooks.{AddsUp, AddsUpForParent, AreNumbered, AreBooks};
 
 use chip_detect::{
@@ -91,7 +91,7 @@ pub fn may_ack(
     passive: bool,
 ) -> Result<u64, BooksFault>
     ensures told { let books = books_of ins.now outs.now parent in
-        Tells books (HasEdge (in_edges books) edge) (λ count. count ≡ may_ack books edge passive) result }
+        ReadsBooks books (HasEdge (in_edges books) edge) (λ count. count ≡ may_ack books edge passive) result }
     ensures adds_up { AddsUpForParent ins.now outs.now parent edge result }
 {
     let Some((_, tally)) = found(ins, edge) else {
@@ -181,7 +181,7 @@ pub(crate) fn settled_within(
 /// The number of acknowledgements the process waits for.
 pub fn deficit(outs: &[Tally]) -> Result<u64, BooksFault>
     ensures told { (ins : List Tally) → (parent : ℕ) → let books = books_of ins outs.now parent in
-        Tells books (Unit {0}) (λ count. count ≡ deficit books) result }
+        ReadsBooks books (Unit {0}) (λ count. count ≡ deficit books) result }
     ensures adds_up { AddsUp outs.now result }
 {
     match all_open(outs) {
@@ -193,7 +193,7 @@ pub fn deficit(outs: &[Tally]) -> Result<u64, BooksFault>
 /// Whether the root may report that the computation is over. `ended` says whether it will send no more.
 pub fn is_over(outs: &[Tally], ended: bool) -> Result<bool, BooksFault>
     ensures told { (ins : List Tally) → (parent : ℕ) → let books = books_of ins outs.now parent in
-        Tells books (Unit {0}) (λ over. (IsTrue over ↔ IsTrue ended × (deficit books ≡ 0)) × (IsTrue over → IsOver books ended))
+        ReadsBooks books (Unit {0}) (λ over. (IsTrue over ↔ IsTrue ended × (deficit books ≡ 0)) × (IsTrue over → IsOver books ended))
         result }
     ensures adds_up { AddsUp outs.now result }
 {

@@ -129,7 +129,8 @@ fn list_few(
     ensures { IfOk result (λ found. MatchOption found (few < legal_in_all graph.now chips.now)
         (λ legal. (length legal.items ≤ few) × (legal.items ≡ legal_vertices graph.now (slice_index chips.now)))) }
 {
-    let mut legal = Vec::new(alloc);
+    // (room for the whole queue, so that it never moves)
+    let mut legal = Vec::with_capacity(alloc, few.saturating_mul(3))?;
     for vertex in 0..graph.vertices() {
         if is_legal(graph, chips, vertex) {
             if legal.len() == few {

@@ -1,6 +1,6 @@
 //! A pile: a game that has ended, on which chips are dropped.
 
-ghost use Rattle.std.specs.Prelude.{◌≡◌, ◌↔◌, ℕ, ◌+◌, ◌<◌, ◌≤◌, true, List, [], ◌∷◌, sum, slice_index, is_none};
+ghost use Rattle.std.specs.Prelude.{◌≡◌, ◌↔◌, ℕ, ◌+◌, ◌*◌, ◌<◌, ◌≤◌, true, List, [], ◌∷◌, sum, slice_index, is_none};
 ghost use Rattle.std.specs.Prelude.{IfOk, IfSome, MatchResult};
 ghost use Rattle.chip_graph.specs.Limits.{max_total};
 ghost use Rattle.chip_graph.specs.ChipGame.{ChipGame, IsGame};
@@ -14,6 +14,7 @@ ghost use Rattle.chip_sequence.specs.Firing.{IsStable};
 ghost use Rattle.chip_fire.specs.BegunPile.{IsBegunPile, IsAtStart, PlaysOn};
 ghost use Rattle.chip_fire.specs.Measured.{HasRow, TellsMeasured, row_vertices, row_times};
 ghost use Rattle.chip_fire.specs.Timed.{EndsInRounds};
+ghost use Rattle.chip_fire.specs.Search.{places};
 
 use crate::avalanche::{Avalanche, Measured, Room, is_stable, play_from, play_out, tally};
 use crate::course::Course;
@@ -139,10 +140,20 @@ impl Pile {
     }
 
     /// Plays on by `visits` visits (`Play::go_on`); whether the play goes on.
-    #[tactic(auto, using(crate::proofs::CourseLemmas::plays_on))]
     pub fn go_on(self, alloc: Global, visits: u64) -> (Pile, bool)
         requires { IsBegunPile self }
         ensures { PlaysOn self result.0 visits result.1 }
+    {
+        let (pile, _, goes_on) = self.go_on_counted(alloc, visits);
+        (pile, goes_on)
+    }
+
+    /// Plays on as `go_on` does; also how many visits it made.
+    #[tactic(auto, using(crate::proofs::CourseLemmas::plays_on))]
+    pub fn go_on_counted(self, alloc: Global, visits: u64) -> (Pile, u64, bool)
+        requires { IsBegunPile self }
+        ensures plays { PlaysOn self result.0 visits result.2 }
+        ensures at_most { result.1 ≤ visits + 161 * places self.game }
     {
         let Pile {
             game,
@@ -156,7 +167,8 @@ impl Pile {
             chips,
             fired,
         };
-        let (course, goes_on) = play.go_on(alloc, course, visits, &mut 0, &mut Unwatched);
+        let mut made = 0;
+        let (course, goes_on) = play.go_on(alloc, course, visits, &mut made, &mut Unwatched);
         let Play { chips, fired, .. } = play;
         room.before.copy_from_slice(&fired);
         let pile = Pile {
@@ -166,7 +178,7 @@ impl Pile {
             room,
             course,
         };
-        (pile, goes_on)
+        (pile, made, goes_on)
     }
 
     /// Drops `count` chips on a vertex and plays to the end: the avalanche, or `None` if the limit has stopped it.

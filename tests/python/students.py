@@ -716,7 +716,7 @@ class Lies(_Silent):
 
 
 class WithoutTells(Core):
-    """Has an event of its own and does not say who tells whom."""
+    """Has an event of its own and does not say who sends to whom."""
 
     def own_events(self):
         yield "look", 0, 0

@@ -52,7 +52,7 @@ REFUSALS = {
     "AnswersNotNow": ("take [01] replies 'not-now 5', and in the game 'got 1 1'", None),
     "OpensAgain": ("the root is open again, and it was closed before this event", None),
     "Lies": ("look 0 is one event of Lies in which more than two parts tell and hear something", None),
-    "WithoutTells": ("look is an event of WithoutTells, whose `tells` does not say who tells whom", None),
+    "WithoutTells": ("look is an event of WithoutTells, whose `tells` does not say who sends to whom", None),
     "InItsClass": ("InItsClass.seen stands in a class, and changed", None),
     "InADefault": ("InADefault does not do the same again", None),
     "InAGlobal": ("InAGlobal does not do the same again", None),

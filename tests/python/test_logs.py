@@ -703,7 +703,7 @@ class Models(unittest.TestCase):
         judged = chipfire.judge_log(chipfire.model_log(FOUR, "right", events[:-1]))
         self.assertEqual((judged.is_right, judged.end), (None, "unclaimed"))
 
-    def test_a_detector_of_ones_own_says_who_tells_whom(self):
+    def test_a_detector_of_ones_own_says_who_sends_to_whom(self):
         class Asks(detectors.AtOnce):
             """Asks once."""
 

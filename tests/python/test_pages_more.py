@@ -58,7 +58,7 @@ def played(make, seed=1):
 
 
 class OwnEvents(unittest.TestCase):
-    def test_who_tells_whom_is_said(self):
+    def test_who_sends_to_whom_is_said(self):
         run, places = played(Safra)
         with tempfile.NamedTemporaryFile("r", suffix=".html") as file:
             chipfire.page(run, file.name)
@@ -69,7 +69,7 @@ class OwnEvents(unittest.TestCase):
             self.assertEqual(step["kind"] == "pass_on", before != after)
             if before != after:
                 self.assertEqual(step["tells"], [[it if it < 3 else None for it in (before, after)]])
-                said = f"{names[before]} tells {names[after]} (pass_on {before})."
+                said = f"{names[before]} sends to {names[after]} (pass_on {before})."
                 self.assertEqual(data["words"][step["event"]], said[0].upper() + said[1:])
                 passes += 1
             else:

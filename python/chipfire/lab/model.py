@@ -221,10 +221,10 @@ class Core:
         return iter(())
 
     def tells(self, kind: str, at: int) -> Iterable[tuple[int, int]]:
-        """Who tells whom in such an event, as pairs; the root is the part after the vertices. `chipfire.explore` and
+        """Who sends to whom in such an event, as pairs; the root is the part after the vertices. `chipfire.explore` and
         `chipfire.model_log` ask it. An event is at one part or between two."""
         raise ValueError(
-            f"{kind} is an event of {type(self).__name__}, whose `tells` does not say who tells whom"
+            f"{kind} is an event of {type(self).__name__}, whose `tells` does not say who sends to whom"
         )
 
     # What may happen, and what is left.

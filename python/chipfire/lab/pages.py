@@ -463,7 +463,7 @@ def compared(run: Simulation, ledger: Ledger) -> Iterator[tuple[Event, Reply]]:
 
 
 def messages_of(core: Core, event: Event) -> list[tuple[int, int]]:
-    """Who tells whom in an event of a detector's own, the root after the vertices, if its `tells` says so."""
+    """Who sends to whom in an event of a detector's own, the root after the vertices, if its `tells` says so."""
     if event.kind in (*EVENTS, WORK):
         return []
     try:
@@ -499,14 +499,14 @@ class Words:
         step["reply"] = self.number(says.reply(event, reply, ledger.core))
         if question is not None:
             # (of a wrong detector too it is asked what the rule allows)
-            is_vain = (
+            is_idle = (
                 reply.kind in ("empty", "full") or event.kind == "settle" and reply.numbers == (0,)
             )
             is_ack = event.kind == "ack" and event.at < len(ledger.core.edges)
             why = says.reasons(event, ledger.core)
             step |= {
                 "ask": self.number(question),
-                "yes": not why if is_ack else reply.is_done and not is_vain,
+                "yes": not why if is_ack else reply.is_done and not is_idle,
             }
             if why:
                 step["why"] = sorted({[*WORDS["reasons"]].index(reason) for reason, _ in why})

@@ -372,8 +372,8 @@ def model_log(
     setting : Setting or Computation
         The game.
     detector : str or type
-        A name of `chipfire.detectors.DETECTORS`, or a class. With events of its own it says in `tells` who tells
-        whom.
+        A name of `chipfire.detectors.DETECTORS`, or a class. With events of its own it says in `tells` who sends
+        to whom.
     events : iterable of (kind, at, count)
         The schedule.
 
@@ -430,7 +430,7 @@ def model_log(
 
 
 def _messages_of(core: Any, kind: str, at: int) -> list[tuple[int, int]]:
-    """Who tells whom in an event of a detector's own, which is at one part or between two."""
+    """Who sends to whom in an event of a detector's own, which is at one part or between two."""
     pairs = [(int(teller), int(hearer)) for teller, hearer in core.tells(kind, at)]
     if len({part for pair in pairs for part in pair}) > 2:
         raise ValueError(

@@ -60,15 +60,15 @@ class Sentences:
         self, event: Event, reply: Reply | None = None, tells: Iterable[tuple[int, int]] = ()
     ) -> str:
         """What happens, or what is tried, if the reply says that it was refused or found nothing; of an event of the
-        detector's own who tells whom."""
+        detector's own who sends to whom."""
         if event.kind == WORK:
             return f"Vertex {self.graph.names[event.at]} goes on, in way {event.count}."
         if event.kind not in EVENTS:
-            said = " and ".join(f"{self.part(it)} tells {self.part(to)}" for it, to in tells)
+            said = " and ".join(f"{self.part(it)} sends to {self.part(to)}" for it, to in tells)
             said = said or "the detector has an event of its own"
             return f"{said[0].upper()}{said[1:]} ({event.kind} {event.at})."
-        is_vain = reply is not None and reply.kind in ("not-now", "empty")
-        return self._said(self.words["tries" if is_vain else "events"][event.kind], event) + "."
+        is_idle = reply is not None and reply.kind in ("not-now", "empty")
+        return self._said(self.words["tries" if is_idle else "events"][event.kind], event) + "."
 
     def ask(self, event: Event) -> str | None:
         """What can be asked about an event before its reply is known; None if there is nothing to ask."""

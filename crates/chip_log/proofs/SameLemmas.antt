@@ -162,6 +162,7 @@ module _ (log other : List LogRow) (same : SameRows log other) where
 
     pub judged_log_as : (w : Bool) (judged : JudgedLog) → IsJudgedLog w log judged → IsJudgedLog w other judged
     judged_log_as w judged is = record {
+      ordered = (is.ordered.0, interleaving_as log other same is.ordered.0 is.ordered.1);
       claims = record {
         all = record {
           once = λ p i. rw (claim_as log other same p i) at (is.claims.all.once p i);

@@ -12,7 +12,7 @@ use Rattle.chip_log.specs.declared.judged.ClaimVerdict.{ClaimVerdict}
 use Rattle.chip_log.specs.declared.judged.LogEnd.{LogEnd}
 use Rattle.chip_log.specs.declared.judged.LogEnd.TheVariants as end
 use Rattle.chip_log.specs.declared.judged.JudgedLog.{JudgedLog}
-use Rattle.chip_log.specs.Log.{steps_of, outs, ins}
+use Rattle.chip_log.specs.Log.{steps_of, outs, ins, IsInterleaving}
 use Rattle.chip_log.specs.Claims.{IsPast, IsQuiescentAfter, IsInTransit, IsBusy, IsRight, IsVerdict}
 
 -- ---- claims
@@ -111,7 +111,8 @@ pub record AreJudged (with_past : Bool) (log : List LogRow) (claims : List Claim
   pub all : AreClaims log (map claim_place claims)
   pub each : All (IsJudged with_past log) claims
 
--- and the end
+-- and the end, of a log that has an interleaving
 pub record IsJudgedLog (with_past : Bool) (log : List LogRow) (judged : JudgedLog) : Type 0 where
+  pub ordered : (xs : List LogRow) × IsInterleaving log xs
   pub claims : AreJudged with_past log judged.claims.items
   pub end : IsEnd log judged.end

@@ -1,5 +1,5 @@
 -- The report on a log is unique.
-use Rattle.std.specs.Prelude.{◌≡◌, ℕ, Bool, List, [], Some, Result, Ok, Err}
+use Rattle.std.specs.Prelude.{◌≡◌, ℕ, Bool, true, false, List, [], Some, Result, Ok, Err}
 use Rattle.chip_graph.specs.Limits.{SizeLimits}
 use Rattle.chip_log.specs.declared.row.LogRow.{LogRow}
 use Rattle.chip_log.specs.Log.{steps_of, HasEnds}
@@ -7,7 +7,7 @@ use Rattle.chip_log.specs.declared.past.Sizes.{Sizes}
 use Rattle.chip_file.specs.LogText.{log_of_text}
 use Rattle.chip_command.specs.declared.ended.Ended.{Ended}
 use Rattle.chip_command.specs.declared.fault.Fault.{Fault}
-use Rattle.chip_command.specs.declared.fault.Fault.TheVariants.{Absent}
+use Rattle.chip_command.specs.declared.fault.Fault.TheVariants.{Absent, Stuck}
 use Rattle.chip_engine.specs.declared.judge.JudgeOptions.{JudgeOptions}
 use Rattle.chip_engine.specs.JudgeCommand.{JudgeAnswers, JudgesBy}
 
@@ -27,16 +27,17 @@ pub record MeanSame (limits : SizeLimits) (one two : List ℕ) : Type 0 where
   pub two_is : log_of_text limits two ≡ Some (other, others)
   pub same : (p : ℕ) → steps_of p log ≡ steps_of p other
 
--- two ends of the command agree: the same bytes and status, or the same process is absent
-abbrev pub AreOne : (text again : List ℕ) → (one two : Result Ended Fault) → Type 0
-AreOne text again (Ok ended) (Ok other) = (text ≡ again) × (ended ≡ other)
-AreOne text again (Err (Absent p)) (Err (Absent q)) = p ≡ q
-AreOne text again (Ok ended) (Err (Absent q)) = ⊥
-AreOne text again (Err (Absent p)) (Ok other) = ⊥
-AreOne text again one two = Unit {0}
+-- whether the log alone decides an end of the command: a report, an absent process, or rows without an order. The other
+-- ends of such texts are those of a machine that failed
+abbrev pub is_of_log : Result Ended Fault → Bool
+is_of_log (Ok ended) = true
+is_of_log (Err (Absent p)) = true
+is_of_log (Err (Stuck p i)) = true
+is_of_log other = false
 
--- whatever `judge` writes of one of two such texts, by the same options, it writes of the other
+-- whatever the log decides of one of two such texts, with what is written, it decides of the other, by the same options
 abbrev pub SameTexts : Type 0
 SameTexts = (options : JudgeOptions) (one two text again : List ℕ) (ended other : Result Ended Fault)
     → MeanSame options.limits one two → JudgeAnswers (Some one) options (Some []) (Some text) ended
-    → JudgeAnswers (Some two) options (Some []) (Some again) other → AreOne text again ended other
+    → JudgeAnswers (Some two) options (Some []) (Some again) other → is_of_log ended ≡ true → is_of_log other ≡ true
+    → (text ≡ again) × (ended ≡ other)

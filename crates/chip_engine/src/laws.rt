@@ -5,7 +5,10 @@ ghost use Rattle.chip_engine.specs.SimulatedBytes.{SimulatedBytes};
 ghost use Rattle.chip_engine.specs.Stages.{PlainTellsPlay, SimulateTellsPlay, ResumedPlaysAddUp};
 ghost use Rattle.chip_engine.specs.JudgeLaws.{OneAnswer, SameTexts};
 
-use chip_log::laws::{one_absent, one_first, one_judgment, same_first, same_judgment};
+use chip_log::laws::{
+    one_absent, one_first, one_judgment, one_place, same_first, same_judgment, same_stuck,
+    stuck_order,
+};
 
 /// A stage that went on, and the refusals of `resume`, as the definitions compute them.
 pub fn worked_stage()
@@ -52,10 +55,13 @@ pub fn one_answer()
     one_first();
 }
 
-/// Texts of such logs have the same bytes and status.
+/// Texts of such logs have the same bytes and status, or the same fault.
 pub fn same_texts()
     ensures { SameTexts }
 {
     one_answer();
     one_absent();
+    same_stuck();
+    one_place();
+    stuck_order();
 }

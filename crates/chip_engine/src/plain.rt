@@ -53,7 +53,7 @@ pub fn plain_engine_with<G: Read, C: Read, P: Watch, W: Write>(
         (W.contents output.old) (W.contents output.new) result }
 {
     let game = read_game(alloc, options.limits, graph, chips, options.limit)?;
-    let answer = play(alloc, &game, &[], watch)?;
+    let answer = play(alloc, game, &[], watch)?;
     deliver(output, answer)
 }
 
@@ -76,16 +76,18 @@ pub fn plain_guess_engine_with<G: Read, C: Read, Q: Read, P: Watch, W: Write>(
     let PlayOptions { limits, limit } = options;
     let game = read_game(alloc, limits, graph, chips, limit)?;
     let counts = read_guess(alloc, limits, guess, game.graph().vertices())?;
-    let answer = play(alloc, &game, &counts, watch)?;
+    let answer = play(alloc, game, &counts, watch)?;
     deliver(output, answer)
 }
 
 /// The report of a game, played from given counts.
-fn play<P: Watch>(alloc: Global, game: &Game, given: &[u64], watch: &mut P) -> Result<Answer, Fault>
-    ensures { GivesAnswer (playing game.now) result }
+fn play<P: Watch>(alloc: Global, game: Game, given: &[u64], watch: &mut P) -> Result<Answer, Fault>
+    ensures { GivesAnswer (playing game) result }
 {
-    watch.plays(game);
-    let outcome = plain_given(alloc, game, given, watch)?;
+    watch.plays(&game);
+    let outcome = plain_given(alloc, &game, given, watch)?;
+    // (the report needs room)
+    drop(game);
     let answer = Answer::of_outcome(alloc, &outcome)?;
     watch.writes(answer.text.len() as u64);
     Ok(answer)

@@ -130,7 +130,8 @@ module _ (one_answer : OneAnswer) (one_absent : OneAbsent) (same_stuck : SameStu
       → is_of_log one ≡ true → is_of_log two ≡ true → (text ≡ again) × (one ≡ two)
   are_one (Ok one) (Ok two) a b is too =
       let written = one_answer options.first options.past log other text again one.status two.status ends same a.0.1 b.0.1 in
-      (written.0, ap Ok (λ i. record { status = written.1 i; cut = (a.1 ∙ sym b.1) i }))
+      let same_end : one ≡ two = (λ i. record { status = written.1 i; cut = (a.1 ∙ sym b.1) i }) in
+      (written.0, ap Ok same_end)
   are_one (Ok one) (Err two) a b is too =
       absurd (not_both one_absent same_stuck one_place stuck_order options log other same ends text one.status two a.0 b.1 too)
   are_one (Err one) (Ok two) a b is too =

@@ -83,24 +83,24 @@ fn next_actor<B: Crew>(queue: &Queue<B>, pass: &mut QueuePass, kept: Option<Acto
 }
 
 /// Counts an idle turn. The worker yields after more idle turns in a row than there are actors.
-fn count_idle(idle_turns: &mut usize, actors: usize) {
-    if *idle_turns < actors {
-        *idle_turns += 1;
+fn count_idle(idle: &mut usize, actors: usize) {
+    if *idle < actors {
+        *idle += 1;
     } else {
         thread::yield_now();
-        *idle_turns = 0;
+        *idle = 0;
     }
 }
 
 /// Takes an actor, gives it a turn and puts it back. A kept actor has its turn instead of one from the queue, and one
-/// that can't be put back is kept. `idle_turns` is the number of idle turns in a row before.
+/// that can't be put back is kept. `idle` is the number of idle turns in a row before.
 #[inline(never)]
 fn turn_by_queue<B: Crew>(
     net: &Net,
     queue: &Queue<B>,
     pass: &mut QueuePass,
     kept: Option<Actor>,
-    idle_turns: &mut usize,
+    idle: &mut usize,
 ) -> Option<Actor>
     requires net { net.now ≡ B.asked.crew.net }
     requires pass { IsPassOf queue.now pass.old }
@@ -111,15 +111,15 @@ fn turn_by_queue<B: Crew>(
     ensures turn { MakesOneTurn (view pass.old) (view pass.new) kept result }
 {
     let Some(mut actor) = next_actor(queue, pass, kept) else {
-        count_idle(idle_turns, queue.capacity());
+        count_idle(idle, queue.capacity());
         return None;
     };
     let turn = actor.turn(net);
     let back = queue.try_push_as::<Pushed<B>>(pass, actor);
     if matches!(turn, Turn::Waiting | Turn::Idle) {
-        count_idle(idle_turns, queue.capacity());
+        count_idle(idle, queue.capacity());
     } else {
-        *idle_turns = 0;
+        *idle = 0;
     }
     back.err()
 }
@@ -195,7 +195,7 @@ impl<'a, B: Crew, G: Gate> Shared<'a, B, G> {
         most: u64,
         share: &mut Share<'a, B>,
         duties: &mut D,
-        idle_turns: &mut usize,
+        idle: &mut usize,
     ) -> u64
         requires most { (0 < most) × (most ≤ round_of share.old) × (first + most ≤ B.asked.plan.turns) }
         requires first { first % round_of share.old ≡ 0 }
@@ -214,7 +214,7 @@ impl<'a, B: Crew, G: Gate> Shared<'a, B, G> {
                 if !self.begin(worker, first, duties) {
                     return 0;
                 }
-                *kept = turn_by_queue::<B>(self.net, queue, pass, kept.take(), idle_turns);
+                *kept = turn_by_queue::<B>(self.net, queue, pass, kept.take(), idle);
                 1
             }
             Share::Dealt(actors) => self.turn_each(worker, first, most, actors, duties),
@@ -238,19 +238,12 @@ impl<'a, B: Crew, G: Gate, D: Duties> Worker<'a, B, G, D> {
         } = self;
         let round = share.round();
         let mut turns = 0;
-        let mut idle_turns = 0;
+        let mut idle = 0;
         let mut passed = true;
         // The worker that ordered the stop returns the reason.
         while turns < shared.plan.turns && !shared.stop.load(SeqCst) {
             let most = round.min(shared.plan.turns - turns);
-            let made = shared.round(
-                number,
-                turns,
-                most,
-                &mut share,
-                &mut duties,
-                &mut idle_turns,
-            );
+            let made = shared.round(number, turns, most, &mut share, &mut duties, &mut idle);
             turns += made;
             if made < round {
                 // The gate returned false, or the plan's turns are used up.

@@ -1,7 +1,6 @@
 use Rattle.std.proofs.Common.{◌≡◌, ℕ, Bool, true, false, List, [], Option, Some, None, Result, Ok, Err}
 use Rattle.std.proofs.Common.{refl, sym, ap, ◌∙◌, inl, inr, subst, unwrap_or}
 use Rattle.chip_graph.specs.Limits.{SizeLimits}
-use Rattle.chip_log.proofs.SameLemmas.{ends_as}
 use Rattle.chip_log.specs.Claims.{IsVerdict}
 use Rattle.chip_log.specs.First.{IsFirstAbsent}
 use Rattle.chip_log.specs.Judged.{is_early}
@@ -90,7 +89,7 @@ ordered true past log text status (inr (none, all)) = all.is_judged.ordered
 
 module _ (one_absent : OneAbsent) (same_stuck : SameStuck) (one_place : OnePlace) (stuck_order : StuckOrder)
     (options : JudgeOptions) (log other : List LogRow) (same : (p : ℕ) → steps_of p log ≡ steps_of p other)
-    (ends : HasEnds log) where
+    (ends : HasEnds log) (others : HasEnds other) where
   absent_is : (p q : Option ℕ) → IsFirstAbsent log options.processes p → IsFirstAbsent other options.processes q → p ≡ q
   absent_is p q first second = one_absent log other options.processes p q same first second
 
@@ -115,14 +114,15 @@ module _ (one_absent : OneAbsent) (same_stuck : SameStuck) (one_place : OnePlace
   one_fault fault again (inl (inr (none, stuck))) (inl (inl (q, because, second))) is too =
       absurd (cc (absent_is None (Some q) none second))
   one_fault fault again (inl (inr (none, (p, i, why, stuck)))) (inl (inr (all, (q, j, because, there)))) is too =
-      let (process, row) = one_place other p i q j (ends_as log other same ends) (same_stuck log other p i same stuck) there in
+      let (process, row) = one_place other p i q j others (same_stuck log other p i same stuck) there in
       why ∙ (λ k. Stuck (process k) (row k)) ∙ sym because
 
 -- ---- the law
 
 module _ (one_answer : OneAnswer) (one_absent : OneAbsent) (same_stuck : SameStuck) (one_place : OnePlace)
     (stuck_order : StuckOrder) (options : JudgeOptions) (log other : List LogRow)
-    (same : (p : ℕ) → steps_of p log ≡ steps_of p other) (ends : HasEnds log) (text again : List ℕ) where
+    (same : (p : ℕ) → steps_of p log ≡ steps_of p other) (ends : HasEnds log) (others : HasEnds other)
+    (text again : List ℕ) where
   back : (p : ℕ) → steps_of p other ≡ steps_of p log
   back p = sym (same p)
 
@@ -132,14 +132,13 @@ module _ (one_answer : OneAnswer) (one_absent : OneAbsent) (same_stuck : SameStu
       let written = one_answer options.first options.past log other text again one.status two.status ends same a.0.1 b.0.1 in
       let same_end : one ≡ two = (λ i. record { status = written.1 i; cut = (a.1 ∙ sym b.1) i }) in
       (written.0, ap Ok same_end)
-  are_one (Ok one) (Err two) a b is too =
-      absurd (not_both one_absent same_stuck one_place stuck_order options log other same ends text one.status two a.0 b.1 too)
-  are_one (Err one) (Ok two) a b is too =
-      absurd (not_both one_absent same_stuck one_place stuck_order options other log back (ends_as log other same ends) again
-      two.status one b.0 a.1 is)
+  are_one (Ok one) (Err two) a b is too = absurd (not_both one_absent same_stuck one_place stuck_order options log other same
+      ends others text one.status two a.0 b.1 too)
+  are_one (Err one) (Ok two) a b is too = absurd (not_both one_absent same_stuck one_place stuck_order options other log back
+      others ends again two.status one b.0 a.1 is)
   are_one (Err one) (Err two) a b is too = (
     a.0 ∙ sym b.0,
-    ap Err (one_fault one_absent same_stuck one_place stuck_order options log other same ends one two a.1 b.1 is too),
+    ap Err (one_fault one_absent same_stuck one_place stuck_order options log other same ends others one two a.1 b.1 is too),
   )
 
 pub returns : goal.returns
@@ -147,4 +146,4 @@ returns c = λ options one two text again ended other means first second is too.
     let a = decided options one means.log means.sizes means.one_is text ended first is in
     let b = decided options two means.other means.others means.two_is again other second too in
     are_one c.one_answer.ensures c.one_absent.ensures c.same_stuck.ensures c.one_place.ensures c.stuck_order.ensures options
-    means.log means.other means.same a.0 text again ended other a.1 b.1 is too
+    means.log means.other means.same a.0 b.0 text again ended other a.1 b.1 is too

@@ -19,7 +19,7 @@ use Rattle.chip_command.specs.declared.ended.Ended.{Ended}
 use Rattle.chip_command.specs.declared.fault.Fault.{Fault}
 use Rattle.chip_command.specs.declared.fault.Fault.TheVariants.{Absent, Stuck}
 use Rattle.chip_engine.specs.JudgeCommand.{JudgeAnswers, JudgesBy, judging, judging_from}
-use Rattle.chip_engine.specs.JudgeLaws.{MeanSame, OneAnswer, is_of_log}
+use Rattle.chip_engine.specs.JudgeLaws.{OneAnswer, is_of_log}
 use Rattle.chip_engine.specs.declared.judge.JudgeOptions.{JudgeOptions}
 use Rattle.chip_engine.proofs.laws.same_texts.Goals as goal
 
@@ -50,9 +50,11 @@ module _ (options : JudgeOptions) (text : List ℕ) (log : List LogRow) (sizes :
       let same = one_log options.limits text log value.0 sizes value.1 means (read.0 text refl).1 in
       let text_is : out ≡ written = wrote in (
         subst HasEnds same read.1.ends,
-        subst (λ (rows : List LogRow). (judging options rows).gives (out, ended.status)) same
-            (subst (λ (w : List ℕ). (judging options value.0).gives (w, ended.status)) (sym text_is) gives),
-        whole,
+        (
+          subst (λ (rows : List LogRow). (judging options rows).gives (out, ended.status)) same
+              (subst (λ (w : List ℕ). (judging options value.0).gives (w, ended.status)) (sym text_is) gives),
+          whole,
+        ),
       )
   decided (Err fault) answers is = by answers.answer
     where
@@ -62,8 +64,7 @@ module _ (options : JudgeOptions) (text : List ℕ) (log : List LogRow) (sizes :
       by (inl (inr (value, read, refuses), keeps)) =
           let same = one_log options.limits text log value.0 sizes value.1 means (read.0 text refl).1 in (
             subst HasEnds same read.1.ends,
-            keeps,
-            subst (λ (rows : List LogRow). (judging options rows).refuses fault) same refuses,
+            (keeps, subst (λ (rows : List LogRow). (judging options rows).refuses fault) same refuses),
           )
       by (inr (written, status, gives, w, failed, wrote)) = absurd (cc (rw failed at is))
 

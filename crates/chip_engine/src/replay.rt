@@ -58,7 +58,7 @@ pub fn replay_engine_with<G: Read, C: Read, T: Read, W: Write>(
 {
     let play = options.play;
     let game = read_game(alloc, play.limits, graph, chips, play.limit)?;
-    let answer = replay_traces(alloc, options, game, trace)?;
+    let answer = replay_traces(alloc, options, &game, trace)?;
     deliver(output, answer)
 }
 
@@ -66,15 +66,14 @@ pub fn replay_engine_with<G: Read, C: Read, T: Read, W: Write>(
 fn replay_traces<T: Read>(
     alloc: Global,
     options: ReplayOptions,
-    game: Game,
+    game: &Game,
     trace: &mut T,
 ) -> Result<Answer, Fault>
-    ensures { GivesAnswer (replaying_from options (T.remaining trace.old) game) result }
+    ensures { GivesAnswer (replaying_from options (T.remaining trace.old) game.now) result }
 {
     let traces = read_trace_within(alloc, options.play.limits, trace, game.graph())?;
-    let replayed = replay_complete(alloc, &game, &traces)?;
-    // Game and traces take more than the firings, and the lines need room.
-    drop(game);
+    let replayed = replay_complete(alloc, game, &traces)?;
+    // They take more than the firings, and the lines need room.
     drop(traces);
     Ok(tell(alloc, &replayed, options.complete)?)
 }

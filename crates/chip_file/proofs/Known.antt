@@ -1,4 +1,4 @@
--- Serves Parts.antt.
+-- Serves JsonParts.antt.
 use Rattle.chip_file.proofs.JsonNames.{Edge, ◌≡◌, ℕ, suc, ◌+◌, ◌<◌, ◌≤◌, List, Bool, true, false, Option, None, Some, refl}
 use Rattle.chip_file.proofs.JsonNames.{sym, ap, ◌∙◌, arith, ne_eqb, Ordering, Less, Equal, Greater, nat_cmp, is_eq}
 use Rattle.chip_file.proofs.JsonNames.{is_eq-slice_cmp, bytes_eq-Decides, codes, if◌then◌else◌, ◌==◌, option_and_then}

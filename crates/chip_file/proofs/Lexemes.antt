@@ -1,4 +1,4 @@
--- Serves Plain.antt.
+-- Serves JsonPlain.antt.
 -- What bytes are as lexemes.
 use Rattle.chip_file.proofs.JsonNames.{◌≡◌, ◌≢◌, ℕ, ◌+◌, ◌<◌, ◌≤◌, Bool, true, false, cond, ◌==◌, List, [], ◌∷◌, ◌++◌}
 use Rattle.chip_file.proofs.JsonNames.{length, take, drop, get_or, Some, length-drop, refl, sym, ap, ◌∙◌, arith, eqb-true}

@@ -1,4 +1,4 @@
--- Serves Plain.antt.
+-- Serves JsonPlain.antt.
 -- What the lexemes of a graph file that is written plainly give.
 use Rattle.chip_file.proofs.JsonNames.{◌≡◌, ℕ, ◌+◌, ◌-◌, ◌<◌, ◌≤◌, Bool, true, false, List, [], ◌∷◌, ◌++◌, length}
 use Rattle.chip_file.proofs.JsonNames.{length-drop, drop, nat_eq, Option, Some, None, refl, sym, ap, ◌∙◌, arith, Vec}

@@ -1,4 +1,4 @@
--- Serves Parts.antt.
+-- Serves JsonParts.antt.
 -- The parts of a file, member by member.
 use Rattle.chip_file.proofs.JsonNames.{◌≡◌, ℕ, List, true, false, Option, Some, None, refl, sym, ◌∙◌, inl, inr, Vec, Global}
 use Rattle.chip_file.proofs.JsonNames.{true≢false, Bool, codes, ◌⊎◌, Data, object, Members, as_object, number_of_value}

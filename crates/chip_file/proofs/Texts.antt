@@ -1,4 +1,4 @@
--- Serves Parts.antt.
+-- Serves JsonParts.antt.
 -- The value of a whole text.
 use Rattle.chip_file.proofs.JsonNames.{◌≡◌, ℕ, Bool, true, false, List, [], ◌∷◌, Option, Some, None, option_and_then, refl}
 use Rattle.chip_file.proofs.JsonNames.{ap, ◌∙◌, IsUtf8, if◌then◌else◌, is_utf8, Token, tokens, if_last, value, Data}

@@ -1,4 +1,4 @@
--- Serves Values.antt.
+-- Serves JsonValues.antt.
 -- The grammar's loops, a turn at a time, under the conversion to data.
 use Rattle.chip_file.proofs.JsonNames.{◌≡◌, ℕ, zero, suc, ◌-◌, ◌<◌, List, [], ◌∷◌, length, Option, Some, None, option_map}
 use Rattle.chip_file.proofs.JsonNames.{option_and_then, refl, ap, ◌∙◌, arith, Bool, Result, Ok, Err, ⊤, ◌⊎◌, inl, inr, Bor}

@@ -1,4 +1,4 @@
--- Serves Resume.antt.
+-- Serves Resume.antt of chip_sequence.
 -- A stage that goes on from an earlier one.
 use Rattle.std.proofs.Common.{◌≡◌, ℕ, ◌+◌, slice_index, sym, ap, subst, arith, ◌<◌, ◌≤◌, length}
 use Rattle.std.proofs.lemmas.List.{get_or_past}

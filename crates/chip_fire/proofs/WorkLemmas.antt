@@ -39,7 +39,7 @@ queue_moved queue queue' first n room each moved =
     (λ i l. let m : i < n = omega arith in get_or-take n queue' i 0 m ∙ moved i m
     ∙ sym (get_or-take n (drop first queue) i 0 m ∙ get_or-drop first queue i 0))
 
--- what is put behind the first a of a queue
+-- what follows the first a of a queue
 pub queue_put : (a k n : ℕ) (xs ys : List ℕ) → a ≤ length xs → n ≤ length ys
     → (take n (drop a (put_mid a k xs ys)) ≡ take n ys) × (a + n ≤ length (put_mid a k xs ys))
 queue_put a k n xs ys room few =

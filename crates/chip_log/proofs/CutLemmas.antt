@@ -4,7 +4,7 @@ use Rattle.chip_log.proofs.Names.{◌≡◌, ℕ, true, List, [], ◌∷◌, ◌
 use Rattle.chip_log.proofs.Names.{steps_of, begins_active, HasEnds, IsInterleaving, IsProgress, IsBefore, IsPast, IsRight}
 use Rattle.chip_log.proofs.Names.{is_claim, length-append, nat_tests, LogRow, Step, Active, Over}
 use Rattle.chip_log.specs.Cut.{CutKeepsVerdicts}
-use Rattle.chip_log.proofs.PastLemmas.{least_past}
+use Rattle.chip_log.proofs.PastLemmas.{causal_past}
 use Rattle.chip_log.proofs.QuiescentLemmas.{quiescent_is_right}
 use Rattle.chip_log.proofs.ProgressLemmas.{rows-append, first_of, whole_progress, goes_on}
 use Rattle.chip_log.proofs.SameLemmas.{are_met_as, quiescent_as, judged_by}
@@ -44,7 +44,7 @@ module _ (log : List LogRow) (ends : HasEnds log) (xs : List LogRow) (all : IsIn
   past_stays : (past : List LogRow) → IsPast part p i past → IsPast log p i past
   past_stays past is =
       let here = to_log past is.here in
-      let least = least_past log ends p i past here in
+      let least = causal_past log ends p i past here in
       record {
         here = here;
         least = λ other there q.
@@ -58,7 +58,7 @@ module _ (log : List LogRow) (ends : HasEnds log) (xs : List LogRow) (all : IsIn
       let whole : IsInterleaving part part = record { whole = λ q. refl; met = are_met_as log part begins [] part done.met } in
       let here : IsBefore part p i found.0 =
       record { after = found.1; whole = subst (IsInterleaving part) found.2 whole; place = found.3 } in
-      let least = least_past log ends p i found.0 (to_log found.0 here) in
+      let least = causal_past log ends p i found.0 (to_log found.0 here) in
       quiescent_is_right log ends p i least.0 least.1 (quiescent_as part log (λ q. sym (begins q)) least.0
       (right.at least.0 (to_part found.0 least.0 here least.1)))
 

@@ -9,7 +9,7 @@ use Rattle.std.proofs.Common.{add-one}
 use Rattle.chip_log.specs.Missing.{staying, stay_below, IsWithout, RightWithoutRows, SentWhileActive}
 use Rattle.chip_log.proofs.CountLemmas.{rows-append, steps_of-append, active_after-append}
 use Rattle.chip_log.proofs.MetLemmas.{same_self}
-use Rattle.chip_log.proofs.PastLemmas.{are_met_second, are_met_both, met_le, least_past}
+use Rattle.chip_log.proofs.PastLemmas.{are_met_second, are_met_both, met_le, causal_past}
 use Rattle.chip_log.proofs.QuiescentLemmas.{quiescent_is_right}
 use Rattle.chip_log.proofs.OrderingLemmas.{sent_at}
 use Rattle.chip_log.proofs.ProgressLemmas.{rows, rows-append as own-rows, first_of, whole_progress, next_own, along, owner_of}
@@ -155,7 +155,7 @@ right_without_rows stays told log left p i ends is stay right =
       at = quiescent;
       later = λ before between after whole place.
           let here : IsBefore log p i before = record { after = between ++ after; whole = rw append_assoc at whole; place = place } in
-          let past = least_past log ends p i before here in
+          let past = causal_past log ends p i before here in
           (quiescent_is_right log ends p i past.0 past.1 (quiescent past.0 past.1.here)).later before between after whole place;
     }
 

@@ -114,19 +114,19 @@ module _ (log : List LogRow) (ends : HasEnds log) (used : List LogRow) (most : I
       let c = (are_met_second log [] used (x ∷ more) now.met).0 in
       absurd (cc)
 
-  pub most_progress : (other : List LogRow) → IsProgress log other → (p : ℕ) → rows p other ≤ rows p used
-  most_progress other is = let on = joined log ends used most.progress other is in none_joined other on.0 is on.1
+  pub maximal_progress : (other : List LogRow) → IsProgress log other → (p : ℕ) → rows p other ≤ rows p used
+  maximal_progress other is = let on = joined log ends used most.progress other is in none_joined other on.0 is on.1
 
 module _ (log : List LogRow) (ends : HasEnds log) where
   pub no_order : (p i : ℕ) (xs : List LogRow) → IsStuck log p i → IsInterleaving log xs → ⊥
   no_order p i xs stuck is =
-      omega (arith, most_progress log ends stuck.used stuck.greatest xs (whole_progress log xs is) p, ap length (is.whole p))
+      omega (arith, maximal_progress log ends stuck.used stuck.greatest xs (whole_progress log xs is) p, ap length (is.whole p))
 
   same_length : (p i q j : ℕ) → (one : IsStuck log p i) → (two : IsStuck log q j)
       → (r : ℕ) → length (steps_of r one.used) ≡ length (steps_of r two.used)
   same_length p i q j one two r =
-      let a = most_progress log ends one.used one.greatest two.used two.greatest.progress r in
-      let b = most_progress log ends two.used two.greatest one.used one.greatest.progress r in
+      let a = maximal_progress log ends one.used one.greatest two.used two.greatest.progress r in
+      let b = maximal_progress log ends two.used two.greatest one.used one.greatest.progress r in
       omega arith
 
   not_less : (p i q j : ℕ) → IsStuck log p i → IsStuck log q j → p < q → ⊥

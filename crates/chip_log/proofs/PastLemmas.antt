@@ -249,5 +249,5 @@ module _ (log : List LogRow) (ends : HasEnds log) (p i : ℕ) where
     least = λ other there q. none_or_some q kept other (split.least other there q);
   }
 
-  pub least_past : (before : List LogRow) → IsBefore log p i before → (past : List LogRow) × IsPast log p i past
-  least_past before is = let found = split [] before is in (found.0, past_of_split found.0 found.1)
+  pub causal_past : (before : List LogRow) → IsBefore log p i before → (past : List LogRow) × IsPast log p i past
+  causal_past before is = let found = split [] before is in (found.0, past_of_split found.0 found.1)

@@ -11,12 +11,12 @@ pub fn worked()
 {}
 
 /// Each claim of an interleaving has a causal past.
-pub fn least_past()
+pub fn causal_past()
     ensures { CausalPast }
 {}
 
 /// A claim is right if the log is quiescent after its causal past.
-pub fn silent_past()
+pub fn quiescent_past()
     ensures { QuiescentPast }
 {}
 
@@ -26,7 +26,7 @@ pub fn one_verdict()
 {}
 
 /// No progress has more rows of a process than maximal progress.
-pub fn most_progress()
+pub fn maximal_progress()
     ensures { MaximalProgress }
 {}
 

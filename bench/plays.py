@@ -3,9 +3,10 @@
 
     bench/library/plays [--turns N] [--game NAME].. [--drawn N] [--old LIB] [--program FILE]
 
-A play is one call less the same call without chips, which is what the graph takes and has a row of its own. In each
-turn each library makes both calls, in a process of its own, which is stopped after a time in which it has not ended;
-short ones it makes several times. What counts is the least time of the processor of each call, and all libraries must
+A play is one call less the same call without chips, which is what the graph takes and has a row of its own. The next
+two rows are a call that puts the chips on a pile that is kept, and the call that plays it, by itself. In each turn each
+library makes the calls, in a process of its own, which is stopped after a time in which it has not ended; short ones it
+makes several times. The row of a graph with lists is of a program in C that also keeps what a graph of chipfire has. What counts is the least time of the processor of each call, and all libraries must
 return the same numbers. LIB is another libchipfire.so, as of an older version, beside which the same is timed. Drops are
 one a call on a pile that is kept, and one a call with its graph.
 
@@ -93,6 +94,8 @@ GAMES = {
     "1,000 by 1,000, stable but for one vertex": all_but_one,
     "clique of 100 with a tail of 200": clique_with_tail,
 }
+#: What is asked for the graph with lists.
+LISTS = "1,000 by 1,000, with lists of edges"
 #: The sides of the squares on which one chip is dropped a call, and how many calls are timed.
 DROPS = {"one drop a call, 64 by 64": (64, 20_000), "one drop a call, 256 by 256": (256, 2000)}
 
@@ -135,6 +138,36 @@ def of_game(lib, _, game):
     graph, none = stabilized(lib, game, library.array([0] * game.vertices))
     both, numbers = stabilized(lib, game, game.chips)
     return (graph, max(both - graph, LEAST)), none + numbers
+
+
+def of_lists(lib, driver, game):
+    """Returns the seconds of the graph, of which plain C makes lists as well, and the numbers of no play."""
+    ctypes.c_int.in_dll(driver, "with_lists").value = 1
+    seconds, numbers = stabilized(lib, game, library.array([0] * game.vertices))
+    return (seconds,), numbers
+
+
+def of_pile(lib, _, game):
+    """Returns the least seconds of putting the chips on a pile and of playing it, and the numbers that it has then."""
+    limit, place, left = library.WORD(library.LIMIT), library.WORD(), library.WORD()
+    pile, to_the_end = (library.WORD * 2)(), library.WORD(2**64 - 1)
+    none, start = library.array([0] * game.vertices), library.words(game.chips)
+    lib.chipfire_pile_new(pile, *game.words, limit, *library.words(none), ctypes.byref(place))
+    puts, plays, begun = [], [], time.process_time()
+    while not plays or time.process_time() - begun < AGAIN and len(plays) < MOST:
+        before = time.process_time()
+        lib.chipfire_pile_put(pile, limit, *start)
+        between = time.process_time()
+        status = lib.chipfire_pile_play(pile, to_the_end, ctypes.byref(left))
+        puts.append(between - before)
+        plays.append(time.process_time() - between)
+    chips, fired = (library.array([0] * game.vertices) for _ in range(2))
+    lib.chipfire_pile_chips(pile, *library.words(chips))
+    lib.chipfire_pile_fired(pile, *library.words(fired))
+    lib.chipfire_pile_free(pile)
+    return (min(puts), min(plays)), bytes([status]) + b"".join(
+        bytes(it) for it, _ in (chips, fired)
+    )
 
 
 def of_drops(lib, driver, game):
@@ -212,17 +245,23 @@ def print_row(name, seconds):
 def print_game(name, paths, turns):
     """Prints the rows of a game: its graph and its play."""
     draw = random.Random(name)
-    words, timed = ("the graph of: {}", "{}"), of_game
     if name in DROPS:
         side, calls = DROPS[name]
         at = [draw.randrange(side * side) for _ in range(calls)]
         game = Game(*on_grid(side, [3] * side * side), at)
-        words, timed = ("{}, each with its graph", "{}, on a pile"), of_drops
+        parts = {of_drops: ("{}, each with its graph", "{}, on a pile")}
+    elif name == LISTS:
+        game, parts = Game(*on_grid(1000, {})), {of_lists: ("the graph of: {}",)}
     else:
         game = Game(*GAMES[name](draw))
-    least = least_of(name, timed, paths, game, turns)
-    for which, word in enumerate(words):
-        print_row(word.format(name), [it and it[which] for it in least])
+        parts = {
+            of_game: ("the graph of: {}", "{}"),
+            of_pile: ("putting on a pile: {}", "{}, on a pile"),
+        }
+    for timed, words in parts.items():
+        least = least_of(name, timed, paths, game, turns)
+        for which, word in enumerate(words):
+            print_row(word.format(name), [it and it[which] for it in least])
 
 
 def time_drawn(count, paths, turns):
@@ -243,7 +282,7 @@ def time_drawn(count, paths, turns):
 
 def main():
     words = frame.parser(__doc__, turns=3)
-    words.add_argument("--game", action="append", choices=[*GAMES, *DROPS])
+    words.add_argument("--game", action="append", choices=[*GAMES, LISTS, *DROPS])
     words.add_argument("--drawn", type=int, metavar="N")
     words.add_argument("--old", type=os.path.realpath, metavar="LIB")
     asked = frame.read_words(words)
@@ -257,7 +296,7 @@ def main():
     if asked.drawn:
         time_drawn(asked.drawn, paths, asked.turns)
         return
-    for name in asked.game or [*GAMES, *DROPS]:
+    for name in asked.game or [*GAMES, LISTS, *DROPS]:
         print_game(name, paths, asked.turns)
 
 

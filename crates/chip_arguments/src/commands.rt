@@ -236,8 +236,8 @@ static PLAIN: CommandRow = CommandRow {
 The report has the chips at the end, and how often each vertex fired (the odometer).
 
 A guess never changes the report. If its counts are good, a test certifies them and the report
-comes sooner. The play corrects wrong counts. A vertex that the guess does not name has 0. Of a
-report only the counts are read. The test can fail for true counts if some vertex has a
+comes sooner. The play corrects wrong counts. A vertex that the guess does not name has 0. Only the
+counts of a report are read. The test can fail for true counts if some vertex has a
 greater in-degree than out-degree.
 
 If no in-degree but the sink's is above the out-degree, as on undirected graphs, no vertex

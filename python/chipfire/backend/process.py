@@ -132,7 +132,7 @@ class Kept:
         self.number = file.fileno()
 
     def text(self) -> str:
-        """What stands in it, also what the program wrote."""
+        """Its contents, including what the program wrote."""
         with open(f"/dev/fd/{self.number}", encoding="utf-8", newline="") as file:
             return file.read()
 

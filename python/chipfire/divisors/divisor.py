@@ -84,7 +84,7 @@ class Divisor(AsArray, Sums):
         return self.numbers
 
     def is_effective(self) -> bool:
-        """Whether no vertex has fewer than 0 chips."""
+        """Whether every vertex has at least 0 chips."""
         return min(self.numbers) >= 0
 
     def fire(self, counts: Chips) -> Divisor:
@@ -113,12 +113,12 @@ class Divisor(AsArray, Sums):
 
     def is_equivalent(self, other: Chips, *, program: AnyProgram = None) -> bool:
         """Whether firings, also of the sink and backward, lead from this divisor to the other: linear equivalence.
-        Proved and not proved: as of `reduced`."""
+        Proved and not proved: as for `reduced`."""
         return not any((self - other).reduced(program=program).numbers)
 
     def effective(self, *, program: AnyProgram = None) -> Divisor | None:
         """The equivalent divisor that is effective and reduced at the sink; None if none is effective.
-        Proved and not proved: as of `reduced`."""
+        Proved and not proved: as for `reduced`."""
         found = self.reduced(program=program)
         return found if found.is_effective() else None
 

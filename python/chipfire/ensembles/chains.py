@@ -147,7 +147,7 @@ class Chains(WithArea):
     def to_dataframe(self) -> Any:
         """The columns `size`, `extent`, `lost` and, if it is there, `duration` as a DataFrame of pandas, of 64 bits,
         with a row for each drop that was made. Its index has the numbers of the `chain` and of its `drop`, from 0 on.
-        Without pandas that is an ImportError."""
+        Raises ImportError without pandas."""
         pandas = import_optional("pandas", "a table is one of pandas")
         numpy = import_optional("numpy", "a table of pandas takes NumPy")
         names = [*COLUMNS] + ["duration"] * (self.duration is not None)

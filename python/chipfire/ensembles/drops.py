@@ -122,7 +122,7 @@ class Drops(WithArea):
 
     @property
     def configuration(self) -> Configuration:
-        """The chips that lie there after the last drop, by names."""
+        """The configuration after the last drop."""
         return self.report.configuration
 
     def histogram(self, of: str = "size") -> dict[int, int]:
@@ -131,7 +131,7 @@ class Drops(WithArea):
 
     def to_dataframe(self) -> Any:
         """The columns `size`, `extent`, `lost` and, if it is there, `duration` as a DataFrame of pandas, of 64 bits. Its
-        index `drop` is the number of each, from 0 on. Without pandas that is an ImportError."""
+        index `drop` is the number of each, from 0 on. Raises ImportError without pandas."""
         pandas = import_optional("pandas", "a table is one of pandas")
         columns = {name: getattr(self, name) for name in self._names()}
         return pandas.DataFrame(columns, pandas.RangeIndex(len(self), name="drop"), dtype="int64")

@@ -64,7 +64,7 @@ class Firings(NamedTuple):
 
     def to_scipy(self, graph: Graph) -> Any:
         """The counts as a sparse matrix of SciPy (`csr_array`), with a row for each drop and a column for each vertex, by
-        its number. Without SciPy that is an ImportError."""
+        its number. Raises ImportError without SciPy."""
         sparse = import_optional("scipy.sparse", "a sparse matrix is one of SciPy")
         shape = (len(self.offsets) - 1, graph.vertices)
         return sparse.csr_array((self.counts, self._numbers(graph), self.offsets), shape)
@@ -103,7 +103,7 @@ class Firings(NamedTuple):
 
 
 def shape_of(graph: Graph, therefore: str) -> tuple[int, int]:
-    """The shape of a grid. Other graphs are refused, with what follows from that."""
+    """The shape of a grid. Other graphs are refused, and the error says what that prevents."""
     if graph.shape is None:
         raise ValueError(f"the graph is no grid, so {therefore}")
     return graph.shape

@@ -380,7 +380,7 @@ class Graph:
         return len(self.columns.tails) + vertex
 
     def is_like(self, other: Graph) -> bool:
-        """Whether another graph is the same but for the order of its edges and the names of its vertices."""
+        """Whether another graph is the same except for the order of edges and the names of vertices."""
         is_same = (self.vertices, self.sink, self.loops) == (
             other.vertices,
             other.sink,

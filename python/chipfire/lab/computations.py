@@ -65,11 +65,11 @@ class Computation:
         self.graph = graph
 
     def on_start(self) -> Sends:
-        """The messages of the root: vertices and loads."""
+        """The messages of the root: vertices and payloads."""
         raise NotImplementedError
 
     def on_message(self, state: Any, edge: int, load: Any) -> Sends:
-        """Takes a message, which came on an edge, and returns what the vertex sends: edges and loads."""
+        """Handles a message from an edge, and returns what the vertex sends: edges and payloads."""
         raise NotImplementedError
 
     def is_passive(self, state: Any) -> bool:
@@ -85,7 +85,7 @@ class Computation:
         raise NotImplementedError
 
     def show(self, state: Any) -> str:
-        """The state in a few letters, for pages: its values, but for those that are empty."""
+        """A short text of the state, for pages: the values that are not empty."""
         of_model = {*vars(Vertex()), "number", "outs"}
         own = [(name, value) for name, value in vars(state).items() if name not in of_model]
         full = [

@@ -330,7 +330,8 @@ class Detector:
         self._root.send(name, content)
 
     def wait(self, timeout: float | None = None) -> None:
-        """Returns when all is over. From here on nothing begins. After `timeout` seconds it raises TimeoutError."""
+        """Blocks until the computation has ended. Each `begin` comes before this call. Raises TimeoutError after `timeout`
+        seconds."""
         inbox = self._inboxes[ROOT]
         if self._backend.is_async:
             raise TypeError("in asyncio a detector is awaited")

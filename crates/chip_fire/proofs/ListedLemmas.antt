@@ -5,10 +5,13 @@ use Rattle.std.proofs.Common.{min, List, [], ◌∷◌, ◌++◌, Bool, true, fa
 use Rattle.std.proofs.Common.{refl, sym, ap, ◌∙◌, subst, arith, get_or-set_same, get_or-set_other, Contains}
 use Rattle.std.proofs.lemmas.Bool.Decides.{nat_tests}
 use Rattle.std.proofs.lemmas.List.{take_more_set, length-take-le, length-drop, length-append, ext_get_or, get_or-take, get_or-drop, length_push}
-use Rattle.std.proofs.Common.{drop-cons, add-one, eqb-true, ◌⊎◌, inl, inr, ⊎_elim, ◌/◌, ◌^◌}
+use Rattle.std.proofs.Common.{drop-cons, add-one, eqb-true, ◌⊎◌, inl, inr, ⊎_elim, ◌/◌, ◌^◌, All, Ok}
+use Rattle.std.specs.Prelude.{Result, IfOk}
+use Rattle.std.specs.declared.alloc.AllocError.{AllocError}
 use Rattle.std.proofs.Math.Nat.{div-mul-le_self, lt-div-mul-add}
 use Rattle.std.proofs.lemmas.Bool.{eqb-false}
 use Rattle.chip_graph.specs.ChipGame.{ChipGame}
+use Rattle.chip_graph.proofs.PickLemmas.{All-picked}
 use Rattle.chip_fire.specs.Search.{places}
 use Rattle.std.proofs.lemmas.List.Elements.{All-nil}
 use mir.Val.{bool_byte}
@@ -22,6 +25,7 @@ use Rattle.chip_sequence.specs.Sequence.{counts}
 use Rattle.chip_sequence.proofs.FiringLemmas.{counts_here, counts_else, counts_more, counts-append}
 use Rattle.chip_sequence.proofs.LegalLemmas.{legal_of_test, test_of_legal}
 use Rattle.chip_fire.specs.WorkList.{AreTheLegal, IsSent, IsStuck, WorksOff, legal_in_all}
+use Rattle.chip_fire.specs.declared.work_list.Listing.{Listing}
 use Rattle.chip_fire.specs.declared.work_list.Listing.TheVariants.{GoesOn, Ends, GivesUp}
 use Rattle.chip_fire.specs.Rounds.{OnlyRise, IsAtRest}
 use Rattle.chip_fire.specs.Pile.{sum_between}
@@ -159,6 +163,23 @@ none_counted G chips none v can =
 -- and the play is at rest
 pub rests : (g : ChipGame) (chips fired : List ℕ) → legal_in_all g.graph chips ≡ 0 → IsAtRest g chips fired
 rests g chips fired none v can = absurd (none_counted g.graph chips none v can)
+
+-- a work list that ends leaves no vertex legal
+pub list_ends : (g g' : ChipGame) (few most : ℕ) (chips fired : List ℕ) (before after : ℕ)
+    → (listing : Result Listing AllocError) → g' ≡ g
+    → IfOk listing (WorksOff g few most chips fired before after) → listing ≡ Ok Ends
+    → IsStable g'.graph (slice_index chips)
+list_ends g g' few most chips fired before after listing same works ends = rw same (none_counted g.graph chips
+    (subst (λ (l : Result Listing AllocError). IfOk l (WorksOff g few most chips fired before after)) ends works))
+
+-- they are vertices
+pub legal_inside : (G : Multigraph) (x : ℕ → ℕ) (list : List ℕ) → list ≡ legal_vertices G x → All (λ v. v < G.vertices) list
+legal_inside G x list is =
+    rw is (All-picked (λ v. not (eqb v G.sink) && leb (degree G v) (x v)) G.vertices G.vertices (omega arith))
+
+-- where none is legal, the play is at rest
+pub stable_rests : (g : ChipGame) (chips fired : List ℕ) → IsStable g.graph (slice_index chips) → IsAtRest g chips fired
+stable_rests g chips fired stable v can = absurd (stable v can)
 
 -- the list of them stands at the front
 pub front_legal : (G : Multigraph) (chips list : List ℕ) (n : ℕ) → n ≡ length (legal_vertices G (slice_index chips))

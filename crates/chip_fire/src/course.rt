@@ -136,7 +136,7 @@ impl Play<'_> {
             }
             let most = visits - *made;
             course = match course {
-                Course::Begins => self.begin(),
+                Course::Begins => self.begin(alloc, most, made),
                 Course::WorkList(left) => self.work_off_part(alloc, left, most, made),
                 Course::FewChips(left) => self.play_part(alloc, left, most, made, watch),
                 Course::Doubles(doubling) => self.double(alloc, doubling, most, made, watch),

@@ -1,9 +1,11 @@
 //! The way to an end that may be near.
 
-ghost use Rattle.std.specs.Prelude.{◌≡◌, ◌↔◌, ◌+◌, ◌*◌, ◌≤◌, [], true, length};
+ghost use Rattle.std.specs.Prelude.{◌≡◌, ◌↔◌, ◌+◌, ◌*◌, ◌<◌, ◌≤◌, [], true, All, length, slice_index, Ok};
+ghost use Rattle.chip_sequence.specs.Firing.{IsLegal, IsStable};
 ghost use Rattle.chip_fire.specs.Rounds.{OnlyRise, GoesRound, IsAtRest};
 ghost use Rattle.chip_fire.specs.Search.{FewVisits, places};
 ghost use Rattle.chip_fire.specs.Course.{IsCourse};
+ghost use Rattle.chip_fire.specs.declared.work_list.Listing.TheVariants.{Ends};
 
 use crate::course::{Course, Doubling};
 use crate::play::Play;
@@ -12,25 +14,33 @@ use crate::tuning::{
     VERTICES_PER_HELD, VISITS_OF_FEW, VISITS_OF_LIST,
 };
 use crate::watch::Watch;
-use crate::work_list::{Listing, is_legal};
+use crate::work_list::{Listing, few_legal, is_legal};
 use chip_graph::Graph;
-use std::alloc::Global;
+use std::alloc::{AllocError, Global};
 
 impl Play<'_> {
-    /// A play begins by a work list if few chips wait to move, or if all chips stay in few places of a large graph. If
-    /// none waits, it has ended.
-    pub(crate) fn begin(&self) -> Course
-        ensures { IsCourse self.now.game self.now.chips self.now.fired result }
+    /// A play begins by a work list if few chips wait to move, or if all chips stay in few places of a large graph: it
+    /// makes about `most` visits. If no vertex is legal, it has ended.
+    pub(crate) fn begin(&mut self, alloc: Global, most: u64, visits: &mut u64) -> Course
+        ensures same { self.new.game ≡ self.old.game }
+        ensures rises { OnlyRise self.old.fired self.new.fired }
+        ensures course { IsCourse self.old.game self.new.chips self.new.fired result }
+        ensures at_most { visits.new ≤ visits.old + most + 160 * places self.old.game }
     {
-        let waits = self.waiting_chips();
-        if waits == 0 {
+        // (if too many vertices are legal for a list, many chips wait)
+        let Ok(Some(legal)) = few_legal(alloc, self.game.graph(), &self.chips) else {
+            return self.soon();
+        };
+        if legal.is_empty() {
             return Course::Ended;
         }
-        if waits > self.few_chips() && !self.stays_in_cache() {
+        if self.waiting_at(&legal) > self.few_chips() && !self.stays_in_cache() {
             return self.soon();
         }
-        let all = visits_at_all(self.game.graph());
-        Course::WorkList(all.saturating_mul(VISITS_OF_LIST))
+        let left = visits_at_all(self.game.graph()).saturating_mul(VISITS_OF_LIST);
+        let part = self.part_of(left, most);
+        let listing = self.work_off_listed(legal, part, visits);
+        self.after_list(listing, left, part)
     }
 
     /// It goes on by rounds that are judged.
@@ -81,11 +91,27 @@ impl Play<'_> {
         ensures course { IsCourse self.old.game self.new.chips self.new.fired result }
         ensures at_most { visits.new ≤ visits.old + most + 160 * places self.old.game }
     {
+        let part = self.part_of(left, most);
+        let listing = self.work_off_few(alloc, part, visits);
+        self.after_list(listing, left, part)
+    }
+
+    /// The part of the `left` visits that a work list is given next: about `most` of them.
+    fn part_of(&self, left: u64, most: u64) -> u64
+        ensures { result ≤ most + places self.now.game }
+    {
         let all = visits_at_all(self.game.graph());
         let stretch = all.saturating_mul(LIST_STRETCH).max(STRETCH);
         // (a turn may take as many visits as there are vertices and edges)
-        let part = left.min(stretch).min(most.max(all));
-        match self.work_off_few(alloc, part, visits) {
+        left.min(stretch).min(most.max(all))
+    }
+
+    /// What the play is at after a work list for this part of the `left` visits.
+    fn after_list(&self, listing: Result<Listing, AllocError>, left: u64, part: u64) -> Course
+        requires { listing ≡ Ok Ends → IsStable self.now.game.graph (slice_index self.now.chips) }
+        ensures { IsCourse self.now.game self.now.chips self.now.fired result }
+    {
+        match listing {
             Ok(Listing::Ends) => return Course::Ended,
             Ok(Listing::GoesOn) if part < left => return Course::WorkList(left - part),
             _ => {}
@@ -95,6 +121,7 @@ impl Play<'_> {
             return Course::Ended;
         }
         if waits > self.few_chips() && !self.stays_in_cache() {
+            let all = visits_at_all(self.game.graph());
             return Course::FewChips(all.saturating_mul(VISITS_OF_FEW));
         }
         self.soon()
@@ -198,16 +225,37 @@ impl Play<'_> {
     pub(crate) fn waiting_chips(&self) -> u64
         ensures { (result ≡ 0) ↔ IsAtRest self.now.game self.now.chips self.now.fired }
     {
-        let (graph, limit) = (self.game.graph(), self.game.limit());
         let mut waits = 0u64;
-        for vertex in 0..graph.vertices() {
-            let v = vertex as usize;
-            if is_legal(graph, &self.chips, vertex) && self.fired[v] < limit {
-                let above = self.chips[v].saturating_sub(graph.out_degree(vertex));
-                waits = waits.saturating_add(above.saturating_add(1));
-            }
+        for vertex in 0..self.game.graph().vertices() {
+            waits = waits.saturating_add(self.waiting_of(vertex));
         }
         waits
+    }
+
+    /// Those of these vertices alone.
+    fn waiting_at(&self, vertices: &[u64]) -> u64
+        requires { All (λ v. v < self.now.game.graph.vertices) vertices.now }
+    {
+        let mut waits = 0u64;
+        for vertex in vertices {
+            waits = waits.saturating_add(self.waiting_of(*vertex));
+        }
+        waits
+    }
+
+    /// Those of one vertex.
+    #[inline]
+    fn waiting_of(&self, vertex: u64) -> u64
+        requires { vertex < self.now.game.graph.vertices }
+        ensures { (result ≡ 0) ↔ (IsLegal self.now.game.graph (slice_index self.now.chips) vertex
+            → slice_index self.now.fired vertex ≡ self.now.game.limit) }
+    {
+        let (graph, v) = (self.game.graph(), vertex as usize);
+        if !is_legal(graph, &self.chips, vertex) || self.fired[v] >= self.game.limit() {
+            return 0;
+        }
+        let above = self.chips[v].saturating_sub(graph.out_degree(vertex));
+        above.saturating_add(1)
     }
 }
 

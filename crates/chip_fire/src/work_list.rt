@@ -48,14 +48,31 @@ impl Play<'_> {
         ensures many { self.old.game.graph.vertices / 8 < legal_in_all self.old.game.graph self.old.chips
             → (result ≡ Ok GivesUp) × (self.new ≡ self.old) × (visits.new ≡ visits.old) }
     {
+        match few_legal(alloc, self.game.graph(), &self.chips)? {
+            Some(legal) => self.work_off_listed(legal, most, visits),
+            None => Ok(Listing::GivesUp),
+        }
+    }
+
+    /// Goes on as `work_off_few` does, by the queue of all legal vertices.
+    pub(crate) fn work_off_listed(
+        &mut self,
+        mut queue: Vec<u64>,
+        most: u64,
+        visits: &mut u64,
+    ) -> Result<Listing, AllocError>
+        requires { queue.items ≡ legal_vertices self.old.game.graph (slice_index self.old.chips) }
+        ensures same { self.new.game ≡ self.old.game }
+        ensures rises { OnlyRise self.old.fired self.new.fired }
+        ensures few { FewVisits self.old.game self.old.fired self.new.fired visits.old visits.new true }
+        ensures at_most { visits.new ≤ visits.old + most }
+        ensures works { IfOk result (WorksOff self.old.game (self.old.game.graph.vertices / 8) most
+            self.new.chips self.new.fired visits.old visits.new) }
+        ensures no_memory { IfErr result (λ _. (self.new ≡ self.old) × (visits.new ≡ visits.old)) }
+    {
         let graph = self.game.graph();
-        let vertices = graph.vertices();
-        let few = vertices as usize / VERTICES_PER_PLACE;
-        let Some(mut queue) = few_legal(alloc, graph, &self.chips, few)? else {
-            return Ok(Listing::GivesUp);
-        };
         let listed = queue.len();
-        queue.resize(listed + 2 * few, 0)?;
+        queue.resize(listed + 2 * few_of(graph), 0)?;
         let of_turn = visits_of_turn(graph);
         let most = most / of_turn;
         let worked = work_off(
@@ -100,18 +117,26 @@ fn visits_of_turn(graph: &Graph) -> u64
     at_each.saturating_mul(VISITS_OF_LISTED).min(all)
 }
 
-/// The vertices that are legal, ascending; `None` if they are more than `few`, even if memory runs out.
-fn few_legal(
+/// How many vertices are few enough for a work list.
+fn few_of(graph: &Graph) -> usize
+    ensures { result ≡ graph.now.vertices / 8 }
+{
+    graph.vertices() as usize / VERTICES_PER_PLACE
+}
+
+/// The vertices that are legal, ascending; `None` if they are too many for a work list, even if memory runs out.
+pub(crate) fn few_legal(
     alloc: Global,
     graph: &Graph,
     chips: &[u64],
-    few: usize,
 ) -> Result<Option<Vec<u64>>, AllocError>
     requires { length chips.now ≡ graph.now.vertices }
-    ensures listed { IfOk result (λ found. MatchOption found (few < legal_in_all graph.now chips.now)
+    ensures listed { IfOk result (λ found. MatchOption found
+        (graph.now.vertices / 8 < legal_in_all graph.now chips.now)
         (λ legal. legal.items ≡ legal_vertices graph.now (slice_index chips.now))) }
-    ensures many { few < legal_in_all graph.now chips.now → result ≡ Ok None }
+    ensures many { graph.now.vertices / 8 < legal_in_all graph.now chips.now → result ≡ Ok None }
 {
+    let few = few_of(graph);
     match list_few(alloc, graph, chips, few) {
         Err(_) if !are_few(graph, chips, few) => Ok(None),
         found => found,

@@ -4,5 +4,5 @@ use Rattle.chip_fire.proofs.play.Play.waiting_chips.Given as goal
 
 abbrev pub invariant-loop-vertex : goal.invariant-loop-vertex
 invariant-loop-vertex l = (l.waits ≡ 0) ↔ ((v : ℕ) → v < l.vertex
-    → IsLegal l.self-inside.game.now.graph (slice_index l.self-inside.chips.items) v
-    → slice_index l.self-inside.fired.items v ≡ l.self-inside.game.now.limit)
+    → IsLegal l.self.game.graph (slice_index l.self.chips) v
+    → slice_index l.self.fired v ≡ l.self.game.limit)

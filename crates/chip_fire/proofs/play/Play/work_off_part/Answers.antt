@@ -1,6 +1,6 @@
-use Rattle.chip_fire.proofs.ListedLemmas.{rests}
+use Rattle.chip_fire.proofs.ListedLemmas.{list_ends}
 use Rattle.chip_fire.proofs.play.Play.work_off_part.Goals as goal
 
-pub returns-in-Ok-Ends-clause-course : goal.returns-in-Ok-Ends-clause-course
-returns-in-Ok-Ends-clause-course c =
-    rests c.args.self.now.game _ _ (rw c.in-Ok-Ends.field-0-is at c.in-Ok-Ends.ensures.works)
+pub after_list-requires : goal.after_list-requires
+after_list-requires c =
+    let listed = c.work_off_few-listing.ensures in list_ends _ _ _ _ _ _ _ _ _ listed.same listed.works

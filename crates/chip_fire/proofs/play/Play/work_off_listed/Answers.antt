@@ -1,18 +1,17 @@
 use Rattle.std.proofs.Common.{◌≡◌, ℕ, ◌/◌, ◌++◌, ◌≤◌, mul-le-mul_right, List, take, drop, length, slice_index, ap, refl, ◌∙◌, arith}
 use Rattle.std.proofs.Math.Nat.{div-mul-le_self}
 use Rattle.std.proofs.lemmas.Grind.{common_steps}
-use Rattle.chip_graph.specs.Multigraph.{Multigraph}
 use Rattle.chip_fire.specs.Search.{places}
 use Rattle.chip_fire.proofs.VisitsLemmas.{few_turns}
 use Rattle.chip_fire.proofs.ListedLemmas.{front_legal, works_off}
-use Rattle.chip_fire.proofs.play.Play.work_off_few.Goals as goal
+use Rattle.chip_fire.proofs.play.Play.work_off_listed.Goals as goal
 
 pub work_off-worked-requires-clause-legal : goal.work_off-worked-requires-clause-legal
 work_off-worked-requires-clause-legal c =
     let play = c.self.inside in
-    let legal = rw (c.in-Some.is, c.graph-graph.ensures.value, c.deref.ensures.value) at c.in_ok-queue.ensures.listed in
-    let listed : c.len-listed.result ≡ length c.in-Some.queue.items =
-    (let a = c.in-Some.queue.ok.0 in let b = c.len-listed.ensures in omega arith) in
+    let legal = rw (← c.self.view_is) at c.requires in
+    let listed : c.len-listed.result ≡ length c.args.queue.items =
+    (let a = c.args.queue.ok.0 in let b = c.len-listed.ensures in omega arith) in
     rw c.deref_mut-2.ensures.value (front_legal play.game.now.graph play.chips.items _ _
     (listed ∙ ap length legal)
     (let a = c.deref_mut.ensures.len in let b = c.in_ok-resize.ensures.len in omega arith)
@@ -49,10 +48,9 @@ returns-clause-works c =
     ≡ c.work_off-worked.new.fired = grind (arith, common_steps) in
     let same' : take play.chips.len (c.work_off-worked.new.chips ++ drop (length c.work_off-worked.new.chips) play.chips.items)
     ≡ c.work_off-worked.new.chips = grind (arith, common_steps) in
-    let vertices = ap (λ (G : Multigraph). G.vertices) c.graph-graph.ensures.value in
     let room : play.game.now.graph.vertices / 8 ≤ length c.deref_mut.result.now / 2 =
     (let a = c.deref_mut.ensures.len in let b = c.in_ok-resize.ensures.len in
-    let d = c.vertices-vertices.ensures.value in omega arith) in
+    let d = rw c.graph-graph.ensures.value at c.few_of.ensures in omega arith) in
     let done = works_off play.game.now (play.game.now.graph.vertices / 8) c.args.most c.work_off-worked.new.chips
     c.work_off-worked.new.fired c.args.visits.now c.saturating_add.result c.work_off-worked.result.turns
     (c.args.most / of_turn) of_turn (length c.deref_mut.result.now / 2) c.work_off-worked.result.legal

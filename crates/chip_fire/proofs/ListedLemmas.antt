@@ -11,7 +11,7 @@ use Rattle.std.specs.declared.alloc.AllocError.{AllocError}
 use Rattle.std.proofs.Math.Nat.{div-mul-le_self, lt-div-mul-add}
 use Rattle.std.proofs.lemmas.Bool.{eqb-false}
 use Rattle.chip_graph.specs.ChipGame.{ChipGame}
-use Rattle.chip_graph.proofs.PickLemmas.{All-picked}
+use Rattle.chip_graph.proofs.PickLemmas.{All-picked, picked_none}
 use Rattle.chip_fire.specs.Search.{places}
 use Rattle.std.proofs.lemmas.List.Elements.{All-nil}
 use mir.Val.{bool_byte}
@@ -180,6 +180,11 @@ legal_inside G x list is =
 -- where none is legal, the play is at rest
 pub stable_rests : (g : ChipGame) (chips fired : List ℕ) → IsStable g.graph (slice_index chips) → IsAtRest g chips fired
 stable_rests g chips fired stable v can = absurd (stable v can)
+
+-- and none is listed
+pub none_listed : (G : Multigraph) (x : ℕ → ℕ) → IsStable G x → legal_vertices G x ≡ []
+none_listed G x stable = picked_none (λ v. not (eqb v G.sink) && leb (degree G v) (x v)) G.vertices
+    (λ v l on. stable v (legal_of_test G x v l on))
 
 -- the list of them stands at the front
 pub front_legal : (G : Multigraph) (chips list : List ℕ) (n : ℕ) → n ≡ length (legal_vertices G (slice_index chips))

@@ -1,10 +1,11 @@
 -- What a play that goes on in portions keeps from one to the next.
-use Rattle.std.specs.Prelude.{ℕ, ◌+◌, ◌*◌, ◌/◌, ◌≤◌, List, [], true}
+use Rattle.std.specs.Prelude.{ℕ, ◌+◌, ◌*◌, ◌/◌, ◌≤◌, List, [], true, slice_index}
 use Rattle.chip_graph.specs.ChipGame.{ChipGame}
+use Rattle.chip_sequence.specs.Firing.{IsStable}
 use Rattle.chip_fire.specs.Rounds.{IsAtRest}
 use Rattle.chip_fire.specs.Search.{FewVisits, places}
 use Rattle.chip_fire.specs.declared.course.Course.{Course}
-use Rattle.chip_fire.specs.declared.course.Course.TheVariants.{Begins, WorkList, FewChips, Doubles, Searches, Rounds, Ended}
+use Rattle.chip_fire.specs.declared.course.Course.TheVariants.{Begins, WorkList, FewChips, Doubles, Searches, Rounds, Ended, Stable}
 use Rattle.chip_fire.specs.declared.course.Searching.{Searching}
 
 -- a search beside a play that has reached the counts fired: neither has passed its share by more than a turn
@@ -16,8 +17,8 @@ pub record IsSearching (g : ChipGame) (fired : List ℕ) (s : Searching) : Type 
   pub play_share : s.beside ≤ s.searched + 5 * places g + (s.alone + s.beside) / 4
   pub turn : s.turn_end ≤ s.searched + 4 * places g + (s.alone + s.beside) / 4
 
--- what a play is at that has reached these chips and counts: the visits that it counts were few, and it has ended only
--- if no vertex may fire
+-- what a play is at that has reached these chips and counts: the visits that it counts were few, it has ended only if no
+-- vertex may fire, and it is stable only if none is legal
 abbrev pub IsCourse : ChipGame → (chips fired : List ℕ) → Course → Type 0
 IsCourse g chips fired Begins = Unit {0}
 IsCourse g chips fired (WorkList left) = Unit {0}
@@ -26,3 +27,4 @@ IsCourse g chips fired (Doubles doubling) = FewVisits g [] fired 0 doubling.visi
 IsCourse g chips fired (Searches boxed) = IsSearching g fired boxed.value
 IsCourse g chips fired Rounds = Unit {0}
 IsCourse g chips fired Ended = IsAtRest g chips fired
+IsCourse g chips fired Stable = IsStable g.graph (slice_index chips)

@@ -28,6 +28,8 @@ pub enum Course {
     Rounds,
     /// No vertex may fire within the limit.
     Ended,
+    /// No vertex is legal.
+    Stable,
 }
 
 /// Rounds that are judged each time that they have made twice the work.
@@ -94,6 +96,10 @@ impl Play<'_> {
                 self.tell_end(watch);
                 (Course::Ended, false)
             }
+            Course::Stable => {
+                self.tell_end(watch);
+                (Course::Stable, false)
+            }
             Course::Doubles(doubling) if visits != u64::MAX => {
                 self.round_of(doubling, made, watch)
             }
@@ -143,6 +149,7 @@ impl Play<'_> {
                 Course::Searches(searching) => self.search_on(alloc, searching, most, made, watch),
                 Course::Rounds => return Course::Rounds,
                 Course::Ended => return Course::Ended,
+                Course::Stable => return Course::Stable,
             };
         }
         course

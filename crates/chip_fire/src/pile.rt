@@ -136,7 +136,7 @@ impl Pile {
         requires { IsBegunPile self.now }
         ensures { (result ≡ true) ↔ IsStable self.now.game.graph (slice_index self.now.chips.items) }
     {
-        is_stable(self.game.graph(), &self.chips)
+        matches!(self.course, Course::Stable) || is_stable(self.game.graph(), &self.chips)
     }
 
     /// Plays on by `visits` visits (`Play::go_on`); whether the play goes on.

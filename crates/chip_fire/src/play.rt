@@ -1,10 +1,13 @@
 //! A play of a game: its state, and its outcome once it has ended.
 
 ghost use Rattle.std.specs.Prelude.{◌≡◌, ℕ, ◌↔◌, IfOk, IsTrue, length, slice_index};
-ghost use Rattle.chip_sequence.specs.Firing.{legal_vertices};
+ghost use Rattle.chip_sequence.specs.Firing.{IsStable, legal_vertices};
 ghost use Rattle.chip_fire.specs.Rounds.{IsAtRest};
+ghost use Rattle.chip_fire.specs.Course.{IsCourse};
 ghost use Rattle.chip_fire.specs.Player.{PlaysOut};
+ghost use Rattle.chip_fire.specs.declared.course.Course.TheVariants.{Stable};
 
+use crate::course::Course;
 use crate::work_list::is_legal;
 use chip_graph::{Game, Graph};
 use chip_sequence::Outcome;
@@ -60,14 +63,40 @@ impl<'a> Play<'a> {
         requires { IsAtRest self.game self.chips self.fired }
         ensures { IfOk result (PlaysOut self.entry.game) }
     {
+        self.outcome_at(alloc, &Course::Rounds)
+    }
+
+    /// The outcome, if no vertex may fire within the limit and the play is at this course.
+    pub(crate) fn outcome_at(self, alloc: Global, course: &Course) -> Result<Outcome, AllocError>
+        requires rests { IsAtRest self.game self.chips self.fired }
+        requires course { IsCourse self.game self.chips self.fired course.now }
+        ensures { IfOk result (PlaysOut self.entry.game) }
+    {
         let Play { game, chips, fired } = self;
-        let over = legal_vertices(alloc, game.graph(), &chips)?;
+        let over = over_at(alloc, game.graph(), &chips, course)?;
         Ok(Outcome {
             fired,
             chips,
             over,
             sealed: Vec::new(alloc),
         })
+    }
+}
+
+/// The vertices that are legal, ascending: none at `Course::Stable`.
+fn over_at(
+    alloc: Global,
+    graph: &Graph,
+    chips: &[u64],
+    course: &Course,
+) -> Result<Vec<u64>, AllocError>
+    requires each { length chips.now ≡ graph.now.vertices }
+    requires stable { course.now ≡ Stable → IsStable graph.now (slice_index chips.now) }
+    ensures { IfOk result (λ over. over.items ≡ legal_vertices graph.now (slice_index chips.now)) }
+{
+    match course {
+        Course::Stable => Ok(Vec::new(alloc)),
+        _ => legal_vertices(alloc, graph, chips),
     }
 }
 

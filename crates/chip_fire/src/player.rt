@@ -43,8 +43,8 @@ pub fn plain_given<W: Watch>(
     ensures { IfOk result (PlaysOut game.now) }
 {
     let mut play = Play::at_given(alloc, game, given, watch)?;
-    let _ = play.go_on(alloc, Course::Begins, u64::MAX, &mut 0, watch);
-    play.outcome(alloc)
+    let (course, _) = play.go_on(alloc, Course::Begins, u64::MAX, &mut 0, watch);
+    play.outcome_at(alloc, &course)
 }
 
 impl Play<'_> {

@@ -32,7 +32,7 @@ impl Play<'_> {
             return self.soon();
         };
         if legal.is_empty() {
-            return Course::Ended;
+            return Course::Stable;
         }
         if self.waiting_at(&legal) > self.few_chips() && !self.stays_in_cache() {
             return self.soon();
@@ -112,7 +112,7 @@ impl Play<'_> {
         ensures { IsCourse self.now.game self.now.chips self.now.fired result }
     {
         match listing {
-            Ok(Listing::Ends) => return Course::Ended,
+            Ok(Listing::Ends) => return Course::Stable,
             Ok(Listing::GoesOn) if part < left => return Course::WorkList(left - part),
             _ => {}
         }

@@ -3,7 +3,7 @@
 use Rattle.std.proofs.Common.{◌≡◌, ℕ, ◌-◌, ◌^◌, Bool, true, false}
 use Rattle.chip_graph.specs.ChipGame.{IsGame}
 use Rattle.chip_fire.specs.Rounds.{GoesRound}
-use Rattle.chip_fire.specs.Pile.{IsRoom}
+use Rattle.chip_fire.specs.Pile.{KeepsRoom}
 use Rattle.chip_fire.specs.BegunPile.{PlaysOn}
 use Rattle.chip_fire.specs.Course.{IsCourse}
 use Rattle.chip_fire.specs.declared.pile.Pile.{Pile}
@@ -11,7 +11,7 @@ use Rattle.chip_fire.specs.declared.pile.Pile.{Pile}
 -- by what the play of its game says
 pub plays_on : (p p' : Pile) (visits : ℕ) (any : Bool) → p'.game ≡ p.game → IsGame p'.game
     → GoesRound p.game p.fired.items p'.chips.items p'.fired.items any
-    → IsRoom p'.game.graph.vertices p'.fired.items p'.room → IsCourse p'.game p'.chips.items p'.fired.items p'.course
+    → KeepsRoom p'.game.graph.vertices p'.fired.items p'.room → IsCourse p'.game p'.chips.items p'.fired.items p'.course
     → (visits ≡ 2 ^ 64 - 1 → any ≡ false) → PlaysOn p p' visits any
 plays_on p p' visits true same game round room course whole = record {
   same_game = same;

@@ -30,12 +30,32 @@ use Rattle.chip_sequence.proofs.AfterLemmas.{sum_small}
 use Rattle.chip_fire.specs.Rounds.{IsBegun, IsAtRest}
 use Rattle.chip_fire.specs.WorkList.{HasSupport}
 use Rattle.chip_fire.specs.declared.avalanche.Avalanche.{Avalanche}
+use Rattle.chip_fire.specs.declared.avalanche.Room.{Room}
 use Rattle.chip_fire.specs.declared.pile.BegunDrop.{BegunDrop}
 use Rattle.chip_fire.specs.declared.pile.Pile.{Pile}
 use Rattle.chip_fire.specs.Avalanches.{dropped, IsAvalanche, AreAvalanches, DropsAddUp}
-use Rattle.chip_fire.specs.Pile.{IsPile, IsBegunDrop, sum_between}
+use Rattle.chip_fire.specs.Pile.{IsRoom, KeepsRoom, IsPile, IsBegunDrop, sum_between}
 use Rattle.chip_fire.specs.Measured.{IsRow, HasRow}
 use Rattle.chip_sequence.specs.Firing.{IsStable}
+
+-- ---- the room of a drop
+
+-- room with the counts of now is such room between drops
+pub keeps_room : (n : ℕ) (fired : List ℕ) (r : Room) → length fired ≡ n → IsRoom n fired r → KeepsRoom n fired r
+keeps_room n fired r each room = record {
+  before_each = ap length room.before ∙ each;
+  room = record { before = refl; support_each = room.support_each; list_room = room.list_room; row = room.row };
+  current = λ is. room.before;
+}
+
+-- and if it is current it has the counts of now
+pub is_current : (n : ℕ) (fired : List ℕ) (r : Room) → KeepsRoom n fired r → r.is_current ≡ true → IsRoom n fired r
+is_current n fired r keeps is = record {
+  before = keeps.current is;
+  support_each = keeps.room.support_each;
+  list_room = keeps.room.list_room;
+  row = keeps.room.row;
+}
 
 -- ---- the work list of a drop, and the avalanche by it
 

@@ -5,13 +5,13 @@ use Rattle.chip_graph.specs.ChipGame.{ChipGame, IsGame}
 use Rattle.chip_fire.specs.Rounds.{IsBegun, OnlyRise, firings_left}
 use Rattle.chip_fire.specs.Course.{IsCourse}
 use Rattle.chip_fire.specs.declared.pile.Pile.{Pile}
-use Rattle.chip_fire.specs.Pile.{IsRoom, IsPile}
+use Rattle.chip_fire.specs.Pile.{KeepsRoom, IsPile}
 
 -- the play of the game with all chips that were dropped has reached these chips and counts, and may go on
 pub record IsBegunPile (p : Pile) : Type 0 where
   pub game : IsGame p.game
   pub begun : IsBegun p.game p.chips.items p.fired.items
-  pub room : IsRoom p.game.graph.vertices p.fired.items p.room
+  pub room : KeepsRoom p.game.graph.vertices p.fired.items p.room
   pub course : IsCourse p.game p.chips.items p.fired.items p.course
 
 -- no vertex of the game has fired on the pile

@@ -1,5 +1,5 @@
 -- What a pile keeps from drop to drop.
-use Rattle.std.specs.Prelude.{◌≡◌, ℕ, ◌-◌, ◌*◌, ◌≤◌, List, length, take, slice_index, Option, IfSome}
+use Rattle.std.specs.Prelude.{◌≡◌, ℕ, ◌-◌, ◌*◌, ◌≤◌, List, length, take, slice_index, true, Option, IfSome}
 use Rattle.chip_graph.specs.Sums.{sum_below}
 use Rattle.chip_graph.specs.Multigraph.{Multigraph}
 use Rattle.chip_graph.specs.ChipGame.{ChipGame, IsGame}
@@ -24,6 +24,12 @@ pub record IsRoom (n : ℕ) (fired : List ℕ) (r : Room) : Type 0 where
   pub list_room : 2 * n ≤ length r.list.items
   pub row : r.row ≤ n
 
+-- such room between drops: its counts are these if it is said to be current
+pub record KeepsRoom (n : ℕ) (fired : List ℕ) (r : Room) : Type 0 where
+  pub before_each : length r.before.items ≡ n
+  pub room : IsRoom n r.before.items r
+  pub current : r.is_current ≡ true → r.before.items ≡ fired
+
 -- a work list may have given up; or no vertex is legal, and the first n of the support are all that fired
 abbrev pub IsWorkedOff : Multigraph → (chips fired : List ℕ) → Room → Option ℕ → Type 0
 IsWorkedOff G chips fired r worked = IfSome worked (λ n. (n ≤ length r.support.items) × IsStable G (slice_index chips)
@@ -35,7 +41,7 @@ pub record IsPile (p : Pile) : Type 0 where
   pub game : IsGame p.game
   pub begun : IsBegun p.game p.chips.items p.fired.items
   pub at_rest : IsAtRest p.game p.chips.items p.fired.items
-  pub room : IsRoom p.game.graph.vertices p.fired.items p.room
+  pub room : KeepsRoom p.game.graph.vertices p.fired.items p.room
   pub course : IsCourse p.game p.chips.items p.fired.items p.course
 
 -- the play of these drops on the game, which begins at x and the counts of the room, has reached these chips and counts

@@ -4,7 +4,7 @@ ghost use Rattle.std.specs.Prelude.{◌≡◌, ◌↔◌, ℕ, ◌-◌, ◌<◌,
 ghost use Rattle.chip_graph.specs.Limits.{max_limit, max_vertices};
 ghost use Rattle.chip_sequence.specs.Firing.{IsLegal};
 ghost use Rattle.chip_fire.specs.Rounds.{IsBegun, IsAtRest};
-ghost use Rattle.chip_fire.specs.Pile.{IsRoom, IsWorkedOff, sum_between};
+ghost use Rattle.chip_fire.specs.Pile.{IsRoom, KeepsRoom, IsWorkedOff, sum_between};
 ghost use Rattle.chip_sequence.specs.Firing.{IsStable};
 ghost use Rattle.chip_fire.specs.WorkList.{HasSupport};
 ghost use Rattle.chip_fire.specs.Measured.{IsRow};
@@ -40,8 +40,10 @@ pub struct Measured {
 /// Room for plays.
 #[derive(Drop)]
 pub(crate) struct Room {
-    /// How often each vertex has fired, for comparison while a play goes on.
+    /// How often each vertex had fired before the drop that is played.
     pub(crate) before: Vec<u64>,
+    /// Whether `before` has the counts of now while no drop is played.
+    pub(crate) is_current: bool,
     /// The vertices that fire after a drop. Once it has ended, those of its row stand in front.
     pub(crate) support: Vec<u64>,
     /// A work list. Once a drop has ended, how often each vertex of its row fired.
@@ -62,10 +64,24 @@ impl Room {
         let list = vec![in alloc; 0; 2 * vertices]?;
         Ok(Room {
             before,
+            is_current: true,
             support,
             list,
             row: 0,
         })
+    }
+
+    /// Makes the counts before a drop those of now.
+    #[tactic(auto, using(crate::proofs::DropLemmas::is_current))]
+    #[inline]
+    pub(crate) fn make_current(&mut self, fired: &[u64])
+        requires { KeepsRoom (length fired.now) fired.now self.old }
+        ensures { IsRoom (length fired.now) fired.now self.new }
+    {
+        if !self.is_current {
+            self.before.copy_from_slice(fired);
+            self.is_current = true;
+        }
     }
 }
 

@@ -40,7 +40,7 @@ pub struct Pile {
 impl Pile {
     /// A pile on which nothing was dropped, of a game and its outcome. Drops take no more memory than it has then, but
     /// for what a search takes if there is some.
-    #[tactic(auto, using(crate::proofs::DropLemmas::played_begun, crate::proofs::DropLemmas::played_rests))]
+    #[tactic(auto, using(crate::proofs::DropLemmas::played_begun, crate::proofs::DropLemmas::played_rests, crate::proofs::DropLemmas::keeps_room))]
     pub fn new(alloc: Global, game: Game, outcome: Outcome) -> Result<Pile, AllocError>
         requires game { IsGame game }
         requires played { IsPlayed game outcome }
@@ -95,7 +95,7 @@ impl Pile {
         } = self;
         chips.copy_from_slice(&start);
         fired.fill(0);
-        room.before.fill(0);
+        room.is_current = false;
         Pile {
             game: game_on(game.into_graph(), start, limit),
             chips,
@@ -170,7 +170,7 @@ impl Pile {
         let mut made = 0;
         let (course, goes_on) = play.go_on(alloc, course, visits, &mut made, &mut Unwatched);
         let Play { chips, fired, .. } = play;
-        room.before.copy_from_slice(&fired);
+        room.is_current = false;
         let pile = Pile {
             game,
             chips,
@@ -261,6 +261,7 @@ impl Pile {
         let game = with_drop(game, vertex, count);
         chips[vertex as usize] += count;
         let arrived = chips[game.graph().sink() as usize];
+        room.make_current(&fired);
         let (worked, rounds) = play_from(&game, vertex, timed, &mut chips, &mut fired, &mut room);
         let pile = Pile {
             game,
@@ -390,6 +391,7 @@ impl BegunDrop {
     }
 
     /// Plays to the end: the avalanche, or `None` if the limit has stopped it.
+    #[tactic(auto, using(crate::proofs::DropLemmas::keeps_room))]
     pub fn finish<P: Watch>(self, alloc: Global, watch: &mut P) -> (Pile, Option<Avalanche>)
         requires { (g : ChipGame) × (ds : List (ℕ × ℕ)) × (x : ℕ → ℕ) × IsBegunDrop g ds x self }
         ensures pile { IsPile result.0 }

@@ -1,5 +1,7 @@
-use Rattle.std.proofs.Common.{◌≡◌, ℕ, List, slice_index, replicate, ap, refl, ◌∙◌}
+use Rattle.std.proofs.Common.{◌≡◌, ℕ, List, length, slice_index, replicate, ap, refl, ◌∙◌}
+use Rattle.std.proofs.lemmas.List.{length-replicate}
 use Rattle.chip_fire.proofs.PlayLemmas.{begun_none, zeros}
+use Rattle.chip_fire.proofs.DropLemmas.{keeps_room}
 use Rattle.chip_fire.proofs.pile.Pile.begin.Goals as goal
 
 pub returns-clause-begun : goal.returns-clause-begun
@@ -11,7 +13,8 @@ returns-clause-begun c =
     record {
       game = c.requires;
       begun = begun_none c.args.game c.requires _ _ chips fired;
-      room = rw (vertices, c.graph.ensures.value, c.deref.ensures.value) at c.in_ok-room.ensures;
+      room = keeps_room _ _ _ (ap length fired ∙ length-replicate c.args.game.graph.vertices 0)
+          (rw (vertices, c.graph.ensures.value, c.deref.ensures.value) at c.in_ok-room.ensures);
       course = tt;
     }
 

@@ -139,18 +139,9 @@ impl Pile {
         matches!(self.course, Course::Stable) || is_stable(self.game.graph(), &self.chips)
     }
 
-    /// Plays on by `visits` visits (`Play::go_on`); whether the play goes on.
-    pub fn go_on(self, alloc: Global, visits: u64) -> (Pile, bool)
-        requires { IsBegunPile self }
-        ensures { PlaysOn self result.0 visits result.1 }
-    {
-        let (pile, _, goes_on) = self.go_on_counted(alloc, visits);
-        (pile, goes_on)
-    }
-
-    /// Plays on as `go_on` does; also how many visits it made.
+    /// Plays on by `visits` visits (`Play::go_on`); how many it made, and whether the play goes on.
     #[tactic(auto, using(crate::proofs::CourseLemmas::plays_on))]
-    pub fn go_on_counted(self, alloc: Global, visits: u64) -> (Pile, u64, bool)
+    pub fn go_on(self, alloc: Global, visits: u64) -> (Pile, u64, bool)
         requires { IsBegunPile self }
         ensures plays { PlaysOn self result.0 visits result.2 }
         ensures at_most { result.1 ≤ visits + 161 * places self.game }

@@ -138,7 +138,7 @@ impl KeptPile {
         ensures { PlaysSome self result.0 visits result.1 }
     {
         let KeptPile { pile, .. } = self;
-        let (pile, goes_on) = pile.go_on(alloc, visits);
+        let (pile, _, goes_on) = pile.go_on(alloc, visits);
         if goes_on {
             let state = PileState::ToPlay;
             return (KeptPile { pile, state }, Ok(true));

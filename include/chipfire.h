@@ -50,7 +50,7 @@ extern "C" {
 #endif
 
 /* The version of this header, and that of the library: 1000000 * major + 1000 * minor + patch. */
-#define CHIPFIRE_VERSION UINT64_C(12000)
+#define CHIPFIRE_VERSION UINT64_C(13000)
 uint64_t chipfire_version(void);
 
 /* What calls return: success, or a fault by its name in `chipfire explain`. */

@@ -100,29 +100,45 @@ struct Ends {
 }
 
 impl Ends {
-    /// No ends, with room for `numbers` numbers of vertices and `games` games.
+    /// No ends, with room for `numbers` numbers of vertices and `games` games, if these are two or more.
     fn with_room(alloc: Global, numbers: usize, games: usize) -> Result<Ends, AllocError>
         ensures { IfOk result (λ ends. (ends.chips.items ≡ []) × (ends.fired.items ≡ []) × (ends.stopped.items ≡ [])) }
     {
+        // (one outcome is not copied)
+        let room = if games > 1 { numbers } else { 0 };
         Ok(Ends {
-            chips: Vec::with_capacity(alloc, numbers)?,
-            fired: Vec::with_capacity(alloc, numbers)?,
+            chips: Vec::with_capacity(alloc, room)?,
+            fired: Vec::with_capacity(alloc, room)?,
             stopped: Vec::with_capacity(alloc, games)?,
         })
     }
 
     /// Appends an outcome.
-    fn push(&mut self, outcome: &Outcome) -> Result<(), AllocError>
-        ensures chips { OnOk result (self.new.chips.items ≡ self.old.chips.items ++ outcome.now.chips.items) }
-        ensures fired { OnOk result (self.new.fired.items ≡ self.old.fired.items ++ outcome.now.fired.items) }
+    fn push(&mut self, outcome: Outcome) -> Result<(), AllocError>
+        ensures chips { OnOk result (self.new.chips.items ≡ self.old.chips.items ++ outcome.chips.items) }
+        ensures fired { OnOk result (self.new.fired.items ≡ self.old.fired.items ++ outcome.fired.items) }
         ensures stopped { OnOk result
-            (self.new.stopped.items ≡ self.old.stopped.items ++ length outcome.now.over.items ∷ []) }
+            (self.new.stopped.items ≡ self.old.stopped.items ++ length outcome.over.items ∷ []) }
     {
-        self.chips.extend_from_slice(&outcome.chips)?;
-        self.fired.extend_from_slice(&outcome.fired)?;
-        self.stopped.push(outcome.over.len() as u64)?;
+        let Outcome {
+            fired, chips, over, ..
+        } = outcome;
+        append(&mut self.chips, chips)?;
+        append(&mut self.fired, fired)?;
+        self.stopped.push(over.len() as u64)?;
         Ok(())
     }
+}
+
+/// Appends numbers to others. If there is no room for any, they are moved and not copied.
+fn append(numbers: &mut Vec<u64>, more: Vec<u64>) -> Result<(), AllocError>
+    ensures { OnOk result (numbers.new.items ≡ numbers.old.items ++ more.items) }
+{
+    if numbers.is_empty() && numbers.capacity() == 0 {
+        *numbers = more;
+        return Ok(());
+    }
+    numbers.extend_from_slice(&more)
 }
 
 /// The ends of `games` games that begin with these chips.
@@ -150,7 +166,7 @@ fn play_each<W: Watch>(
         let (guess, later_guesses) = left.split_at(vertices.min(left.len()));
         let game = game_of(alloc, graph, limit, start, number as u64)?;
         let outcome = plain_given(alloc, &game, guess, watch)?;
-        ends.push(&outcome)?;
+        ends.push(outcome)?;
         graph = game.into_graph();
         (rest, left) = (later, later_guesses);
     }

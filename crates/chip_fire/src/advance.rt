@@ -8,8 +8,9 @@ ghost use Rattle.chip_fire.specs.Course.{IsCourse, IsSearching};
 use crate::course::{Course, Searching};
 use crate::play::Play;
 use crate::soon::visits_at_all;
-use crate::tuning::{MOST_AHEAD, PART_OF_TURN, STRETCH, TURN};
+use crate::tuning::{EDGES_OF_DENSE, MOST_AHEAD, PART_OF_TURN, STRETCH, TURN};
 use crate::watch::Watch;
+use chip_graph::Graph;
 use chip_guess::{AHEAD, Hierarchy, Search};
 use std::alloc::Global;
 
@@ -61,13 +62,13 @@ impl Play<'_> {
         let hierarchy = Hierarchy::new(alloc, graph, searched, most)?;
         let before = Vec::from_slice(alloc, &self.fired).ok()?;
         let least = needed.min(most).max(*searched);
-        let is_undirected = hierarchy.is_symmetric();
-        let ahead = self.ahead(is_undirected, alone, least);
+        let leads = hierarchy.is_symmetric() && !is_dense(graph);
+        let ahead = self.ahead(leads, alone, least);
         let search = Search::new(alloc, hierarchy, self.game, &before).ok()?;
         let searching = Searching {
             search: Box::new(alloc, search).ok()?,
             before,
-            is_undirected,
+            leads,
             alone,
             ahead,
             beside: 0,
@@ -79,15 +80,15 @@ impl Play<'_> {
         Box::new(alloc, searching).ok()
     }
 
-    /// How many visits a search makes before the play has its turns: `least`, or more on an undirected graph whose chips
-    /// cannot all stay. There it makes twice as many as the play needs to dissipate these, by what it has dissipated in its
-    /// `alone` visits so far, if what it dissipates grows as the square root of its visits.
-    fn ahead(&self, is_undirected: bool, alone: u64, least: u64) -> u64
+    /// How many visits a search makes before the play has its turns: `least`, or more if it leads and the chips cannot all
+    /// stay. Then it makes twice as many as the play needs to dissipate these, by what it has dissipated in its `alone`
+    /// visits so far, if what it dissipates grows as the square root of its visits.
+    fn ahead(&self, leads: bool, alone: u64, least: u64) -> u64
         requires few { least ≤ 160 * places self.now.game }
         ensures enough { least ≤ result }
         ensures most { result ≤ 16384 * places self.now.game }
     {
-        if !is_undirected {
+        if !leads {
             return least;
         }
         let most = visits_at_all(self.game.graph()).saturating_mul(MOST_AHEAD);
@@ -239,16 +240,16 @@ impl Play<'_> {
         true
     }
 
-    /// Lets the search make more visits before the play's next turn if the play is still far from its end, on an
-    /// undirected graph: as many as the play needs if chips come to rest no faster than since it was judged last, but at
-    /// most five times as many as it has made. Whether it may make more.
+    /// Lets a search that leads make more visits before the play's next turn, if the play is still far from its end: as
+    /// many as the play needs if chips come to rest no faster than since it was judged last, but at most five times as
+    /// many as it has made. Whether it may make more.
     fn judge(&self, searching: &mut Searching) -> bool
         requires { IsSearching self.now.game self.now.fired searching.old }
         ensures searching { IsSearching self.now.game self.now.fired searching.new }
         ensures same { (searching.new.beside ≡ searching.old.beside)
             × (searching.new.searched ≡ searching.old.searched) }
     {
-        if !searching.is_undirected || searching.beside <= searching.judged {
+        if !searching.leads || searching.beside <= searching.judged {
             return false;
         }
         let waits = self.waiting_chips();
@@ -315,6 +316,11 @@ impl Play<'_> {
             let _ = self.raise_to(alloc, &guess);
         }
     }
+}
+
+/// Whether a graph has many edges for its vertices, so that each round moves many chips.
+fn is_dense(graph: &Graph) -> bool {
+    graph.edges().len() as u64 > graph.vertices().saturating_mul(EDGES_OF_DENSE)
 }
 
 /// How many visits a search may have made in all.

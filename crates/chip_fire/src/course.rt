@@ -51,8 +51,8 @@ pub struct Searching {
     pub(crate) search: Box<Search>,
     /// How often each vertex had fired when the search began.
     pub(crate) before: Vec<u64>,
-    /// Whether the graph has each edge in both directions.
-    pub(crate) is_undirected: bool,
+    /// Whether the search may make more visits than the play: the graph is undirected, and not dense.
+    pub(crate) leads: bool,
     /// How many visits the play had made when the search began.
     pub(crate) alone: u64,
     /// How many the search makes before the play has turns, but for two for each of these.

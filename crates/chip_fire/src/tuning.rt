@@ -10,6 +10,10 @@ pub(crate) const FEW_VISITS: u64 = 480;
 /// 1,000.
 pub(crate) const MOST_AHEAD: u64 = 16384;
 
+/// A graph is dense if it has more edges for each vertex: there a search makes no more visits than the play (a clique of
+/// 100 with a tail of 200).
+pub(crate) const EDGES_OF_DENSE: u64 = 16;
+
 /// How many visits to each vertex and edge the play makes in each of its turns beside a search.
 pub(crate) const TURN: u64 = 4;
 

@@ -220,7 +220,7 @@ module _ (g : Setting) where
         → Happens net (was log) (Work q) (was (x ∷ log))
     works x log q at l books wakes = by_event x log (Work q) at l books wakes
 
-    tail_part : (e : ℕ) → tail_of g e < stopper g + 1
+    pub tail_part : (e : ℕ) → tail_of g e < stopper g + 1
     tail_part e = ⊎_elim (λ z. omega arith) (λ l. omega arith) (tail_cases g game e)
 
     module _ (log : Log) (legal : IsLegalLog g log) where

@@ -104,7 +104,7 @@ pub use Rattle.chip_core.specs.Positions.{full_position, firings_of, FiresToEnd,
 pub use Rattle.chip_core.specs.Reached.{parts_by, IsOneMore, IsReached, at_opening, one_more, ReachedByLegalLogs}
 pub use Rattle.chip_core.specs.Replies.{is_idle, DifferInNotes, IdleStepsLeave, RunsGoOn}
 pub use Rattle.chip_core.specs.Soon.{HasTerminated, IsTreeAtMostDeep, CoreDepthCloses, DepthClosesLater}
-pub use Rattle.chip_core.specs.Soon.{CoreDepthIsCounted}
+pub use Rattle.chip_core.specs.Soon.{CoreDepthIsCounted, acks_left, CoreFewAreLeft}
 pub use Rattle.chip_core.specs.Wasting.{AllAdvance, NoneIsDue, CoreNoWasteCloses}
 pub use Rattle.chip_core.specs.Words.{acting_part, of_edge, of_cell, Word, of_vertex, IsWord, halt_bits, word_of_event}
 pub use Rattle.chip_core.specs.Words.{word_to_note, IsShown, OperationsFind, IsLeft, WordsGoOn}

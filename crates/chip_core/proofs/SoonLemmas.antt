@@ -8,18 +8,21 @@ use Rattle.chip_core.proofs.Names.{nothing_left, Log, Step, Event, Settle, part_
 use Rattle.chip_core.proofs.Names.{IsClosed, head_of, all_edges, graph_edges, messages_from}
 use Rattle.chip_core.proofs.Names.{counts_in_flight, IsTree, IsDetectionOrder, done_by, HasTurn, HasRounds}
 use Rattle.chip_core.proofs.Names.{HasTerminated, IsTreeAtMostDeep, CoreDepthCloses, DepthClosesLater}
-use Rattle.chip_core.proofs.Names.{CoreDepthIsCounted, nat_tests, cases_option, contains_cases}
-use Rattle.chip_core.proofs.LogLemmas.{part_kept, settled_step, acked_step, head_inside, tail_inside, tail_cases}
+use Rattle.chip_core.proofs.Names.{CoreDepthIsCounted, nat_tests, cases_option, contains_cases, acks_left, CoreFewAreLeft}
+use Rattle.chip_core.proofs.Names.{Take, Ack, Fire, Clear, Claim, Put, Halt, Seal, Read, Feed, End, part_of, sees, rules_met}
+use Rattle.chip_core.proofs.Names.{get_or_past, true≢false, root_edge, tail_root, tail_of, Advances, AllAdvance, sum_below}
+use Rattle.chip_core.proofs.LogLemmas.{part_kept, settled_step, acked_step, head_inside, tail_inside, tail_cases, edge_counts}
 use Rattle.chip_core.proofs.LogLemmas.{acked_grows, settled_grows, legal_before, in_pieces}
 use Rattle.chip_core.proofs.RoundLemmas.{makes_turn, settles_all, own_in}
 use Rattle.chip_core.proofs.ReachingLemmas.{part_own}
 use Rattle.chip_core.proofs.InstanceLemmas.{net, was, events_of, is_network, legal_there, one_event, shows}
-use Rattle.chip_core.proofs.InstanceLemmas.{may_same, owes_same}
+use Rattle.chip_core.proofs.InstanceLemmas.{may_same, owes_same, event_by, idle, tail_part}
 use Rattle.chip_core.proofs.OrderLemmas.{quiescent_there, closed_here}
 use Rattle.chip_diffusing.specs.Computation as diffusing
 use Rattle.chip_diffusing.specs.Ending as rounds
 use Rattle.chip_diffusing.proofs.KeptLemmas.{legal_kept}
-use Rattle.chip_diffusing.proofs.QuiescentLemmas.{leads_on}
+use Rattle.chip_diffusing.proofs.QuiescentLemmas.{leads_on, one_later}
+use Rattle.chip_diffusing.proofs.DueLemmas as due
 use Rattle.chip_diffusing.proofs.DepthLemmas as theorem
 
 no_messages : (e place : ℕ) (counts : List ℕ) → messages_from e place counts ≡ [] → length counts ≡ 0
@@ -165,20 +168,22 @@ module _ (g : Setting) where
 
     -- ---- by the theorem
 
+    over_there : (log : Log) → IsLegalLog g log → HasTerminated g log → diffusing.IsQuiescent (net g) (was g log)
+    over_there log legal over = quiescent_there g game some_ring log legal over.passive (λ e l.
+        let got : ℕ = length (into_in g log e).got in
+        let a = no_messages e got (counts_in_flight g log e) (over.delivered e l) in
+        let b = length-drop got (sent_counts (out_in g log e).link) in
+        let c = length-sent_counts (out_in g log e).link in omega arith) over.end
+
     -- one round more than the tree is deep, after which the root settles all its edges
     closes : (log : Log) → IsLegalLog g log → HasTerminated g log → (depth : ℕ) → IsTreeAtMostDeep g log depth
         → (mid xs : Log) → IsLegalLog g (xs ++ mid) → rounds.HasMomentRounds (net g) (suc depth) (was g log) (was g mid)
         → ((e : ℕ) → graph_edges g ≤ e → e < all_edges g → (x : Step) × Contains xs x × (x.event ≡ Settle e))
         → IsClosed g (xs ++ mid)
     closes log legal over depth deep mid xs new has settles =
-        let taken : (e : ℕ) → e < all_edges g → claims_of (out_in g log e).link ≤ length (into_in g log e).got = λ e l.
-        let got : ℕ = length (into_in g log e).got in
-        let a = no_messages e got (counts_in_flight g log e) (over.delivered e l) in
-        let b = length-drop got (sent_counts (out_in g log e).link) in
-        let c = length-sent_counts (out_in g log e).link in omega arith in
         closed_here g game some_ring (xs ++ mid) new (theorem.depth_closes (net g) (is_network g game some_ring)
         (events_of g log) (was g log) (legal_there g game some_ring log legal)
-        (quiescent_there g game some_ring log legal over.passive taken over.end) depth
+        (over_there log legal over) depth
         (record { level = deep.level; below = λ p l e is. deep.below p (engaged_inside log legal p e is) e is })
         (was g mid) (was g (xs ++ mid)) has (goes xs mid new)
         (λ e out.
@@ -187,6 +192,70 @@ module _ (g : Setting) where
         (λ own. absurd (let a = tail_inside g game e own in omega arith)) (λ n. omega arith) in
         let x = settles e past out.0 in let a = settle_seen xs mid new x.0 x.1 e x.2 in
         let b = (shows g mid).acked e out.0 in let c = (shows g (xs ++ mid)).settled e out.0 in omega arith))
+
+    -- ---- few steps are left
+
+    module _ (log : Log) (legal : IsLegalLog g log) (over : diffusing.IsQuiescent (net g) (was g log)) where
+      all_got : (e : ℕ) → e < all_edges g → claims_of (out_in g log e).link ≤ length (into_in g log e).got
+      all_got e l = let a = over.delivered e l in let b = (shows g log).sent e l in let c = (shows g log).got e l in omega arith
+
+      -- a step that advances acknowledges, or settles something new
+      news : (x : Event) (seen : ℕ) → IsLegalLog g (saw x seen ∷ log) → Advances g log x
+          → rounds.TellsNews (net g) (was g log) (event_by g x seen (part_in g log (part_of g x)))
+      news (Take e) seen next advance =
+          let l = rules_met g (Take e) (part_in g log (head_of g e)) next.1.0 in
+          let c = edge_counts g game some_ring log legal e in let c3 = c.3 in let a = all_got e l in
+          let none : sees g log (Take e) ≡ 0 = get_or_past (out_in g log e).link.put (length (into_in g log e).got) 0 (omega arith) in
+          let tells = advance.tells in absurd (grind (arith, nat_tests))
+      news (Ack e) seen next advance = (rules_met g (Ack e) (part_in g log (head_of g e)) next.1.0).2
+      news (Put e) seen next advance =
+          let may = rules_met g (Put e) (part_in g log (tail_of g e)) next.1.0 in
+          let c = edge_counts g game some_ring log legal e in let c2 = c.2 in let c3 = c.3 in let a = all_got e may.0 in
+          let some = may.1.1 in absurd (grind (arith, nat_tests))
+      news (Settle e) seen next advance =
+          let l = rules_met g (Settle e) (part_in g log (tail_of g e)) next.1.0 in
+          let is : seen ≡ sees g log (Settle e) = next.1.1 in
+          let a = (shows g log).settled e l in let tells = advance.tells in grind (arith, nat_tests)
+      news End seen next advance =
+          let e : ℕ = root_edge g 0 in
+          let some = game.graph_fits.some_vertex in
+          let at = ap (λ (p : ℕ). ((part_in g log p).out e).settled) (tail_root g e (omega arith)) in
+          let is : seen ≡ sees g log End = next.1.1 in
+          let a = (shows g log).settled e (omega arith) in let tells = advance.tells in grind (arith, nat_tests)
+      news (Seal e) seen next advance = absurd (true≢false (sym advance.tells))
+      news (Read v) seen next advance = absurd (true≢false (sym advance.tells))
+      news (Fire v k) seen next advance =
+          let l = (rules_met g (Fire v k) (part_in g log v) next.1.0).0 in
+          absurd (idle g game some_ring log (Fire v k) seen next (over.passive v (omega arith)))
+      news (Halt v) seen next advance =
+          let l = (rules_met g (Halt v) (part_in g log v) next.1.0).0 in
+          absurd (idle g game some_ring log (Halt v) seen next (over.passive v (omega arith)))
+      news (Clear e) seen next advance = absurd (idle g game some_ring log (Clear e) seen next
+          (over.passive (tail_of g e) (tail_part g game some_ring e)))
+      news (Claim e) seen next advance = absurd (idle g game some_ring log (Claim e) seen next
+          (over.passive (tail_of g e) (tail_part g game some_ring e)))
+      news (Feed e k) seen next advance = absurd (idle g game some_ring log (Feed e k) seen next
+          (over.passive (tail_of g e) (tail_part g game some_ring e)))
+
+    -- such steps are events that are due
+    due_there : (xs log : Log) → IsLegalLog g (xs ++ log) → diffusing.IsQuiescent (net g) (was g log) → AllAdvance g log xs
+        → diffusing.IsQuiescent (net g) (was g (xs ++ log)) × ((events : diffusing.Log) × (length events ≡ length xs)
+        × rounds.LeadsDue (net g) (was g log) events (was g (xs ++ log)))
+    due_there [] log legal over all = (over, ([], refl, refl))
+    due_there (x ∷ xs) log legal over all =
+        let before = due_there xs log legal.0 over all.0 in
+        let now : Log = xs ++ log in
+        let event = event_by g x.event x.seen (part_in g now (part_of g x.event)) in
+        let step = one_event g game some_ring x.event x.seen now legal in
+        let kept = legal_kept (net g) (is_network g game some_ring) (events_of g now) (was g now)
+        (legal_there g game some_ring now legal.0) in (
+          (one_later (net g) (is_network g game some_ring) (was g now) kept before.0 (was g (x ∷ now)) event step).quiescent,
+          (
+            event ∷ before.1.0,
+            ap suc before.1.1,
+            (was g now, before.1.2, (step.may, news now legal.0 before.0 x.event x.seen legal all.1), step),
+          ),
+        )
 
     -- ---- the core's trees are trees of the computation
 
@@ -258,3 +327,17 @@ depth_is_counted g game some_ring log legal vs order =
     let deep = theorem.depth_is_counted (net g) (is_network g game some_ring) (events_of g log) (was g log)
     (legal_there g game some_ring log legal) vs (order_there g game some_ring log legal vs order) in
     record { level = deep.level; below = λ v l e is. deep.below v (omega arith) e is }
+
+same_sum : (n : ℕ) (f h : ℕ → ℕ) → ((e : ℕ) → e < n → f e ≡ h e) → rounds.sum_to n f ≡ sum_below n h
+same_sum zero f h same = refl
+same_sum (suc n) f h same = let a = same_sum n f h (λ e l. same e (omega arith)) in omega (arith, same n)
+
+pub few_are_left : CoreFewAreLeft
+few_are_left g game some_ring log legal over xs longer all =
+    let quiescent = over_there g game some_ring log legal over in
+    let way = (due_there g game some_ring xs log longer quiescent all).1 in
+    let few = (due.few_are_left (net g) (is_network g game some_ring) (events_of g log) (was g log)
+    (legal_there g game some_ring log legal) quiescent way.0 (was g (xs ++ log)) way.2).0 in
+    let same : rounds.left (net g) (was g log) ≡ acks_left g log = same_sum (all_edges g) _ _ (λ e l.
+    let a = (shows g log).sent e l in let b = (shows g log).acked e l in let c = (shows g log).settled e l in omega arith) in
+    let one = way.1 in omega arith

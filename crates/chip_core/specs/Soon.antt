@@ -1,12 +1,15 @@
 -- Soon after the end: if only acknowledgements are left, few more rounds close the root.
-use Rattle.std.specs.Prelude.{◌≡◌, ℕ, suc, ◌<◌, ◌≤◌, true, List, [], ◌++◌, length, Contains, Some}
+use Rattle.std.specs.Prelude.{◌≡◌, ℕ, suc, ◌<◌, ◌≤◌, ◌+◌, ◌-◌, true, List, [], ◌++◌, length, Contains, Some}
+use Rattle.chip_graph.specs.Sums.{sum_below}
+use Rattle.chip_link.specs.Link.{claims_of}
 use Rattle.chip_part.specs.Setting.{Setting}
 use Rattle.chip_part.specs.Part.{is_passive}
-use Rattle.chip_core.specs.Core.{Log, Step, Settle, part_in, IsLegalLog, IsClosed, tail_of, all_edges, graph_edges}
+use Rattle.chip_core.specs.Core.{Log, Step, Settle, part_in, out_in, into_in, IsLegalLog, IsClosed, tail_of, all_edges, graph_edges}
 use Rattle.chip_core.specs.Messages.{in_flight}
 use Rattle.chip_core.specs.Detection.{IsDetectionOrder}
 use Rattle.chip_core.specs.Laws.{ForEveryLog}
 use Rattle.chip_core.specs.Closing.{HasEnd, HasTurn, HasRounds}
+use Rattle.chip_core.specs.Wasting.{AllAdvance}
 
 -- every vertex is passive, nothing is claimed and not taken, and the end is noted
 pub record HasTerminated (g : Setting) (log : Log) : Type 0 where
@@ -44,3 +47,13 @@ DepthClosesLater = ForEveryLog (λ g before. HasTerminated g before → (depth :
 -- no tree is deeper than its number of vertices
 abbrev pub CoreDepthIsCounted : Type 0
 CoreDepthIsCounted = ForEveryLog (λ g log. (vs : List ℕ) → IsDetectionOrder g log vs → IsTreeAtMostDeep g log (length vs))
+
+-- the acknowledgements that are not yet given, and those not yet settled
+abbrev pub acks_left : Setting → Log → ℕ
+acks_left g log = sum_below (all_edges g) (λ e. (claims_of (out_in g log e).link - (into_in g log e).acked)
+    + (claims_of (out_in g log e).link - (out_in g log e).settled))
+
+-- no more steps advance than these
+abbrev pub CoreFewAreLeft : Type 0
+CoreFewAreLeft = ForEveryLog (λ g log. HasTerminated g log → (xs : Log) → IsLegalLog g (xs ++ log) → AllAdvance g log xs
+    → length xs ≤ acks_left g log)

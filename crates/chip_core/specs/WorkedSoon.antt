@@ -5,7 +5,7 @@ use Rattle.chip_part.specs.Setting.{Setting, setting_of}
 use Rattle.chip_part.specs.Part.{deficit_of}
 use Rattle.chip_part.specs.Worked.{small_triangle, chain, edge}
 use Rattle.chip_core.specs.Core.{Log, Event, Take, Ack, Fire, Clear, Claim, Put, Settle, part_in, log_after, root}
-use Rattle.chip_core.specs.Soon.{HasTerminated, IsTreeAtMostDeep}
+use Rattle.chip_core.specs.Soon.{HasTerminated, IsTreeAtMostDeep, acks_left}
 
 abbrev pub root_waits : Setting → Log → ℕ
 root_waits g log = deficit_of g (root g) (part_in g log (root g))
@@ -21,7 +21,7 @@ root_settles_chain = Settle 2 ∷ Settle 3 ∷ Settle 4 ∷ []
 abbrev pub ascending : List Event
 ascending = Settle 0 ∷ Ack 2 ∷ Settle 1 ∷ Ack 0 ∷ Ack 1 ∷ root_settles_chain
 
--- descending, one round does
+-- descending, one round does: six steps advance, as many as are left
 abbrev pub descending : List Event
 descending = Ack 1 ∷ Settle 1 ∷ Ack 0 ∷ Settle 0 ∷ Ack 2 ∷ root_settles_chain
 
@@ -30,7 +30,7 @@ ChainCloses =
     let log : Log = log_after chain [] chain_fired in
     (root_waits chain (log_after chain log (ascending ++ ascending)) ≡ 1)
     × (root_waits chain (log_after chain log (ascending ++ (ascending ++ ascending))) ≡ 0)
-    × (root_waits chain (log_after chain log descending) ≡ 0)
+    × (root_waits chain (log_after chain log descending) ≡ 0) × (acks_left chain log ≡ 6)
 
 -- a star: 1 and 2 send to the sink 0, which edge 0 engages: two deep. Root edge v has the number 2 + v
 abbrev pub star : Setting

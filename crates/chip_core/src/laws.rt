@@ -22,7 +22,7 @@ ghost use Rattle.chip_core.specs.Closing.{CoreNeverStuck, IdleAttemptsClose, Idl
 ghost use Rattle.chip_core.specs.Closing.{FairSchedulesClose, RoundsAreStretches, FairRoundsClose, NothingStirs};
 ghost use Rattle.chip_core.specs.Wasting.{CoreNoWasteCloses};
 ghost use Rattle.chip_core.specs.Playing.{UnsealedHaltsNone, FairSchedulesPlay, FairRoundsPlay};
-ghost use Rattle.chip_core.specs.Soon.{CoreDepthCloses, DepthClosesLater, CoreDepthIsCounted};
+ghost use Rattle.chip_core.specs.Soon.{CoreDepthCloses, DepthClosesLater, CoreDepthIsCounted, CoreFewAreLeft};
 ghost use Rattle.chip_core.specs.WorkedClosing.{TriangleBounds, OneRefused, ThreeStretches};
 ghost use Rattle.chip_core.specs.WorkedClosing.{FiveStretches, BatchesAsk, ThreeSteps, TrianglePlays};
 ghost use Rattle.chip_core.specs.WorkedSoon.{ChainCloses, StarCloses, PairCloses};
@@ -189,11 +189,12 @@ pub fn fair_schedules_play()
 {}
 
 /// If only acknowledgements are left, the root closes after as many rounds as the tree of engaged vertices is deep, and
-/// one more.
+/// one more; and no more steps advance than acknowledgements are not given or not settled.
 pub fn soon_after_the_end()
     ensures depth { CoreDepthCloses }
     ensures later { DepthClosesLater }
     ensures counted { CoreDepthIsCounted }
+    ensures few { CoreFewAreLeft }
 {}
 
 /// For every list of actor steps, each edge has delivered a prefix of what was sent on it, each message once and in

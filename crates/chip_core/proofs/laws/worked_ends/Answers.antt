@@ -3,4 +3,4 @@ use Rattle.chip_core.proofs.WorkedLemmas.{pair_closes}
 use Rattle.chip_core.proofs.laws.worked_ends.Goals as goal
 
 pub returns : goal.returns
-returns c = record { chain = (refl, refl, refl); star = (refl, refl); pair = pair_closes }
+returns c = record { chain = (refl, refl, refl, refl); star = (refl, refl); pair = pair_closes }

@@ -10,12 +10,9 @@ pub fn worked()
 {}
 
 /// The rows of a legal log whose root is closed are a well-formed log of the judge, and in some order each row is
-/// enabled. For every order of the rows of different processes, each claim in them is right.
+/// enabled. For every order of the rows of different processes, each claim in them is right. So whatever `judge_log`
+/// returns for them, its verdict on each claim is right, and the log ends with a claim.
 pub fn every_log_is_judged_right()
-    ensures { EveryLogIsJudgedRight }
-{}
-
-/// So whatever `judge_log` returns for them, its verdict on each claim is right, and the log ends with a claim.
-pub fn every_answer_is_right()
-    ensures { EveryAnswerIsRight }
+    ensures rows { EveryLogIsJudgedRight }
+    ensures answers { EveryAnswerIsRight }
 {}

@@ -1,3 +1,3 @@
 pub mod Rows
-pub mod Worked
 pub mod Laws
+pub mod Worked

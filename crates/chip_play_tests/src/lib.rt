@@ -11,6 +11,7 @@ mod games;
 mod given;
 #[cfg(test)]
 mod graph;
+pub mod laws;
 #[cfg(test)]
 mod rounds;
 #[cfg(test)]

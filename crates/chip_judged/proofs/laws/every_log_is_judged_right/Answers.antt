@@ -124,11 +124,6 @@ module _ (net : Network) (is : IsNetwork net) (log : Log) (last : World) (legal 
     counted (Work p) steps notes e c = search (rules, arith, nat_tests, count-append, count-replicate)
     counted _ steps notes e c = search (rules, arith, nat_tests, count-append, count-replicate)
 
-    -- what an event logs says whether its process is active then
-    active_then : (x : Event) → Happens net old x new
-        → active_after (not (old (process_of net x)).passive) (steps_by net old x new) ≡ not (new (process_of net x)).passive
-    active_then x step = grind (arith, nat_tests, active_after-append, active_after-replicate, step.wakes)
-
     -- a process that the event leaves not engaged was passive, and told last
     told_then : (x : Event) → Happens net old x new → process_of net x ≢ net.root → (new (process_of net x)).books.parent ≡ None
         → (before : Bool) → ((old (process_of net x)).books.parent ≡ None → before ≡ true) → last_tells before (steps_by net old x new) ≡ true
@@ -153,7 +148,8 @@ module _ (net : Network) (is : IsNetwork net) (log : Log) (last : World) (legal 
     shows_then x step steps s = record {
       counts = λ e. counted x steps step.notes e (s.counts e);
       begins = begins-append steps _ (grind (arith, nat_tests, count-append, count-replicate)) ∙ s.begins;
-      active = rw (active_after-append, s.active) (active_then x step);
+      active = rw (active_after-append, s.active)
+          (grind (arith, nat_tests, active_after-append, active_after-replicate, step.wakes));
       told = λ root free. let other : process_of net x ≢ net.root = λ z. omega (arith, root z) in
           rw last_tells-append (told_then x step other free (last_tells true steps) (s.told root));
       claims = grind (arith, nat_tests, count-append, count-replicate, s.claims);
@@ -161,16 +157,12 @@ module _ (net : Network) (is : IsNetwork net) (log : Log) (last : World) (legal 
 
   -- ---- all events
 
-  -- the row that the root begins active, if it does, shows how each process opens
-  opens : (p : ℕ) → p < net.parts
-      → Shows 0 p (if net.root == p then (if (legal.first net.root).passive then [] else Active ∷ []) else []) (legal.first p)
-  opens p l = let o = legal.opens p l in search (rules, arith, nat_tests, o.fresh.ins.messages, o.passive)
-
   -- the rows so far show each moment of the run
   so_far : (past : Log) (now : World) (way : Leads net legal.first past now) → Show 0 (rows_until net legal.first past now way) now
   so_far [] now at_once = subst (Show 0 (rows_until net legal.first [] legal.first refl)) at_once (record {
     kept = opens_kept net is legal.first legal.opens;
-    shows = λ p l. rw steps_of-rows_by (opens p l);
+    shows = λ p l. let o = legal.opens p l in
+        rw steps_of-rows_by (search (rules, arith, nat_tests, o.fresh.ins.messages, o.passive));
     outside = λ p beyond. grind (arith, nat_tests, steps_of-rows_by, is.root);
   })
   so_far (x ∷ past) now (old, way, step) =
@@ -307,14 +299,8 @@ module _ (net : Network) (is : IsNetwork net) (log : Log) (last : World) (legal 
     got_all s =
         let itself : s ≡ record { channel = s.channel; is_control = s.is_control } = refl in
         let up = settled_up net is log last legal closed s.channel in
-        grind (
-          arith,
-          nat_tests,
-          on_edge (ended xs any.whole) s.channel,
-          up,
-          none_past (ended xs any.whole) true s,
-          none_past (ended xs any.whole) false s,
-        )
+        let past = λ (d : Bool). none_past (ended xs any.whole) d s in
+        grind (arith, nat_tests, on_edge (ended xs any.whole) s.channel, up, past true, past false)
 
     -- there is one claim
     one_claim : count_rows is_over xs ≡ 1
@@ -332,17 +318,15 @@ module _ (net : Network) (is : IsNetwork net) (log : Log) (last : World) (legal 
           (λ no. rw ((ended xs any.whole).outside p (omega arith), full.outside p (omega arith)) refl);
     }
 
-  -- the last row sends no message, since each was got
-  not_out : (pre : List LogRow) (y : LogRow) → IsInterleaving rows (pre ++ y ∷ []) → (s : Stream) → y.step ≡ Out s → ⊥
-  not_out pre y any s at =
-      let a = met_le s rows [] pre (are_met_first rows [] pre (y ∷ []) any.met) in
-      grind (arith, nat_tests, rows-append, same_self, got_all any s)
-
-  -- the last row is the claim, since its process has told last
+  -- the last row is the claim: its process has told last, but no message, since each was got
   last_over : (pre : List LogRow) (y : LogRow) → IsInterleaving rows (pre ++ y ∷ []) → y.step ≡ Over
-  last_over pre y any = let p = y.process in let push = steps_push p pre y refl in let show = ended (pre ++ y ∷ []) any.whole in
+  last_over pre y any = let p = y.process in let push = steps_push p pre y refl in
+      let sent : (s : Stream) → y.step ≡ Out s → ⊥ = λ s at.
+      let a = met_le s rows [] pre (are_met_first rows [] pre (y ∷ []) any.met) in
+      grind (arith, nat_tests, rows-append, same_self, got_all any s) in
+      let show = ended (pre ++ y ∷ []) any.whole in
       let told = λ (l : p < net.parts). (show.shows p l).told (λ z. refl) (no_parents net is log last legal closed p l) in
-      grind (arith, push, told, show.outside p, last_tells-append, length-append (steps_of p pre) (y.step ∷ []), not_out pre y any)
+      grind (arith, push, told, show.outside p, last_tells-append, length-append (steps_of p pre) (y.step ∷ []), sent)
 
   -- so nothing is after a claim
   nothing_after : (pre after : List LogRow) → IsInterleaving rows (pre ++ after) → 0 < count_rows is_over pre → after ≡ []

@@ -1,6 +1,6 @@
 //! The laws: theorems, as the contracts of functions that do nothing.
 
-ghost use Rattle.chip_agree.specs.DropsReported.{AvalanchesAgree, StoppedDropsAgree, KeptDropsAgree, KeptStopsAgree};
+ghost use Rattle.chip_agree.specs.Reported.{AvalanchesAgree, StoppedDropsAgree, KeptDropsAgree, KeptStopsAgree};
 ghost use Rattle.chip_agree.specs.Reported.{RowsAgree, ClaimsAgree, DifferencesAgree, PilesAgree, GamesAreRefused};
 
 use chip_graph::laws::one_answer;

@@ -32,7 +32,7 @@ use Rattle.chip_library.specs.Drops.{Told, drops_of, AreOn, AreMade, IsFaultOfDr
 use Rattle.chip_library.specs.declared.fault.CallFault.TheVariants.{Stopped}
 use Rattle.chip_library.specs.KeptGames.{KeptGame, IsKept}
 use Rattle.chip_library.specs.declared.kept.PileState.TheVariants.{Halted}
-use Rattle.chip_agree.specs.DropsReported.{Agree, AgreeOnAll, AgreeBefore}
+use Rattle.chip_agree.specs.Reported.{Agree, AgreeOnAll, AgreeBefore}
 use Rattle.chip_agree.proofs.laws.avalanches_agree.Goals as goal
 
 -- ---- plays

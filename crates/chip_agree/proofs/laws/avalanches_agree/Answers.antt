@@ -1,7 +1,7 @@
 -- Drops have one list of avalanches, and the limit stops the play of one of them or of none. So the rows that
 -- `avalanches` writes are those of the library.
 use Rattle.std.proofs.Common.{◌≡◌, ℕ, zero, suc, ◌+◌, ◌<◌, ◌≤◌, eqb, cond, List, [], ◌∷◌, ◌++◌, length, map, take}
-use Rattle.std.proofs.Common.{slice_index, refl, sym, ap, ◌∙◌, arith, rules, inl, inr, ⊎_elim, ◌⊎◌, false}
+use Rattle.std.proofs.Common.{slice_index, refl, sym, ap, ◌∙◌, arith, rules, inl, inr, ⊎_elim, false}
 use Rattle.std.proofs.lemmas.Bool.Decides.{nat_tests}
 use Rattle.std.proofs.lemmas.List.{get_or_past, take_more, take-take}
 use Rattle.std.proofs.lemmas.List.Sums.{sum_by-le, sum_by-take-le}
@@ -28,8 +28,7 @@ use Rattle.chip_engine.specs.AvalanchesCommand.{Closes, DropsComeTo}
 use Rattle.chip_engine.specs.DropRows.{rows_text}
 use Rattle.chip_library.proofs.DropLemmas.{all_more, outcome_ends, pile_ends, stopped_there}
 use Rattle.chip_library.proofs.KeptLemmas.{drops_follow}
-use Rattle.chip_library.specs.Drops.{Told, drops_of, AreOn, AreMade, IsFaultOfDrops, IsStopped, game_of}
-use Rattle.chip_library.specs.declared.fault.CallFault.TheVariants.{Stopped}
+use Rattle.chip_library.specs.Drops.{Told, drops_of, AreOn, AreMade, IsStopped, game_of}
 use Rattle.chip_library.specs.KeptGames.{KeptGame, IsKept}
 use Rattle.chip_library.specs.declared.kept.PileState.TheVariants.{Halted}
 use Rattle.chip_agree.specs.Reported.{Agree, AgreeOnAll, AgreeBefore}
@@ -48,20 +47,20 @@ start_is g game ds on more adds u = dite (dec_lt u (length g.start)) (adds.start
 -- ---- lists of drops
 
 -- drops on a position have one list of avalanches
-one_told : (G : Multigraph) (x x' : ℕ → ℕ) (told others : List Told) (y z : ℕ → ℕ) → x ≡ x' → AreAvalanches G x told y
-    → AreAvalanches G x' others z → drops_of told ≡ drops_of others → told ≡ others
-one_told G x x' [] [] y z here are is same = refl
-one_told G x x' (t ∷ told) (u ∷ others) y z here (mid, one, are) (there, two, is) same =
+one_told : (G : Multigraph) (x : ℕ → ℕ) (told others : List Told) (y z : ℕ → ℕ) → AreAvalanches G x told y
+    → AreAvalanches G x others z → drops_of told ≡ drops_of others → told ≡ others
+one_told G x [] [] y z are is same = refl
+one_told G x (t ∷ told) (u ∷ others) y z (mid, one, are) (there, two, is) same =
     let first : t.0 ≡ u.0 = cc same in
-    let drop = rw (first, here) at one in
+    let drop = rw first at one in
     let (vs, fires, rests) = two.ends in
     let p = drop.tells vs fires rests in
     let q = two.tells vs fires rests in
     let lost : t.1.lost ≡ u.1.lost = omega arith in
     let avalanche : t.1 ≡ u.1 = rw (p.size ∙ sym q.size, p.extent ∙ sym q.extent, lost) refl in
     let left : mid ≡ there = (λ i v. (drop.leaves vs fires rests v ∙ sym (two.leaves vs fires rests v)) i) in
-    let rest = one_told G mid there told others y z left are is (cc same) in λ i. (first i, avalanche i) ∷ rest i
-one_told G x x' _ _ y z here are is same = cc same
+    let rest = one_told G there told others y z (rw left at are) is (cc same) in λ i. (first i, avalanche i) ∷ rest i
+one_told G x _ _ y z are is same = cc same
 
 -- drops are the pairs of their vertices and amounts
 pairs : (told : List Told) → drops_of told ≡ zip (map (λ (t : Told). t.0.0) told) (map (λ (t : Told). t.0.1) told)
@@ -91,11 +90,6 @@ module _ (g : ChipGame) (at amounts : List ℕ) where
   abbrev Fell : List Told → (ℕ → ℕ) → Type 0
   Fell told y = (o : Outcome) × IsPlayed g o × AreAvalanches g.graph (slice_index o.chips.items) told y
 
-  -- the limit stops the game, and no drop was made; or it stops the play of drop n, and those before it were made
-  abbrev Halts : List Told → Type 0
-  Halts told = (Stops 0 × (told ≡ [])) ⊎ ((n : ℕ) × (n < length ds) × Stops (n + 1)
-      × Closes g (take n ds) × (drops_of told ≡ take n ds) × (y : ℕ → ℕ) × Fell told y)
-
   -- drops on the game have one list of avalanches
   one_fall : (told others : List Told) (y z : ℕ → ℕ) → Fell told y → Fell others z → drops_of told ≡ drops_of others
       → told ≡ others
@@ -103,7 +97,7 @@ module _ (g : ChipGame) (at amounts : List ℕ) where
       let (vs, whole) = played.ends in
       let here : slice_index o.chips.items ≡ slice_index p.chips.items =
       (λ i v. (played.position vs whole v ∙ sym (also.position vs whole v)) i) in
-      one_told g.graph _ _ told others y z here are fall same
+      one_told g.graph _ told others y z (rw here at are) fall same
 
   -- the limit stopped the game of an outcome that is not closed
   stops : (n : ℕ) (few : ChipGame) → HasMore g (take n ds) few → (o : Outcome) → IsPlayed few o → is_closed o ≡ false
@@ -128,30 +122,29 @@ module _ (g : ChipGame) (at amounts : List ℕ) where
       once (λ u. grind (arith, nat_tests, counts-append vs (v ∷ []) u, p.within u)) v in
       let full = p.ended v can in let low = whole.within v in grind (arith, nat_tests, counts-append vs (v ∷ []) v)))
 
-  -- the drops before the play that is stopped have one list of avalanches
-  one_stop : (told others : List Told) → Halts told → Halts others → told ≡ others
-  one_stop told others (inl game) (inl also) = game.1 ∙ sym also.1
-  one_stop told others (inl game) (inr drop) = absurd (apart 0 (take drop.0 ds) refl game.0 drop.3)
-  one_stop told others (inr drop) (inl game) = absurd (apart 0 (take drop.0 ds) refl game.0 drop.3)
-  one_stop told others (inr (n, l, stopped, rested, drops, y, fell)) (inr (m, l', also, rest, named, z, fall)) =
-      let below : n < m → ⊥ = (λ less. apart (n + 1) (take m ds) (take-take (n + 1) m ds (omega arith)) stopped rest) in
-      let above : m < n → ⊥ = (λ less. apart (m + 1) (take n ds) (take-take (m + 1) n ds (omega arith)) also rested) in
-      let level : n ≡ m = omega arith in
-      one_fall told others y z fell fall (drops ∙ ap (λ (k : ℕ). take k ds) level ∙ sym named)
+  -- where the limit stops the game, `avalanches` tells no drops
+  none_agree : Stops 0 → (rows : List ℕ) (last : ChipGame) (o : Outcome) → DropsComeTo g ds rows last o → IsPlayed last o
+      → (rows ≡ rows_text []) × (plain_status o ≡ 2)
+  none_agree game rows last o (inl (tells, more)) played = absurd (apart 0 ds refl game tells.0)
+  none_agree game rows last o (inr (inl (j, l, tells, more, going))) played = absurd (apart 0 (take j ds) refl game tells.0)
+  none_agree game rows last o (inr (inr (text, same, going))) played = (text, rw going refl)
 
-  -- where the limit stops a play, `avalanches` tells the drops before it
-  halts_agree : (told : List Told) → Halts told → (rows : List ℕ) (last : ChipGame) (o : Outcome)
-      → DropsComeTo g ds rows last o → IsPlayed last o → (rows ≡ rows_text told) × (plain_status o ≡ 2)
-  halts_agree told halts rows last o (inl (tells, more)) played =
-      absurd (⊎_elim (λ game. apart 0 ds refl game.0 tells.0) (λ drop. apart (drop.0 + 1) ds refl drop.2 tells.0) halts)
-  halts_agree told halts rows last o
-      (inr (inl (j, l, (rested, p, also, left, (others, named, are, text)), more, going))) played =
-      let stopped = stops (j + 1) last more o played going in
-      let same = one_stop others told (inr (j, l, stopped, rested, named, left, (p, also, are))) halts in
-      (text ∙ ap rows_text same, rw going refl)
-  halts_agree told halts rows last o (inr (inr (text, same, going))) played =
-      let none = one_stop [] told (inl (stops 0 last (rw same (search rules)) o played going, refl)) halts in
-      (text ∙ ap rows_text none, rw going refl)
+  -- where it stops the play of drop n, `avalanches` tells those before it
+  some_agree : (n : ℕ) (told : List Told) (y : ℕ → ℕ) → Stops (n + 1) → Closes g (take n ds) → drops_of told ≡ take n ds
+      → Fell told y → (rows : List ℕ) (last : ChipGame) (o : Outcome) → DropsComeTo g ds rows last o → IsPlayed last o
+      → (rows ≡ rows_text told) × (plain_status o ≡ 2)
+  some_agree n told y stopped rests drops fell rows last o (inl (tells, more)) played =
+      absurd (apart (n + 1) ds refl stopped tells.0)
+  some_agree n told y stopped rests drops fell rows last o
+      (inr (inl (j, l, (rest, p, also, left, (others, named, are, text)), more, going))) played =
+      let stop = stops (j + 1) last more o played going in
+      let below : n < j → ⊥ = (λ less. apart (n + 1) (take j ds) (take-take (n + 1) j ds (omega arith)) stopped rest) in
+      let above : j < n → ⊥ = (λ less. apart (j + 1) (take n ds) (take-take (j + 1) n ds (omega arith)) stop rests) in
+      let level : j ≡ n = omega arith in
+      let to = named ∙ ap (λ (k : ℕ). take k ds) level ∙ sym drops in
+      (text ∙ ap rows_text (one_fall others told left y (p, also, are) fell to), rw going refl)
+  some_agree n told y stopped rests drops fell rows last o (inr (inr (text, same, going))) played =
+      absurd (apart 0 (take n ds) refl (stops 0 last (rw same (search rules)) o played going) rests)
 
   module _ (game : IsGame g) (told : List Told) (chips : List ℕ) (each : length chips ≡ g.graph.vertices)
       (on : AreOn told at amounts) (made : AreMade g told (slice_index chips)) where
@@ -206,9 +199,8 @@ module _ (g : ChipGame) (at amounts : List ℕ) where
   -- so does one that the limit stopped at the game
   agree_none : (i : ℕ) → i ≡ 0 → IsStopped g → AgreeBefore g at amounts i []
   agree_none i first stopped =
-      let halts : Halts [] = inl ((g, search rules, stopped), refl) in
       let on : AreOn [] (take i at) (take i amounts) = rw first (record { vertices = refl; chips = refl }) in
-      (sym first, on, agree [] _ (halts_agree [] halts))
+      (sym first, on, agree [] _ (none_agree (g, search rules, stopped)))
 
   -- and one that it stopped at drop i
   agree_before : (told : List Told) (y : ℕ → ℕ) (i : ℕ) → length told ≡ i → AreMade g told y
@@ -222,18 +214,7 @@ module _ (g : ChipGame) (at amounts : List ℕ) where
       let last = get_or-zip at amounts i (0, 0) l (omega arith) in
       let stops : Stops (i + 1) = (all, rw (next, last, ← drops) adds, stopped) in
       let rests : Closes g (take i ds) = (made.rest.0, rw (← drops) made.rest.1, made.rest.3) in
-      let halts : Halts told = inr (i, omega arith, stops, rests, drops, y, made.avalanches) in
-      (long, on, agree told _ (halts_agree told halts))
-
-  -- a call names that drop
-  agree_stopped : (i : ℕ) → length amounts ≡ length at → IsFaultOfDrops g at amounts (Stopped i)
-      → (told : List Told) × AgreeBefore g at amounts i told
-  agree_stopped i aligned (inl memory) = absurd (cc memory)
-  agree_stopped i aligned (inr (inl (is, stopped))) = ([], agree_none i (cc is) stopped)
-  agree_stopped i aligned (inr (inr (told, y, made, fault))) =
-      let (same, l, all, adds, game, stopped) = fault.first in
-      let on : AreOn told (take i at) (take i amounts) = rw same fault.drops in
-      (told, agree_before told y i (sym same) made on aligned (rw same fault.is_there) all (rw same adds) stopped)
+      (long, on, agree told _ (some_agree i told y stops rests drops made.avalanches))
 
 -- the limit stopped the game of a pile that is halted
 halted_there : (k : KeptGame) → IsKept k.pile k.state → k.state ≡ Halted → IsStopped k.pile.game
@@ -247,9 +228,21 @@ returns-clause-all c lists limit at amounts old new (aligned, game, each, told, 
     (told, tells, agree_made (game_of lists limit old) at amounts game told new.chips (each ∙ game.start_fits) on made)
 
 pub returns-clause-stopped : goal.returns-clause-stopped
-returns-clause-stopped c lists limit at amounts old new i (same, fault) = ⊎_elim (λ is. absurd (cc is.0))
-    (⊎_elim (λ is. absurd is.1) (⊎_elim (λ is. absurd is.2)
-    (λ is. agree_stopped (game_of lists limit old) at amounts i is.0.rows.amounts_each is.2))) fault
+returns-clause-stopped c lists limit at amounts old new i (same, inl is) = absurd (cc is.0)
+returns-clause-stopped c lists limit at amounts old new i (same, inr (inl is)) = absurd is.1
+returns-clause-stopped c lists limit at amounts old new i (same, inr (inr (inl is))) = absurd is.2
+returns-clause-stopped c lists limit at amounts old new i (same, inr (inr (inr (aligned, game, inl memory)))) =
+    absurd (cc memory)
+returns-clause-stopped c lists limit at amounts old new i (same, inr (inr (inr (aligned, game, inr (inl (is, stopped)))))) =
+    ([], agree_none (game_of lists limit old) at amounts i (cc is) stopped)
+returns-clause-stopped c lists limit at amounts old new i
+    (same, inr (inr (inr (aligned, game, inr (inr (told, y, made, fault)))))) =
+    let (long, l, all, adds, is, stopped) = fault.first in
+    let on : AreOn told (take i at) (take i amounts) = rw long fault.drops in (
+      told,
+      agree_before (game_of lists limit old) at amounts told y i (sym long) made on aligned.rows.amounts_each
+          (rw long fault.is_there) all (rw long adds) stopped,
+    )
 
 pub returns-clause-kept : goal.returns-clause-kept
 returns-clause-kept c g k new at amounts before after begins

@@ -2,6 +2,7 @@
 
 ghost use Rattle.chip_agree.specs.Reported.{AvalanchesAgree, StoppedDropsAgree, KeptDropsAgree, KeptStopsAgree};
 ghost use Rattle.chip_agree.specs.Reported.{RowsAgree, ClaimsAgree, DifferencesAgree, PilesAgree, GamesAreRefused};
+ghost use Rattle.chip_agree.specs.Worked.{WorkedDrops, WorkedEnds, WorkedLogs, WorkedOutcome};
 
 use chip_graph::laws::one_answer;
 
@@ -29,3 +30,11 @@ pub fn games_are_refused()
 {
     one_answer();
 }
+
+/// Values of these definitions, and of those of texts of logs that mean the same, worked out by hand.
+pub fn worked()
+    ensures logs { WorkedLogs }
+    ensures ends { WorkedEnds }
+    ensures outcome { WorkedOutcome }
+    ensures drops { WorkedDrops }
+{}

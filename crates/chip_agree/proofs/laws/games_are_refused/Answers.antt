@@ -29,13 +29,10 @@ use Rattle.chip_agree.proofs.laws.games_are_refused.Goals as goal
 -- a text that means a graph has no fault
 means_none : OneFault → (limits : SizeLimits) (text : List ℕ) (G : Multigraph) → MeansGraph limits text G
     → (f : FileFault) → IsGraphTextFault limits text f → ⊥
-means_none one limits text G means file.NotJson none = cc (rw none at means.meaning)
 means_none one limits text G means file.Shape (d, json, none) = cc (rw (json, none) at means.meaning)
-means_none one limits text G means file.Version (known, is, other) =
-    let meaning = rw is at means.meaning in grind (arith, nat_tests)
 means_none one limits text G means (file.Graph f) (graph, is, fault) =
     let same : graph ≡ G = cc (is, means.meaning) in (one limits G f (rw same at fault)).0 means.valid
-means_none one limits text G means _ fault = fault
+means_none one limits text G means _ fault = grind (arith, nat_tests, means.meaning)
 
 module _ (one : OneFault) (limits : SizeLimits) (graph_text chips_text : List ℕ) (limit : ℕ) (g : ChipGame)
     (named : NamesGame limits graph_text chips_text limit g) (f : GameFault) (faulty : fault_of_game g ≡ Some f) where

@@ -23,7 +23,7 @@ use Rattle.chip_diffusing.specs.Computation.{Leads, IsLegalLog, HasClosedRoot, p
 use Rattle.chip_diffusing.proofs.KeptLemmas.{IsKept, opens_kept, kept_after, acked_most, may_call, who_inside}
 use Rattle.chip_diffusing.proofs.OrderLemmas.{no_parents, settled_up, closed_quiescent}
 use Rattle.chip_log.specs.Log.{steps_of, is_out, is_in, count_steps, sends, gets, count_rows, outs, ins, active_after}
-use Rattle.chip_log.specs.Log.{begins_active, is_enabled, AreEnabled, IsInterleaving}
+use Rattle.chip_log.specs.Log.{begins_active, AreEnabled, IsInterleaving}
 use Rattle.chip_log.specs.Books.{IsOf}
 use Rattle.chip_log.specs.Claims.{basic, IsQuiescentAfter, IsRight}
 use Rattle.chip_log.specs.Judged.{control, is_over}
@@ -31,7 +31,7 @@ use Rattle.chip_log.specs.Past.{Fits, FitsRow}
 use Rattle.chip_log.specs.declared.row.LogRow.{LogRow}
 use Rattle.chip_log.specs.declared.row.Stream.{Stream}
 use Rattle.chip_log.specs.declared.row.Step.{Step}
-use Rattle.chip_log.specs.declared.row.Step.TheVariants.{Out, In, Passive, Active, Over}
+use Rattle.chip_log.specs.declared.row.Step.TheVariants.{Out, In, Over}
 use Rattle.chip_log.specs.declared.judged.LogEnd.TheVariants as end
 use Rattle.chip_log.specs.declared.verdict.Verdict.TheVariants as verdict
 use Rattle.chip_log.proofs.CountLemmas.{all_own, count-append, rows-append, steps_of-append, active_after-append, steps_own}

@@ -23,15 +23,15 @@ use Rattle.chip_agree.specs.Reported.{IsReported, EndsByNumber, AgreeOnAll, Agre
 abbrev pub row : ℕ → Step → LogRow
 row p step = record { process = p; step = step }
 
--- what process 0 logs with one row of process 1, which is passive and tells
+-- process 0 begins active, becomes passive and claims; process 1 tells
 abbrev pub in_order : List LogRow
 in_order = row 0 Active ∷ row 1 (Out (control 1)) ∷ row 0 Passive ∷ row 0 Over ∷ []
 
--- in another order
+-- the same, with the row of process 1 first
 abbrev pub mixed : List LogRow
 mixed = row 1 (Out (control 1)) ∷ row 0 Active ∷ row 0 Passive ∷ row 0 Over ∷ []
 
--- and if process 0 claims before it is passive
+-- process 0 claims before it becomes passive
 abbrev pub swapped : List LogRow
 swapped = row 0 Active ∷ row 1 (Out (control 1)) ∷ row 0 Over ∷ row 0 Passive ∷ []
 
@@ -39,7 +39,8 @@ swapped = row 0 Active ∷ row 1 (Out (control 1)) ∷ row 0 Over ∷ row 0 Pass
 abbrev pub MeansLog : List ℕ → List LogRow → Type 0
 MeansLog text log = log_of_text standard text ≡ Some (log, record { processes = 2; channels = 2 })
 
--- texts of the first two mean the same, and one of the third does not; and the ends that the log decides
+-- texts of the first two mean the same, and one of the third does not; the log decides a report and stuck rows, and not
+-- a failed read
 pub record WorkedLogs : Type 0 where
   pub same : (one two : List ℕ) → MeansLog one in_order → MeansLog two mixed → MeanSame standard one two
   pub not_same : (one two : List ℕ) → MeansLog one in_order → MeansLog two swapped → MeanSame standard one two → ⊥
@@ -47,14 +48,14 @@ pub record WorkedLogs : Type 0 where
   pub stuck : is_of_log (Err (Stuck 1 2)) ≡ true
   pub failed : is_of_log (Err (File Read)) ≡ false
 
--- fault 10 has its number, and a failed read may come instead; a report is no such end
+-- a refusal has its number, and a failed read may come in its place, but no report
 pub record WorkedEnds : Type 0 where
   pub refused : EndsByNumber 10 (Err (Game Total))
   pub failed : EndsByNumber 10 (Err (File Read))
   pub other : EndsByNumber 11 (Err (Game Total)) → ⊥
   pub report : (ended : Ended) → EndsByNumber 10 (Ok ended) → ⊥
 
--- what is reported of the triangle with four chips on vertex 0
+-- only this outcome is reported of the triangle with four chips on vertex 0
 abbrev pub WorkedOutcome : Type 0
 WorkedOutcome = (o : Outcome) → IsReported (triangle_within 2) o
     → (o.fired.items ≡ 2 ∷ 1 ∷ 0 ∷ []) × (o.chips.items ≡ 1 ∷ 0 ∷ 3 ∷ [])
@@ -63,7 +64,7 @@ WorkedOutcome = (o : Outcome) → IsReported (triangle_within 2) o
 abbrev pub one_drop : List Told
 one_drop = ((0, 1), record { size = 1; extent = 1; lost = 1 }) ∷ []
 
--- all that `avalanches` may write of one chip on vertex 0 of this game, and its status
+-- whatever texts mean this game and one chip on vertex 0, `avalanches` writes this text and has this status
 abbrev pub Writes : ChipGame → List ℕ → ℕ → Type 0
 Writes g text status = (limits : SizeLimits) (graph_text chips_text drops_text rows : List ℕ) (ended : Ended)
     → MeansGame limits graph_text chips_text g.limit g
@@ -72,7 +73,8 @@ Writes g text status = (limits : SizeLimits) (graph_text chips_text drops_text r
     (record { rows = Some []; report = None }) (record { rows = Some rows; report = None }) (Ok ended)
     → (rows ≡ text) × (ended.status ≡ status)
 
--- a call that makes the drop agrees with its row, and one that the limit stops with none; neither agrees on other drops
+-- a call that makes this drop agrees on its row, and one that the limit stops agrees on none; neither agrees if the
+-- drop is on another vertex, or if the limit stops a later one
 pub record WorkedDrops : Type 0 where
   pub made : (g : ChipGame) (chips : List ℕ) → AgreeOnAll g (0 ∷ []) (1 ∷ []) chips one_drop
       → Writes g (codes "vertex,chips,size,extent,lost\n0,1,1,1,1\n") 0

@@ -38,14 +38,15 @@ early =
     log_row 1 Active ∷ log_row 1 (Out (basic 0)) ∷ log_row 1 Passive ∷ log_row 1 Over ∷ log_row 0 (In (basic 0))
     ∷ log_row 0 Passive ∷ []
 
--- the first are judged right, and the others are not
+-- the rows of the run are judged right, and the early claim is not
 abbrev pub OneIsJudgedRight : Type 0
 OneIsJudgedRight = AreJudgedRight pair mixed × (AreJudgedRight pair early → ⊥)
 
--- all steps stay but this one of this process; and no control message is told
+-- all steps stay but step i of one process
 abbrev pub all_but : ℕ → ℕ → ℕ → ℕ → Bool
 all_but missing i p n = not (p == missing && n == i)
 
+-- no control message is told
 abbrev pub none_told : Stream → ℕ → Bool
 none_told s n = not s.is_control
 

@@ -12,8 +12,8 @@ narrow = record {
   edges = record { tail = 0; head = 1; mult = 2 } ∷ record { tail = 1; head = 2; mult = 1 } ∷ [];
 }
 
--- with 4 chips a vertex of the triangle at distance 2 would fire 8 times at most, since no in-degree is above the degree.
--- On the other graph one is, and 4 + 2 * 4 is the bound
+-- with 4 chips, at distance 2: on the triangle no in-degree is above the degree, and the bound is 4 * 2; on the other
+-- graph it is 4 + 2 * 4
 pub record WorkedBounds : Type 0 where
   pub few : has_few_in triangle ≡ true
   pub by_distance : fires_at_distance triangle 4 2 ≡ 8

@@ -121,7 +121,10 @@ impl Ends {
             (self.new.stopped.items ≡ self.old.stopped.items ++ length outcome.over.items ∷ []) }
     {
         let Outcome {
-            fired, chips, over, ..
+            fired,
+            chips,
+            over,
+            ..
         } = outcome;
         append(&mut self.chips, chips)?;
         append(&mut self.fired, fired)?;

@@ -40,6 +40,16 @@ def stepped(graph, chips, drops, limit=2**40):
     return rows, report
 
 
+def interrupted_after(call):
+    """A call that makes another one, and then is interrupted."""
+
+    def made(*words):
+        call(*words)
+        raise KeyboardInterrupt
+
+    return made
+
+
 def dropped(pile, drops):
     """The rows of drops, one call for each."""
     return [tuple(pile.drop(*drop)) for drop in drops]
@@ -106,6 +116,22 @@ class Rows(unittest.TestCase):
             self.assertEqual(pile.report, before)
         with self.assertRaisesRegex(chipfire.Fault, "fault 8"):
             chipfire.Pile(chipfire.Graph(3, 2, [(0, 1), (1, 0)]))
+
+    def test_a_vertex_and_an_amount_in_any_form(self):
+        """A number of NumPy is one; the vertex is named, or the square of one; it may be the sink, and the amount 0."""
+        grid, named = chipfire.grid(4, 4), chipfire.Graph(3, 2, TRIANGLE.edges, names=("a", 1, "sink"))
+        numbers = [6, 6.0] + [has("numpy") and __import__("numpy").int64(6)] * has("numpy")
+        for graph, forms in [(grid, [*numbers[::2], (1, 2)]), (grid, [16]), (grid, [1, True]), (named, ["a"]), (named, [1])]:
+            at = graph.number(forms[0])
+            for vertex, amount in itertools.product(forms, [*numbers, 0]):
+                pile = chipfire.Pile(graph, 1)
+                start = [*pile.chips]
+                self.assertEqual(dropped(pile, [(vertex, amount)]), stepped(graph, start, [(at, int(amount))])[0])
+        pile = chipfire.Pile(named)
+        for vertex in (0, 2, "b", chipfire.plain(named, [4, 0, 0]).graph.sink, None, []):
+            with self.assertRaises((KeyError, TypeError)):
+                pile.drop(vertex)
+        self.assertEqual(pile.report, chipfire.Pile(named).report)
 
     def test_loops(self):
         graph = chipfire.Graph(3, 2, TRIANGLE.edges, loops=[3, 0, 0])
@@ -179,13 +205,16 @@ class Rows(unittest.TestCase):
         """The interrupt comes after the library's call, or while what was made is noted or put in order."""
         grid, limits = chipfire.grid(6, 6), (2**40, 3)
         one, many = (lambda pile: pile.drop(8, 2)), (lambda pile: pile.drops([8, 3, 8], fired=has("numpy")))
-        places = [(one, "backend.kept.KeptPile.note"), (one, "ensembles.pile.Pile._add"),
-                  (many, "backend.kept.KeptPile.note"), (many, "ensembles.pile.Pile._add_all"), (many, "ensembles.pile.Drops")]
-        places += [(many, "ensembles.drops.firings")] * has("numpy")
-        for (drop, place), limit in itertools.product(places, limits):
+        told = mock.PropertyMock(side_effect=KeyboardInterrupt)
+        patches = [(one, lambda pile: mock.patch.object(pile._kept, "_call_drop", interrupted_after(pile._kept._call_drop))),
+                   (one, lambda _: mock.patch.object(kept.KeptPile, "told", told))]
+        places = ["backend.kept.KeptPile.note", "ensembles.pile.Pile._add_all", "ensembles.pile.Drops"]
+        places += ["ensembles.drops.firings"] * has("numpy")
+        patches += [(many, lambda _, it=it: mock.patch(f"chipfire.{it}", side_effect=KeyboardInterrupt)) for it in places]
+        for (drop, patch), limit in itertools.product(patches, limits):
             pile, other = chipfire.Pile(grid, 3, limit), chipfire.Pile(grid, 3, limit)
             pile.drop(7), other.drop(7)
-            with mock.patch(f"chipfire.{place}", side_effect=KeyboardInterrupt), self.assertRaises(KeyboardInterrupt):
+            with patch(pile), self.assertRaises(KeyboardInterrupt):
                 drop(pile)
             for it in (pile, copy.copy(pile)):
                 self.assertEqual((it.report, it.is_stopped, repr(it)), (other.report, False, repr(other)))
@@ -295,7 +324,7 @@ class Threads(unittest.TestCase):
     def test_any_thread_closes_or_collects(self):
         for end in (chipfire.Pile.close, lambda pile: pile.__dict__.clear()):
             pile = chipfire.Pile(TRIANGLE, 3)
-            free = pile._kept.free
+            free = pile._kept.finalizer
             pile.circle = [pile]
             self.assertTrue(free.alive)
             holder = [pile]
@@ -303,7 +332,7 @@ class Threads(unittest.TestCase):
             self.on_threads([lambda: (end(holder.pop()), gc.collect())])
             self.assertFalse(free.alive)
         piles = [chipfire.Pile(TRIANGLE, 3) for _ in range(50)]
-        frees = [pile._kept.free for pile in piles]
+        frees = [pile._kept.finalizer for pile in piles]
         for pile in piles:
             pile.circle = pile
         del pile, piles

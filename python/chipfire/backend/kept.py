@@ -6,6 +6,7 @@ import contextlib
 import ctypes
 import operator
 import os
+import struct
 import threading
 import time
 import weakref
@@ -29,6 +30,9 @@ STOPPED, NO_MEMORY = 13, 90
 
 #: How many bytes a pile may take that a graph keeps between calls.
 _MOST_BYTES = 2**26
+
+#: Reads the first three numbers of some memory.
+_three_of = struct.Struct("3Q").unpack_from
 
 _NO_NUMBERS = array("Q")
 _NO_ROOM = (_NO_NUMBERS, _NO_NUMBERS, _NO_NUMBERS)
@@ -99,8 +103,14 @@ class KeptPile:
         self._told = (ctypes.c_uint64 * 4)()
         at = ctypes.addressof(self._told)
         self._words = [at + 8 * it for it in range(4)]
+        self._call_drop = found.chipfire_pile_drop
+        #: What that takes, made once: the pile, vertex and amount, and where to write the drop's numbers.
+        self._vertex, self._amount = ctypes.c_uint64(), ctypes.c_uint64()
+        pile, *to = (ctypes.c_void_p(it) for it in (self._at, *self._words[:3]))
+        self._of_drop = (pile, self._vertex, self._amount, *to)
         self._process = os.getpid()
-        self._is_left = False
+        #: Whether it is neither freed nor left to a thread.
+        self.is_there = True
         # (the graph may keep the pile)
         self._graph = weakref.ref(graph)
         self.vertices = graph.vertices
@@ -119,14 +129,19 @@ class KeptPile:
         number = found.chipfire_pile_new(self._at, *ends, *edges, limit, *of_chips, self._words[3])
         if number:
             raise refused(number, self._told[3], graph)
-        self.free = weakref.finalize(self, _free, found, self._struct, self._process)
+        self.finalizer = weakref.finalize(self, _free, found, self._struct, self._process)
         # (a thread may be in a call when the process ends, and then its memory goes anyway)
-        self.free.atexit = False
+        self.finalizer.atexit = False
 
     @property
     def is_own(self) -> bool:
-        """Whether this process made it, and has neither freed it nor left it to a thread."""
-        return self.free.alive and self._process == os.getpid() and not self._is_left
+        """Whether this process made it, and it is there."""
+        return self.is_there and self._process == os.getpid()
+
+    def free(self) -> None:
+        """Gives the memory back."""
+        self.is_there = False
+        self.finalizer()
 
     @property
     def size(self) -> int:
@@ -190,14 +205,12 @@ class KeptPile:
         """Makes a drop, after which `told` has its numbers."""
         if amount > self.light:
             return self.pour(vertex, amount)[0]
-        number = self._dropped(vertex, amount)
-        is_again = number == STOPPED and self.is_before(vertex, amount)
-        return self._dropped(vertex, amount) if is_again else number
-
-    def _dropped(self, vertex: int, amount: int) -> int:
+        self._vertex.value, self._amount.value = vertex, amount
         begun = time.monotonic()
-        number = int(self._found.chipfire_pile_drop(self._at, vertex, amount, *self._words[:3]))
-        self.note(1, time.monotonic() - begun)
+        number: int = self._call_drop(*self._of_drop)
+        self.light = self._few if time.monotonic() - begun <= PORTION else 0
+        if number == STOPPED and self.is_before(vertex, amount):
+            return self.drop(vertex, amount)
         return number
 
     def pour(self, vertex: int, amount: int) -> tuple[int, Sequence[int]]:
@@ -248,7 +261,7 @@ class KeptPile:
     @property
     def told(self) -> tuple[int, int, int]:
         """The size, the area and the loss of the last drop."""
-        size, extent, lost = self._told[:3]
+        size, extent, lost = _three_of(self._told)
         return size, extent, lost
 
     def measure(
@@ -298,8 +311,8 @@ class KeptPile:
         try:
             return apart(work, lambda: self.between(self))
         except BaseException:
-            self._is_left = True
-            self._is_left = not is_over.wait(GRACE)
+            self.is_there = False
+            self.is_there = is_over.wait(GRACE)
             raise
 
     def draw(self, seed: int, first: int, chips: array[int]) -> tuple[int, int]:

@@ -236,7 +236,6 @@ def _declare_piles(found: ctypes.CDLL) -> None:
         (found.chipfire_pile_new, (_NUMBER, _NUMBER, *3 * _SLICE, _NUMBER, *_SLICE, number_at)),
         (found.chipfire_pile_put, (_NUMBER, *_SLICE)),
         (found.chipfire_pile_play, (_NUMBER, number_at)),
-        (found.chipfire_pile_drop, (_NUMBER, _NUMBER, number_at, number_at, number_at)),
         (found.chipfire_pile_measure, (*2 * _SLICE, _NUMBER, *8 * _SLICE, number_at)),
         (
             found.chipfire_pile_random_recurrent,
@@ -249,6 +248,8 @@ def _declare_piles(found: ctypes.CDLL) -> None:
     for call, words in calls:
         call.restype = _NUMBER
         call.argtypes = [pile, *words]
+    # (it takes values of these types, which are made once: to convert numbers takes as long as a short drop)
+    found.chipfire_pile_drop.restype = _NUMBER
     found.chipfire_pile_free.restype = None
     found.chipfire_pile_free.argtypes = [pile]
 

@@ -109,6 +109,9 @@ class Pile:
         """The state of a pile of which nothing is known but its chips and its limit."""
         self._lock = threading.Lock()
         self._process = os.getpid()
+        names = self.graph.names
+        #: The vertices whose names are their numbers.
+        self._numbered = names if isinstance(names, range) else range(0)
         #: The chips at the start with all that were dropped, and the limit: all else follows from these.
         self._game = (start, limit)
         self._is_closed = False
@@ -164,11 +167,17 @@ class Pile:
 
     def drop(self, vertex: Hashable, amount: int = 1) -> Drop:
         """Drops chips on a vertex, and plays on to the end."""
-        at = self.graph.number(vertex)
-        amount = as_int(amount, "the number of chips")
+        # (a call for what is an int of a range takes longer than to see that)
+        is_number = type(vertex) is int and vertex in self._numbered
+        at: Any = vertex if is_number else self.graph.number(vertex)
+        if type(amount) is not int or amount < 0:
+            amount = as_int(amount, "the number of chips")
         with self._own_lock():
-            self._refuse_closed()
-            pile = self._before([amount])
+            pile = self._kept
+            is_ready = pile is not None and pile.is_there and not self._is_stopped
+            if not is_ready or self._total + amount > MAX_CHIPS:
+                self._refuse_closed()
+                pile = self._before([amount])
             if pile:
                 return self._one_by_library(pile, at, amount)
             found = self._by_program(array("Q", [at]), array("Q", [amount]))
@@ -255,9 +264,10 @@ class Pile:
 
     def _ready(self, old: kept.KeptPile | None = None) -> kept.KeptPile | None:
         """The library's pile, played to the end. None if the program plays; then chips and counts are known."""
-        if self._kept is not None and not self._kept.is_own:
-            self._kept = None
-        if self._kept is None and self._end is None:
+        if self._kept is not None and self._kept.is_there:
+            return self._kept
+        self._kept = None
+        if self._end is None:
             start, limit = self._game
             self._kept = self._played(start, limit, old)
             if self._kept is None:
@@ -346,18 +356,23 @@ class Pile:
 
     def _one_by_library(self, pile: kept.KeptPile, at: int, amount: int) -> Drop:
         """A drop on the library's pile."""
-        there, total = self._game[0][at], self._total
+        start, total = self._game[0], self._total
+        there = start[at]
         try:
-            self._is_stopped = self._stops(pile.drop(at, amount))
-            self._add(at, amount)
+            number = pile.drop(at, amount)
+            if number:
+                self._is_stopped = self._stops(number)
+            start[at] = there + amount
+            self._total = total + amount
+            found = Drop._make(pile.told)
         except BaseException:
-            self._game[0][at], self._total, self._is_stopped = there, total, False
+            start[at], self._total, self._is_stopped = there, total, False
             if pile.is_own and sum(pile.chips()) != total:
                 pile.free()  # (the drop was made: all is played again without it)
             raise
         if self._is_stopped:
             raise refused(kept.STOPPED, 0, self.graph)
-        return Drop._make(pile.told)
+        return found
 
     def _by_library(
         self,

@@ -78,6 +78,17 @@ class Recurrent(unittest.TestCase):
         self.assertEqual((chipfire.are_recurrent(grid, many), len({*many})), ([True] * 40, 40))
         self.assertEqual(chipfire.random_recurrent(chipfire.Graph(1, 0, []), 1), {})
 
+    def test_what_is_drawn_is_like_any_configuration(self):
+        """Its numbers are ints in a tuple, 0 for the sink, with the chips of loops."""
+        looped = chipfire.Graph(3, 2, TRIANGLE.edges, loops=[3, 1, 0])
+        for graph in (chipfire.grid(4, 3), looped, MULTIGRAPH, LOSSY):
+            drawn = [chipfire.random_recurrent(graph, 5), *chipfire.random_recurrent(graph, 5, 9)]
+            for one in drawn:
+                same = chipfire.Configuration(graph, [*one.numbers])
+                self.assertEqual((one, hash(one), one.numbers, repr(one)), (same, hash(same), same.numbers, repr(same)))
+                self.assertEqual((type(one.numbers), {*map(type, one.numbers)}, one.numbers[graph.sink]), (tuple, {int}, 0))
+                self.assertTrue(one.is_recurrent() and one.is_stable() and pickle.loads(pickle.dumps(one)) == one)
+
     @unittest.skipUnless(IS_HERE, "the library is not here")
     def test_python_draws_what_the_library_draws(self):
         heavy = chipfire.Graph.undirected([(1, 0, 200), (1, 2, 3), (2, 0), (2, 3), (3, 0, 77)], 0)

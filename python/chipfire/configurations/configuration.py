@@ -165,6 +165,13 @@ class Configuration(Drawn, Sums):
     graph: Graph
 
     @classmethod
+    def of_array(cls, graph: Graph, chips: array[int]) -> Configuration:
+        """The configuration with a whole number for each vertex, 0 for the sink, which nobody has to read one by one."""
+        found = cls.__new__(cls)
+        found.graph, found.numbers = graph, as_tuple(chips)
+        return found
+
+    @classmethod
     def _numbers(cls, graph: Graph, chips: Chips) -> tuple[int, ...]:
         found = graph.column(chips)
         if graph.sink < graph.vertices:

@@ -104,17 +104,23 @@ def random_recurrent(
     known = known_graph(graph)
     n = 1 if count is None else as_int(count, "the number of configurations")
     require_memory(8 * n * known.vertices, f"{n:,} configurations")
-    chips, width = array("Q"), known.vertices
+    found: list[Configuration] = []
     try:
         with Progress(progress, n, "configurations") as shown:
             for part in _parts(known, seed, n, progress=shown):
-                chips.extend(part)
+                found += _configurations(known, part)
     except KeyboardInterrupt:
         if not partial or count is None:
             raise
-    chips = known.with_loops(chips)
-    found = [Configuration(known, chips[it : it + width]) for it in range(0, len(chips), width)]
     return found[0] if count is None else found
+
+
+def _configurations(graph: Graph, rows: array[int]) -> Iterator[Configuration]:
+    """The configurations with these chips, one row after another, without those of the graph's loops."""
+    chips, width = graph.with_loops(rows) if graph.loops else rows, graph.vertices
+    for start in range(0, len(chips), width):
+        row = chips if len(chips) == width else chips[start : start + width]
+        yield Configuration.of_array(graph, row)
 
 
 def recurrent_rows(graph: Graph, seed: Any, n: int, first: int = 0) -> array[int]:

@@ -27,7 +27,7 @@ from unittest import mock
 import chipfire
 from chipfire.backend import interrupts
 from chipfire.backend.interrupts import Interrupts
-from chipfire.ensembles import firings, player, spread
+from chipfire.ensembles import firings, player, spread, wilson
 from chipfire.ensembles.checkpoint import Checkpoint
 from chipfire.progress import Progress
 from test_drops import slow_rows
@@ -85,7 +85,8 @@ def left_by(chain, made):
 def check(found):
     for chain, made in enumerate(map(int, found.made)):
         assert [*found.size[chain]] == [*whole.size[chain]][:made] + [0] * (DROPS - made)
-        assert [*found.chips[chain]] == left_by(chain, made)
+        chips = [*found.chips[chain]]
+        assert chips == left_by(chain, made) or not (made or any(chips))
     if has_numpy:
         lengths = found.fired.offsets[1:] - found.fired.offsets[:-1]
         assert (lengths == found.extent.ravel()).all()
@@ -139,6 +140,21 @@ def interrupted_once(function):
         return function(*arguments)
 
     return call
+
+
+class Turns(concurrent.futures.Executor):
+    """Makes each call when it gets it; there is an interrupt in place of the one with this number."""
+
+    def __init__(self, number):
+        self.left = number
+
+    def submit(self, call, *arguments):
+        self.left -= 1
+        if self.left == 0:
+            raise KeyboardInterrupt
+        future = concurrent.futures.Future()
+        future.set_result(call(*arguments))
+        return future
 
 
 class Signals(unittest.TestCase):
@@ -663,15 +679,39 @@ class Long(unittest.TestCase):
             with mock.patch.object(player._Player, "play", lambda player: None):
                 found = plays(workers=1, progress=stop, partial=True, **options)
                 self.assertEqual(([*map(int, found.made)], [it.tolist() for it in found.chips]), ([0] * 7, rows))
+            rows = rows if options else [[0] * len(GRID.degrees())] * 7
             with mock.patch.object(spread, "begin", interrupted_once(spread.begin)):
                 found = plays(workers=1, partial=True, **options)
                 self.assertEqual([it.tolist() for it in found.chips], rows)
-                with mock.patch.object(spread, "GRACE", 0), mock.patch.object(spread, "begin", interrupted_once(spread.begin)):
-                    self.assertRaises(KeyboardInterrupt, plays, workers=1, partial=True, **options)
             with concurrent.futures.ThreadPoolExecutor(1) as executor, mock.patch.object(spread, "_OF_EXECUTOR", 2):
                 found = plays(executor=executor, progress=stop, partial=True, **options)
                 for made, chips, start in zip(found.made, found.chips, rows):
                     self.assertTrue(made or chips.tolist() == start)
+
+    def test_no_start_is_drawn_after_an_interrupt(self):
+        """It comes in place of the third chain. A later call plays the others, as if it had not come."""
+        drawn = []
+
+        def draws(graph, seed, n, first):
+            drawn.extend(range(first, first + n))
+            return wilson.recurrent_rows(graph, seed, n, first)
+
+        whole = plays()
+        rows = [*whole.chips][:2] + [array("q", bytes(8 * GRID.vertices))] * 5
+        with tempfile.TemporaryDirectory() as folder, mock.patch.object(player, "recurrent_rows", draws):
+            file = {"checkpoint": f"{folder}/chains.sqlite"}
+            for options in ({}, {"collect": "histogram"}, file):
+                drawn.clear()
+                found = plays(executor=Turns(3), partial=True, **options)
+                self.assertEqual(([*map(int, found.made)], drawn), ([40] * 2 + [0] * 5, [0, 1]))
+                self.assertEqual([it.tolist() for it in found.chips], [it.tolist() for it in rows])
+            # (of what the file has nothing is drawn, neither here nor by threads)
+            drawn.clear()
+            found = plays(executor=Turns(1), partial=True, **file)
+            self.assertEqual(([*map(int, found.made)], drawn), ([40] * 2 + [0] * 5, []))
+            for options in ({"executor": Turns(2), "partial": True}, {"executor": Turns(-1)}, {}):
+                found = plays(**options, **file)
+            self.assertEqual((numbers(found), drawn), (numbers(whole), [2, 3, 4, 5, 6]))
 
     def test_a_signal_stops_a_long_call_and_keeps_what_was_made(self):
         script = [

@@ -339,8 +339,8 @@ def chains(
         Whether an interrupt returns what was made until then, in place of KeyboardInterrupt. Both come within about a
         second. A long drop, and others of the same call of the library, are missing if they have not ended by then: a
         thread finishes them, and their results are discarded. Chains that had not begun have the chips of their starts,
-        without a burn-in; if drawing them takes longer and no drop was made, the interrupt is raised. So is a second
-        one.
+        without a burn-in, or 0 chips beside those of loops if their starts had not been drawn. A second interrupt is
+        raised.
 
     Returns
     -------

@@ -9,7 +9,6 @@ from concurrent.futures import Executor, Future
 from typing import Any
 
 from chipfire.backend.interrupts import GRACE, Interrupts, Threads, WAIT
-from chipfire.backend.portions import Portions
 from chipfire.ensembles.checkpoint import Checkpoint
 from chipfire.ensembles.player import AnyTable, begin, Plan, play, played, Table, Watch
 from chipfire.progress import Progress
@@ -70,8 +69,9 @@ class Spread:
             progress.show(self.plan.n * self.plan.drops, is_last=True)
         except KeyboardInterrupt:
             # (after a second one threads may still write into the table)
-            if not partial or self.futures or not self._begins_others():
+            if not partial or self.futures:
                 raise
+            self._begin_given()
 
     def _gaps(self) -> Iterator[Place]:
         """The places of the chains whose chips are not in the table."""
@@ -102,16 +102,10 @@ class Spread:
         begin(self.plan.part(*place), self.table.part(*place))
         self.there.append(place)
 
-    def _begins_others(self) -> bool:
-        """Puts the starts of all other chains into the table; not all of them if that takes long and no drop was made."""
-        end = time.monotonic() + GRACE
-        is_any_made = self.made + self.watch.made > 0
-        for start, stop in [*self._gaps()]:
-            for some in Portions(stop - start):
-                if not is_any_made and time.monotonic() >= end:
-                    return False
-                self._begin((start + some.start, start + some.stop))
-        return True
+    def _begin_given(self) -> None:
+        """Puts the starts of all other chains into the table, if they were given: none are drawn."""
+        for gap in [*self._gaps()] if self.plan.starts is not None else ():
+            self._begin(gap)
 
     def _by_threads(self, calls: Calls, progress: Progress, interrupts: Interrupts) -> None:
         pool = Threads(self.workers)

@@ -259,6 +259,11 @@ class Rows(unittest.TestCase):
             sender.join()
             self.assertEqual(may_end.is_set(), ends_soon)
             self.assertEqual((pile._kept is own(), own().is_own), (ends_soon, ends_soon))
+            if not ends_soon:  # (the next call makes a pile, or the one after it)
+                self.assertIsNone(pile._kept)
+                with mock.patch.object(kept.KeptPile, "put", side_effect=KeyboardInterrupt):
+                    self.assertRaises(KeyboardInterrupt, pile.drop, 8)
+                self.assertIsNone(pile._kept)
             self.assertEqual((pile.report, pile.chips), (other.report, other.chips))
             more = [it.drops([8, 9], durations=True) for it in (pile, other)]
             self.assertEqual((rows_of(more[0]), pile.report), (rows_of(more[1]), other.report))
@@ -267,6 +272,36 @@ class Rows(unittest.TestCase):
                 thread.join(60)
             gc.collect()
             self.assertEqual((own() is not None, pile.report), (ends_soon, other.report))
+
+    @unittest.skipUnless(IS_HERE, "the library is not called")
+    def test_the_limit_counts_what_fired_before_drops_that_are_left(self):
+        grid = chipfire.grid(33, 33)
+
+        def left(work, between):
+            work()
+            raise KeyboardInterrupt
+
+        one, closes = chipfire.Pile(grid, 3), set()
+        one.drop(544)
+        for limit in range(max(one.fired), 3 * max(one.fired), 5):
+            piles = [chipfire.Pile(grid, 3, limit) for _ in range(4)]
+            for pile in piles:
+                pile.drop(544)
+            with mock.patch.object(kept, "apart", left), mock.patch.object(threading, "Event") as event:
+                event.return_value.wait.return_value = False
+                for pile in piles[1:]:
+                    self.assertRaises(KeyboardInterrupt, pile.drops, [544, 3], durations=True)
+                    self.assertIsNone(pile._kept)
+            piles[2].put(3, limit), piles[3].close()
+            self.assertRaisesRegex(ValueError, "closed", piles[3].drop, 3)
+            self.assertEqual(piles[2].report, chipfire.Pile(grid, 3, limit).report)
+            said = []
+            for pile in piles[:2]:
+                found = pile.drops([544] * 5, durations=True)
+                said.append((rows_of(found), pile.report, pile.is_stopped))
+            self.assertEqual(*said)
+            closes.add(said[0][2])
+        self.assertEqual(closes, {False, True})
 
     @unittest.skipUnless(IS_HERE, "the library is not called")
     def test_which_drops_a_thread_makes(self):

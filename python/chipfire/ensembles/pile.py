@@ -120,6 +120,8 @@ class Pile:
     def _forget(self) -> None:
         """Forgets what follows from the game: the library's pile, or the chips and counts at the end."""
         self._kept: kept.KeptPile | None = None
+        #: The chips and counts from which the library's pile goes on, if it is made anew.
+        self._from: tuple[array[int], array[int]] | None = None
         self._end: tuple[Sequence[int], Sequence[int]] | None = None
         self._is_stopped = False
         self._total = sum(self._game[0])
@@ -210,7 +212,8 @@ class Pile:
         """Gives the memory back. The pile cannot be used any more."""
         with self._alone(is_open=False):
             self._is_closed = True
-            pile, self._kept, self._end = self._kept, None, None
+            pile = self._kept
+            self._kept = self._from = self._end = None
             if pile is not None and pile.is_own:
                 self._end_of(pile)
 
@@ -285,10 +288,20 @@ class Pile:
             return None
         own = old if old is not None and old.is_own else None
         if own is None:
+            if self._from:
+                return self._made_from(found, *self._from)
             own = self._made(found, start, limit)
         elif number := own.put(start, limit):
             raise refused(number, 0, self.graph)
         self._is_stopped = self._stops(own.play())
+        return own
+
+    def _made_from(self, found: Any, chips: array[int], fired: array[int]) -> kept.KeptPile:
+        """A pile of the library at the end of a play, with these chips and counts."""
+        own = kept.KeptPile(found, self._free, chips, self._game[1])
+        if number := own.put(chips, None, fired):
+            raise refused(number, 0, self.graph)
+        self._from = None
         return own
 
     def _made(self, found: Any, start: array[int], limit: int) -> kept.KeptPile:
@@ -384,7 +397,7 @@ class Pile:
     ) -> Drops:
         """Drops on the library's pile."""
         measured = Measured(self.graph, len(at), fired, durations)
-        before = pile.chips(), None, pile.fired()
+        before = pile.chips(), pile.fired()
         game, total = self._game, self._total
         try:
             measured.play(pile, at, amounts)
@@ -395,10 +408,12 @@ class Pile:
             return found
         except BaseException:
             self._game, self._total, self._is_stopped = game, total, False
-            if not pile.is_own:
-                # (a thread ends its drop)
-                self._kept = pile = kept.KeptPile(library.loaded(), self._free, before[0], game[1])
-            pile.put(*before)
+            if pile.is_own:
+                chips, counts = before
+                pile.put(chips, None, counts)
+            else:
+                # (a thread ends its drop; to make another pile takes long, and so the next call does that)
+                self._kept, self._from = None, before
             raise
 
     def _by_program(self, at: array[int], amounts: array[int]) -> Drops:

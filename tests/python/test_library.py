@@ -5,6 +5,7 @@ the tests of arrays are skipped.
 """
 import contextlib
 import dataclasses
+import inspect
 import io
 import itertools
 import os
@@ -44,6 +45,17 @@ def configurations(graph, more):
 
 def zeros(length):
     return array("Q", bytes(8 * length))
+
+
+def clock(process):
+    """The seconds of a clock that stands still while the main thread of a process could run and has no processor."""
+    waited = 0
+    try:
+        with open(f"/proc/{process}/schedstat", encoding="ascii") as file:
+            waited = int(file.read().split()[1])
+    except OSError:  # (which not every system has)
+        pass
+    return time.monotonic() - waited / 1e9
 
 
 def kinds():
@@ -398,9 +410,9 @@ class Ways(WithFolder):
                 library.stabilize_all(TRIANGLE, zeros(3), zeros(3), zeros(1))
 
     def test_an_interrupt_ends_what_is_long(self):
-        begins = ("import chipfire, signal, time\nsignal.signal(signal.SIGINT, signal.default_int_handler)\n"
+        begins = (f"import chipfire, signal, time\n{inspect.getsource(clock)}signal.signal(signal.SIGINT, signal.default_int_handler)\n"
                   "grid = chipfire.grid(60, 60)\nlarge = chipfire.grid(511, 511)\ntry:\n    print('begun', flush=True)\n")
-        catches = "\nexcept KeyboardInterrupt:\n    print(time.monotonic())\n    raise"
+        catches = "\nexcept KeyboardInterrupt:\n    print(clock('self'))\n    raise"
         for call in (
             "chipfire.stabilize_many(grid, (9 for _ in range(10**5)))", "chipfire.plain(large, 4)",
             "chipfire.drops(grid, grid.max_stable(), [1800] * 10**7)", "chipfire.plain(large, 4, guess=10**9)",
@@ -420,10 +432,12 @@ class Ways(WithFolder):
                 pipes = {"stdout": subprocess.PIPE, "stderr": subprocess.PIPE, "encoding": "utf-8"}
                 with subprocess.Popen(words, **pipes) as python:
                     python.stdout.readline()
-                    time.sleep(1)
-                    sent = time.monotonic()
+                    begun = clock(python.pid)
+                    while clock(python.pid) - begun < 1:
+                        time.sleep(0.05)
+                    sent = clock(python.pid)
                     python.send_signal(signal.SIGINT)
-                    seen, errors = python.communicate(timeout=30)
+                    seen, errors = python.communicate(timeout=150)
                 self.assertRegex(errors, "KeyboardInterrupt")
                 # (half a second on a machine that has nothing else to do)
                 self.assertLess(float(seen) - sent, 5)

@@ -322,9 +322,10 @@ end_there at amounts m measures i inside any =
 pub row_lengths : (p : Pile) → IsPile p
     → (length (row_vertices p) ≡ p.room.row) × (length (row_times p) ≡ p.room.row) × (p.room.row ≤ p.game.graph.vertices)
 row_lengths p is =
-    let row = is.room.row in
-    let support_each = is.room.support_each in
-    let list_room = is.room.list_room in
+    let room = is.room.room in
+    let row = room.row in
+    let support_each = room.support_each in
+    let list_room = room.list_room in
     (length-take-le p.room.row p.room.support.items (omega arith), length-take-le p.room.row p.room.list.items (omega arith), row)
 
 -- one more row

@@ -25,7 +25,7 @@ MADE = ("target", "dist", "out", "release")
 #: Where it is said what threads cost.
 THREADS = ("docs/BENCHMARKS.md", "docs/NET.md", "crates/chip_arguments/src/commands.rt")
 #: What a page of examples/ says that goes into packages, where docs/ does not.
-NOT_PACKED = "Packages do not have the pages of"
+NOT_PACKED = "Installed packages do not include"
 
 
 @functools.cache

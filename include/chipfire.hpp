@@ -1,9 +1,9 @@
-/* libchipfire for C++17: what chipfire.h declares, with memory that is owned, and exceptions in place of statuses.
+/* libchipfire for C++17: what chipfire.h declares, with objects that own their memory, and exceptions in place of statuses.
  *
  *     chipfire::Graph path(4, 3);                     4 vertices, and vertex 3 is the sink
  *     path.add(0, 3); path.add(0, 1); ..              its edges
  *     auto games = chipfire::stabilize_all(path, {0, 5, 0, 0});
- *     chipfire::Pile pile(path, {0, 5, 0, 0});        a game that is kept, on which chips are dropped
+ *     chipfire::Pile pile(path, {0, 5, 0, 0});        a game that is kept, and on which chips are dropped
  *     auto fell = pile.drop(1);
  *     chipfire::Books books(ins, outs);               the counters of a process (docs/tasks/detect-your-own.md)
  *
@@ -35,10 +35,10 @@ namespace chipfire {
 /// The largest number of firings of a vertex, and of chips in a game.
 constexpr std::uint64_t max_limit = std::uint64_t{1} << 40;
 
-/// The fault of a process that sends while it is passive, as of `chipfire judge`.
+/// Fault 32, as in `chipfire judge`: a process sends while it is passive.
 constexpr std::uint64_t fault_passive = 32;
 
-/// A fault: its number, its place (chipfire.h says of what), and its text.
+/// A fault: its number, its place (which chipfire.h explains), and its text.
 class Error : public std::runtime_error {
 public:
     Error(std::uint64_t fault, std::uint64_t place, const std::string &text)
@@ -61,7 +61,8 @@ private:
     std::uint64_t fault_, place_;
 };
 
-/// Numbers that a call reads: a view of a vector, an array, a list, or memory of the caller, which stays there meanwhile.
+/// Numbers that a call reads: a view of a vector, an array, a list, or the caller's memory. They must stay there until the
+/// call returns.
 class Numbers {
 public:
     Numbers() = default;
@@ -80,7 +81,7 @@ private:
     std::size_t size_ = 0;
 };
 
-/// Numbers that a call may write: a view of the same, but of no list.
+/// Numbers that a call may write: a view of a vector, an array, or the caller's memory.
 class Room {
 public:
     Room(std::uint64_t *data, std::size_t size) : data_(data), size_(size) {}
@@ -97,7 +98,7 @@ private:
     std::size_t size_;
 };
 
-/// A graph: its vertices, its sink, and its edges. Calls that take it say what is wrong with it.
+/// A graph: its vertices, its sink, and its edges. Nothing is checked here: calls that take the graph throw its faults.
 class Graph {
 public:
     Graph(std::uint64_t vertices, std::uint64_t sink) : vertices_(vertices), sink_(sink) {}
@@ -154,14 +155,14 @@ inline std::size_t rows(const Graph &graph, std::size_t numbers)
     return static_cast<std::size_t>(numbers / vertices + (numbers % vertices != 0));
 }
 
-/// A configuration of zeros, unless the graph has too many vertices for one.
+/// A configuration of zeros. Throws fault 1 if the graph has too many vertices.
 inline std::vector<std::uint64_t> zeros(const Graph &graph)
 {
     if (graph.vertices() > std::uint64_t{1} << 21) throw Error(CHIPFIRE_FAULT_VERTICES, 0);
     return std::vector<std::uint64_t>(static_cast<std::size_t>(graph.vertices()));
 }
 
-/// Calls a function of the library that puts another configuration in place of each.
+/// Calls a function of the library that replaces each configuration by another.
 template <class Function>
 std::vector<std::uint64_t> replaced(Function function, const Graph &graph, std::vector<std::uint64_t> chips)
 {
@@ -177,7 +178,8 @@ struct Games {
     std::vector<std::uint64_t> chips, fired, stopped;
 };
 
-/// Avalanches of drops: of each the firings, the vertices that fired, and the chips that reached the sink.
+/// The avalanches of drops: for each drop the number of firings, of vertices that fired, and of chips that firings sent to
+/// the sink.
 struct Drops {
     explicit Drops(std::size_t count) : sizes(count), extents(count), losts(count) {}
 
@@ -189,8 +191,9 @@ struct Drop {
     std::uint64_t size, extent, lost;
 };
 
-/// Avalanches with more measures: the rounds that each lasts, and the vertices that it fires with their firings. Those of a
-/// drop end at its number in `ends`, and begin where those of the drop before end. What is not asked for is empty.
+/// Avalanches with more measures: for each drop the number of rounds that it lasts, and the vertices that fire, each with
+/// its number of firings. In `vertices` and `times`, drop i ends before index ends[i], and begins where the drop before it
+/// ends. A measure that was not asked for is empty.
 struct Measures : Drops {
     explicit Measures(std::size_t count) : Drops(count) {}
 
@@ -202,7 +205,7 @@ struct Burning {
     std::vector<std::uint64_t> script, chips;
 };
 
-/// Fault 13 of drops on a pile: the limit stopped one. It has the rows of the drops before that.
+/// Fault 13 of drops on a pile: the limit stopped a drop. `made` returns the avalanches of the drops before that one.
 class Stopped : public Error {
 public:
     Stopped(std::uint64_t count, Drops made) : Error(CHIPFIRE_FAULT_STOPPED, count), made_(std::move(made)) {}
@@ -232,7 +235,7 @@ inline Games stabilize_all(const Graph &graph, std::vector<std::uint64_t> chips,
     return games;
 }
 
-/// Plays a game in the caller's memory, and drops amounts[i] chips on vertex at[i], one i after another
+/// Plays a game in the caller's memory, and then drops amounts[i] chips on vertex at[i], for each i in order
 /// (chipfire_avalanches).
 inline Drops avalanches(const Graph &graph, Room chips, Numbers at, Numbers amounts, std::uint64_t limit = max_limit)
 {
@@ -263,7 +266,7 @@ inline Burning burning(const Graph &graph)
     return found;
 }
 
-/// Returns 1 for each configuration that is recurrent, and 0 for each other one.
+/// Returns 1 for each configuration that is recurrent, and 0 for every other one.
 inline std::vector<std::uint64_t> are_recurrent(const Graph &graph, Numbers chips)
 {
     std::vector<std::uint64_t> flags(detail::rows(graph, chips.size()));
@@ -271,19 +274,19 @@ inline std::vector<std::uint64_t> are_recurrent(const Graph &graph, Numbers chip
     return flags;
 }
 
-/// Returns the recurrent configuration that is equivalent to each.
+/// Returns, for each configuration, the recurrent configuration equivalent to it.
 inline std::vector<std::uint64_t> recurrent(const Graph &graph, std::vector<std::uint64_t> chips)
 {
     return detail::replaced(chipfire_recurrent, graph, std::move(chips));
 }
 
-/// Returns the superstable configuration that is equivalent to each.
+/// Returns, for each configuration, the superstable configuration equivalent to it.
 inline std::vector<std::uint64_t> superstable(const Graph &graph, std::vector<std::uint64_t> chips)
 {
     return detail::replaced(chipfire_superstable, graph, std::move(chips));
 }
 
-/// Returns the inverse of each in the sandpile group.
+/// Returns the inverse of each configuration in the sandpile group.
 inline std::vector<std::uint64_t> inverse(const Graph &graph, std::vector<std::uint64_t> chips)
 {
     return detail::replaced(chipfire_inverse, graph, std::move(chips));
@@ -297,7 +300,7 @@ inline std::vector<std::uint64_t> identity(const Graph &graph)
     return chips;
 }
 
-/// Draws `count` random recurrent configurations of a seed, one after another, from number `first` on.
+/// Draws `count` random recurrent configurations of a seed, with the numbers `first`, `first + 1`, and so on.
 inline std::vector<std::uint64_t> random_recurrent(const Graph &graph, std::uint64_t seed, std::size_t count = 1,
                                                    std::uint64_t first = 0)
 {
@@ -310,8 +313,8 @@ inline std::vector<std::uint64_t> random_recurrent(const Graph &graph, std::uint
     return chips;
 }
 
-/// A pile that is kept: chips on a graph, on which more are dropped. It owns its memory, and moves. Only one thread may
-/// call at a time. Calls on a pile that was moved from throw fault 14.
+/// A pile: a game that is kept from one call to the next, and on which chips are dropped. It owns its memory, and can be
+/// moved but not copied. Only one thread may call at a time. Calls on a pile that was moved away throw fault 14.
 class Pile {
 public:
     /// Makes a pile. Plays nothing.
@@ -326,13 +329,13 @@ public:
         detail::must(fault, place);
     }
 
-    /// Puts other chips there, with counts 0. Plays nothing.
+    /// Replaces all chips and the limit, and sets all counts to 0. Plays nothing.
     void put(Numbers chips, std::uint64_t limit = max_limit)
     {
         detail::must(chipfire_pile_put(its(), limit, chips.data(), chips.size()));
     }
 
-    /// Plays on by about this number of visits to vertices and edges. Returns whether the play has still to end.
+    /// Plays on for about this number of visits to vertices and edges. Returns true if the play has not ended.
     bool play(std::uint64_t visits = UINT64_MAX)
     {
         std::uint64_t left = 0;
@@ -348,7 +351,7 @@ public:
         return set_off;
     }
 
-    /// Drops amounts[i] chips on vertex at[i], one i after another. If the limit stops a play, that is thrown as Stopped.
+    /// Drops amounts[i] chips on vertex at[i], for each i in order. If the limit stops a play, the call throws Stopped.
     Drops drops(Numbers at, Numbers amounts)
     {
         Drops set_off(at.size());
@@ -364,8 +367,9 @@ public:
         return set_off;
     }
 
-    /// Drops chips as `drops` does, and returns what they fire, and their durations if asked for. Stops after the first
-    /// that loses a chip, if `loses`, or that fires vertices with such marks as chipfire_pile_measure says.
+    /// Drops chips as `drops` does. Returns what each drop fires and, if `timed`, how many rounds it lasts. If `loses`,
+    /// stops after the first drop that loses a chip. With `marks`, stops after the first drop that fires vertices with the
+    /// marks that chipfire_pile_measure describes.
     Measures measure(Numbers at, Numbers amounts, bool timed = false, bool loses = false, Numbers marks = {})
     {
         its();
@@ -382,7 +386,7 @@ public:
         return found;
     }
 
-    /// Draws random recurrent configurations of its graph, as the function of this name does. The pile is unchanged.
+    /// Draws random recurrent configurations of the graph, as the function of this name does. The pile is unchanged.
     std::vector<std::uint64_t> random_recurrent(std::uint64_t seed, std::size_t count = 1, std::uint64_t first = 0)
     {
         std::vector<std::uint64_t> found;
@@ -402,7 +406,7 @@ public:
         return found;
     }
 
-    /// How often each vertex has fired, since the pile was made or chips were put there.
+    /// How often each vertex has fired since the pile was made or `put` was called.
     std::vector<std::uint64_t> fired()
     {
         std::vector<std::uint64_t> found(vertices_);
@@ -410,7 +414,7 @@ public:
         return found;
     }
 
-    /// How many bytes the pile takes.
+    /// The number of bytes in the arrays of the pile (chipfire_pile_size).
     std::uint64_t size() { return chipfire_pile_size(its()); }
 
 private:
@@ -426,8 +430,8 @@ private:
         return (bits & 1) == 1 || (bits & 6) == 6 || (bits & 24) == 24;
     }
 
-    /// Makes the drops from number `made` on that there is room for, up to one after which it stops. Returns the number of
-    /// drops made.
+    /// Makes the drops that there is room for, from number `made` on, up to a drop after which chipfire_pile_measure stops.
+    /// Returns the number of drops made.
     std::size_t measure_more(Numbers at, Numbers amounts, bool loses, Numbers marks, std::size_t made, Measures &found)
     {
         const std::size_t before = found.vertices.size(), room = before + std::max(vertices_, before);
@@ -470,7 +474,8 @@ private:
     std::unique_ptr<chipfire_pile, Free> pile_;
 };
 
-/// How many messages of an edge its head has acknowledged so far: for Books::settled of the edge's tail.
+/// The number of messages of an edge that its head has acknowledged so far. The tail of the edge passes it to
+/// Books::settled.
 struct Acknowledged {
     std::uint64_t edge, count;
 };
@@ -478,21 +483,22 @@ struct Acknowledged {
 /// The books of a process: its counters for the detector of Dijkstra and Scholten. docs/tasks/detect-your-own.md says what
 /// is proved, and which duties the caller has.
 ///
-/// The duties are calls, whose moments matter:
+/// The duties are calls, each to be made at the right moment:
 ///
-///     sent(edge)           before the message can be got
-///     got(edge)            with the message, before it is worked on
-///     add_work(), done()   when more is to be done, and after the work on a message or on what was added
-///     acknowledge()        at any time: the counts go to the tails of their edges
-///     settled(edge, count) at any time, with what acknowledge() of the edge's head returned
-///     is_over()            of the root alone
+///     sent(edge)           before the message can be received
+///     got(edge)            when the message is received, before the work on it begins
+///     add_work()           when there is more work to do
+///     done()               after the work on a message, or after an added piece of work
+///     acknowledge()        at any time: pass each count that it returns to the tail of its edge
+///     settled(edge, count) at any time, with a count that acknowledge() of the edge's head returned
+///     is_over()            only by the root
 ///
-/// Any thread may call. A process works on each message from `got` to `done`, and is passive while it works on nothing. The
-/// root alone begins at work, on one piece, and no edge leads to it. A refusal is thrown as an Error whose place is the
-/// process, and changes nothing: fault 46 for an edge, a count or a piece of work that does not exist, and 32 if the process
-/// sends, or has more to do, while it is passive.
+/// Any thread may call. A process works on each message from `got` to `done`, and is passive while it works on nothing. Only
+/// the root begins at work, on one piece, and no edge leads to the root. A refused call changes nothing, and throws an Error
+/// whose place is the process. The fault is 46 if an edge, a count or a piece of work does not exist. The fault is 32 if the
+/// process sends, or adds work, while it is passive.
 ///
-/// `log` gets a row `process,kind,channel` for `chipfire judge` at each duty. It must outlive the books.
+/// At each duty, `log` gets a row `process,kind,channel` for `chipfire judge`. The stream must outlive the books.
 class Books {
 public:
     Books(std::vector<std::uint64_t> ins, std::vector<std::uint64_t> outs, bool is_root = false, std::uint64_t process = 0,
@@ -508,7 +514,7 @@ public:
     Books(const Books &) = delete;
     Books &operator=(const Books &) = delete;
 
-    /// Adds an edge into the process, or out of it, as if it had been there with counts 0 from the start.
+    /// Adds an edge into the process, or out of it, as if the edge had been there from the start, with counts 0.
     void add_in(std::uint64_t edge)
     {
         const std::lock_guard<std::mutex> held(lock_);
@@ -521,7 +527,7 @@ public:
         add(outs_, edge);
     }
 
-    /// Notes a message out of the process, before anybody can get it.
+    /// Notes a message that the process sends, before any process can receive it.
     void sent(std::uint64_t edge)
     {
         const std::lock_guard<std::mutex> held(lock_);
@@ -530,7 +536,7 @@ public:
         note("send", edge);
     }
 
-    /// Notes a message into the process, which is at work on it until `done`.
+    /// Notes a message that the process has received. The process is at work on it until `done`.
     void got(std::uint64_t edge)
     {
         const std::lock_guard<std::mutex> held(lock_);
@@ -542,7 +548,7 @@ public:
         note("receive", edge);
     }
 
-    /// Notes that `pieces` more pieces of work are to be done, each until a `done` of its own.
+    /// Notes that there are `pieces` more pieces of work. Each needs its own `done`.
     void add_work(std::uint64_t pieces = 1)
     {
         const std::lock_guard<std::mutex> held(lock_);
@@ -550,7 +556,7 @@ public:
         work_ += pieces;
     }
 
-    /// Notes that the work on a message, or a piece that was added, has ended. With the last one the process is passive.
+    /// Notes that the work on a message, or on an added piece, has ended. When no work is left, the process is passive.
     void done()
     {
         const std::lock_guard<std::mutex> held(lock_);
@@ -558,8 +564,8 @@ public:
         if (--work_ == 0) note("passive");
     }
 
-    /// Acknowledges all that may be. Returns, for each edge with something new, the number of its messages acknowledged so
-    /// far. A later number of an edge replaces an earlier one.
+    /// Acknowledges all messages that may be acknowledged. Returns, for each edge with new acknowledgements, the number of
+    /// its messages acknowledged so far. A later number for an edge replaces an earlier one.
     std::vector<Acknowledged> acknowledge()
     {
         const std::lock_guard<std::mutex> held(lock_);
@@ -575,8 +581,8 @@ public:
         return found;
     }
 
-    /// Notes the number of messages of an edge that its head has acknowledged so far, now or earlier. Returns how many of
-    /// these are new.
+    /// Notes the number of messages of an edge that its head had acknowledged, by the latest report or an earlier one.
+    /// Returns how many of these are new.
     std::uint64_t settled(std::uint64_t edge, std::uint64_t count)
     {
         const std::lock_guard<std::mutex> held(lock_);
@@ -606,7 +612,7 @@ public:
         return books_.deficit;
     }
 
-    /// The edge of the message that engaged the process, if one did.
+    /// The edge of the message that engaged the process, or nothing if the process is neutral.
     std::optional<std::uint64_t> parent() const
     {
         const std::lock_guard<std::mutex> held(lock_);
@@ -633,7 +639,7 @@ private:
         return side;
     }
 
-    /// Has the struct point to the tallies.
+    /// Points the struct to the tallies.
     void point()
     {
         books_.ins = ins_.data();

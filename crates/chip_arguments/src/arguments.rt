@@ -39,7 +39,7 @@ pub struct FileArgument<'a> {
 #[derive(Clone, Copy)]
 pub struct GameArguments<'a> {
     pub graph: FileArgument<'a>,
-    /// The chips, or the report of the play that goes on.
+    /// The chips, or the report of the play to resume.
     pub start: FileArgument<'a>,
     /// How often each vertex may fire, 0 to 2^40.
     pub limit: u64,

@@ -25,11 +25,11 @@ pub struct ArgumentRow {
 
 /// The kind of an argument.
 pub enum Argument {
-    /// An operand, a file that must be named.
+    /// An operand: a file that must be named.
     File,
-    /// An operand, a word that may be missing.
+    /// An operand: a word that may be missing.
     Word,
-    /// An operand, a number that may be missing.
+    /// An operand: a number that may be missing.
     Number,
     /// An option without a value.
     Flag,
@@ -77,7 +77,7 @@ pub const LOG: &ArgumentRow = &ArgumentRow {
 
 pub const REPORT: &ArgumentRow = &ArgumentRow {
     name: "REPORT",
-    help: "A report that chipfire wrote, of version 1 or 2",
+    help: "A report of version 1 or 2 that chipfire wrote",
     is: Argument::File,
 };
 
@@ -101,7 +101,7 @@ pub const LIMIT: &ArgumentRow = &ArgumentRow {
 
 pub const LARGE: &ArgumentRow = &ArgumentRow {
     name: "large",
-    help: "Allows 2^21 vertices, 2^23 edges, 2^28 bytes a file [default: 4096, 65536, 16777216]",
+    help: "Allows 2^21 vertices, 2^23 edges, 2^28 bytes per file [default: 4096, 65536, 16777216]",
     is: Argument::Flag,
 };
 
@@ -113,19 +113,19 @@ pub const LARGE_LOG: &ArgumentRow = &ArgumentRow {
 
 pub const PAST: &ArgumentRow = &ArgumentRow {
     name: "past",
-    help: "Lists after each early claim how many rows of each process come before it",
+    help: "Lists after each early claim how many rows of each process must come before the claim",
     is: Argument::Flag,
 };
 
 pub const FIRST: &ArgumentRow = &ArgumentRow {
     name: "first",
-    help: "Ends at the first early claim, by process and row",
+    help: "Stops at the first early claim (the lowest process, then the lowest row)",
     is: Argument::Flag,
 };
 
 pub const PROCESSES: &ArgumentRow = &ArgumentRow {
     name: "processes",
-    help: "Expects a row of each process from 0 to below N, 1 to 2^22 [default: of none]",
+    help: "Expects a row of each process from 0 to N - 1, where N is 1 to 2^22 [default: of none]",
     is: Argument::NumberOption("N", 1, MAX_PROCESSES),
 };
 
@@ -137,7 +137,7 @@ pub const GUESS: &ArgumentRow = &ArgumentRow {
 
 pub const WRITTEN_REPORT: &ArgumentRow = &ArgumentRow {
     name: "report",
-    help: "Writes the report of the start and the drops, up to one that was stopped, into this file",
+    help: "Writes into this file the report of all chips: those at the start and those dropped",
     is: Argument::FileOption,
 };
 
@@ -155,13 +155,13 @@ pub const RING: &ArgumentRow = &ArgumentRow {
 
 pub const ROUNDS: &ArgumentRow = &ArgumentRow {
     name: "rounds",
-    help: "How many rounds of turns follow at most, 0 to 2^40 [default: 0]",
+    help: "How many rounds of turns may follow the schedule, 0 to 2^40 [default: 0]",
     is: Argument::NumberOption("N", 0, MAX_ROUNDS),
 };
 
 pub const BOOKS: &ArgumentRow = &ArgumentRow {
     name: "books",
-    help: "Writes the books of the detector after each reply: deficits, parents, what is owed",
+    help: "Writes after each reply the books of the detector: deficits, parents, messages owed",
     is: Argument::Flag,
 };
 
@@ -185,7 +185,7 @@ pub const DEALT: &ArgumentRow = &ArgumentRow {
 
 pub const TURNS: &ArgumentRow = &ArgumentRow {
     name: "turns",
-    help: "How many turns each thread makes at most, 1 to 2^40 [default: 2^30]",
+    help: "How many turns each thread may make, 1 to 2^40 [default: 2^30]",
     is: Argument::NumberOption("N", 1, MAX_TURNS),
 };
 
@@ -197,25 +197,25 @@ pub const FEED: &ArgumentRow = &ArgumentRow {
 
 pub const TRACE: &ArgumentRow = &ArgumentRow {
     name: "trace",
-    help: "Writes what each vertex took and fired into this file, for `replay`",
+    help: "Writes into this file, for `replay`, what each vertex took and fired",
     is: Argument::FileOption,
 };
 
 pub const TRACE_ROWS: &ArgumentRow = &ArgumentRow {
     name: "trace-rows",
-    help: "How many trace rows each vertex has room for, 0 to 2^20 [default: 1024 with --trace]",
+    help: "How many rows of the trace each vertex has room for, 0 to 2^20 [default: 1024 with --trace]",
     is: Argument::NumberOption("K", 0, MAX_TRACE_ROWS),
 };
 
 pub const PROGRESS: &ArgumentRow = &ArgumentRow {
     name: "progress",
-    help: "Writes to standard error how far the play is, at most once a second",
+    help: "Writes to standard error how far the play has come, at most once a second",
     is: Argument::Flag,
 };
 
 pub const CLAIM_PROGRESS: &ArgumentRow = &ArgumentRow {
     name: "progress",
-    help: "Writes to standard error which claim is judged, at most once a second",
+    help: "Writes to standard error which claim is being judged, at most once a second",
     is: Argument::Flag,
 };
 
@@ -235,14 +235,15 @@ static PLAIN: CommandRow = CommandRow {
     after_help: "\
 The report has the chips at the end, and how often each vertex fired (the odometer).
 
-A guess never changes the report. If its counts are good, a test certifies them and the report
-comes sooner. The play corrects wrong counts. A vertex that the guess does not name has 0. Only the
-counts of a report are read. The test can fail for true counts if some vertex has a
+A guess never changes the report. If its counts pass a test, the play begins at them, and the
+report comes sooner. Otherwise chipfire lowers the counts until they pass, or drops the guess.
+A vertex that the guess does not name has the count 0. If the guess is a report, only its
+counts are read. The test can refuse even true counts if some vertex other than the sink has a
 greater in-degree than out-degree.
 
-If no in-degree but the sink's is above the out-degree, as on undirected graphs, no vertex
-fires more often than the number of all chips times its distance from the sink, which
-`chipfire check` writes.
+Suppose that no vertex other than the sink has a greater in-degree than out-degree, as on
+undirected graphs. Then no vertex fires more often than the number of all chips times the
+distance from the vertex to the sink. `chipfire check` writes this distance.
 
 Exit status: 0 no vertex can fire; 2 the limit stopped the vertices that the report lists
 under \"over\"; 1 a fault, which `chipfire explain N` explains.
@@ -255,13 +256,15 @@ static AVALANCHES: CommandRow = CommandRow {
     name: "avalanches",
     about: "Drops chips row by row, and writes the size of each avalanche",
     after_help: "\
-chipfire plays the game to its end. Then it adds the chips of each row of DROPS, and plays to
-the end before the next row. DROPS may name a vertex again. Each row of the output has the
-vertex and its chips, how often all vertices fired (size), how many different ones did
-(extent), and how many chips their firings sent to the sink (lost).
+chipfire plays the game to its end. Then it drops the chips of each row of DROPS in order, and
+plays to the end after each row. Several rows of DROPS may name the same vertex. Each row of
+the output has the vertex, the number of chips dropped, the number of firings (size), the
+number of vertices that fired (extent), and the number of chips that these firings sent to the
+sink (lost).
 
-A vertex fires at most 2^40 times in all. A drop that this stops has no row, and no drop
-follows it.
+No vertex fires more than 2^40 times in all. If this limit stops a drop, the output has no row
+for this drop, and no later chips are dropped. With --report, the report includes the chips of
+this drop.
 
 Exit status: 0 all drops were played; 2 some vertex was stopped after 2^40 firings; 1 a
 fault, which `chipfire explain N` explains.
@@ -272,15 +275,15 @@ Example: chipfire avalanches graph.json chips.csv drops.csv >avalanches.csv",
 
 static RECURRENT: CommandRow = CommandRow {
     name: "recurrent",
-    about: "Says whether chips are recurrent, and writes the recurrent ones equivalent to them",
+    about: "Says whether a configuration is recurrent, and writes the recurrent one equivalent to it",
     after_help: "\
-Chips are recurrent if they are stable and can be reached from any other chips: by adding chips
-and firing. Two are equivalent if firings, forwards or backwards, lead from one to the other.
-Of all equivalent chips exactly one is recurrent. The output is that one as a chips file, with
-0 on the sink. Chips on the sink do not count.
+Chips on the sink do not count. A configuration is recurrent if it is stable and can be reached
+from every other configuration by adding chips and firing. Two configurations are equivalent if
+firings, forwards or backwards, lead from one to the other. Exactly one recurrent configuration
+is equivalent to CHIPS. The output is this configuration as a chips file, with 0 on the sink.
 
-Exit status: 0 the chips are recurrent, and are written; 2 they are not; 1 a fault,
-which `chipfire explain N` explains.
+Exit status: 0 CHIPS is recurrent; 2 CHIPS is not recurrent, and the output is another
+configuration; 1 a fault, which `chipfire explain N` explains.
 
 Example: chipfire recurrent graph.json chips.csv >recurrent.csv",
     arguments: &[GRAPH, CHIPS, LARGE],
@@ -290,8 +293,9 @@ static IDENTITY: CommandRow = CommandRow {
     name: "identity",
     about: "Writes the identity of the graph's sandpile group",
     after_help: "\
-The recurrent chips are a group: the sum of two is their stabilized sum. The output is its
-identity as a chips file, with 0 on the sink.
+The recurrent configurations form the sandpile group. To add two of them, add their chips on
+each vertex and stabilize the sum. The output is the identity of this group as a chips file,
+with 0 on the sink.
 
 Exit status: 0 done; 1 a fault, which `chipfire explain N` explains.
 
@@ -303,23 +307,24 @@ static RUN: CommandRow = CommandRow {
     name: "run",
     about: "Plays a game to its end on threads, and writes the same report as plain",
     after_help: "\
-The vertices play as a distributed machine does: by messages, until a root sees that all is
-over. This is for traces, for chips that are fed, and to watch that machine. For the report
-alone use `plain`: on two games of 4,000 vertices run took 10 and 22 times as long, with four
-threads on four processors.
+The vertices work like the processes of a distributed machine: they send messages, until a root
+detects that the game is over. Use `run` to record a trace, to feed chips, or to watch this
+machine. If you need only the report, use `plain`: on two games of 4,000 vertices, `run` with
+four threads on four processors took 10 and 22 times as long.
 
-The number of threads, the ring and --dealt change the time alone: the report stays the same,
-to the byte. One thread is quickest for a small game. For a large one, use --dealt with a
-thread for each core of the machine. In the queue use two threads: four took 0.95 to 1.5 times
-as long. With a longer ring a vertex can send again before its last message was taken, but a
-ring of 64 took 1.4 to 12 times as long as one of 1.
+The number of threads, the ring and --dealt change only the time: the report is the same, byte
+for byte. For a small game, one thread is fastest. For a large game, use --dealt, with one
+thread for each core of the machine. Without --dealt, use two threads: four threads took 0.95
+to 1.5 times as long. With a longer ring, a vertex can send its next message before its last
+one is taken. But a ring of 64 took 1.4 to 12 times as long as a ring of 1.
 
-With --feed the report is the same as if all chips were there at the start. The trace is
-written before the report. If it was cut, a line on standard error says so, and it may not
-replay.
+With --feed, the report is the same as if all chips were there at the start. The trace is
+written before the report. If a vertex has more rows than fit, the trace is cut: a line on
+standard error says so, and `replay` may refuse the trace.
 
 Exit status: 0 no vertex can fire; 2 the limit stopped the vertices that the report lists
-under \"over\"; 3 the turns were too few; 1 another fault. `chipfire explain N` explains faults.
+under \"over\"; 3 the turns were too few (fault 61); 1 another fault.
+`chipfire explain N` explains the faults.
 
 Example: chipfire run graph.json chips.csv --dealt --workers 4 >report.json",
     arguments: &[
@@ -329,19 +334,19 @@ Example: chipfire run graph.json chips.csv --dealt --workers 4 >report.json",
 
 static SIMULATE: CommandRow = CommandRow {
     name: "simulate",
-    about: "Runs a schedule on the detector, and writes each reply, and the report if the root closes",
+    about: "Runs a schedule on the detector, and writes each reply and, if the root closes, the report",
     after_help: "\
-With --fed the schedule feeds chips by the events clear, feed and put on root edges, and then
-needs the event `end`: the root closes only after it.
+With --fed, the schedule feeds chips by the events clear, feed and put on root edges. Then the
+root closes only after the event `end`.
 
-In a round each vertex has a turn, and then the root looks at its edges. The rounds stop when
-the root closes. A game of N vertices, M edges of any multiplicity and C chips, of which no
-vertex fires more than F times, closes in (N + 5 M) F + 5 C + N + 1 rounds: F is the limit, or
-less, as `chipfire plain --help` says. No number of rounds closes a game that is fed without
-`end`, or whose root claimed a message and did not put it.
+In a round, each vertex makes a turn, and then the root settles its edges. The rounds stop when
+the root closes. Let F be the limit, or a smaller number of firings that no vertex exceeds:
+`chipfire plain --help` gives one. A game with N vertices, M edges of any multiplicity and C
+chips closes within (N + 5 M) F + 5 C + N + 1 rounds. If a game is fed without `end`, or if the
+root claims a message and does not put it, no number of rounds closes the root.
 
-Exit status: 0 the root closed; 2 it closed, and the report lists halted vertices; 3 it is
-open; 1 a fault, which `chipfire explain N` explains.
+Exit status: 0 the root closed; 2 the root closed, and the report lists halted vertices; 3 the
+root is open; 1 a fault, which `chipfire explain N` explains.
 
 Example: chipfire simulate graph.json chips.csv schedule.csv --rounds 10",
     arguments: &[
@@ -353,11 +358,12 @@ static REPLAY: CommandRow = CommandRow {
     name: "replay",
     about: "Replays a recorded run, and writes its firings in a possible order",
     after_help: "\
-With --complete, lines after the firings list each edge with messages left, each vertex that
-can fire, and each that has the chips but fired as often as the limit allows.
+With --complete, the lines after the firings list each edge with messages left, each vertex
+that can fire, and each vertex that has enough chips but has fired as often as the limit
+allows.
 
-Exit status: 0 the rows fit together; 2 they do, and --complete lists something; 1 a fault,
-which `chipfire explain N` explains: 70 if they do not fit.
+Exit status: 0 the rows fit together; 2 the rows fit together, and --complete lists something;
+1 a fault, which `chipfire explain N` explains: 70 if the rows do not fit together.
 
 Example: chipfire replay graph.json chips.csv trace.csv",
     arguments: &[GRAPH, CHIPS, TRACE_FILE, LIMIT, LARGE, COMPLETE],
@@ -365,10 +371,10 @@ Example: chipfire replay graph.json chips.csv trace.csv",
 
 static RESUME: CommandRow = CommandRow {
     name: "resume",
-    about: "Goes on with a play from its report, and writes the report of this stage",
+    about: "Continues a play from its report, and writes the report of the new stage",
     after_help: "\
-The limit counts the firings of this stage alone. A report does not name its graph, so
-name the one that it was played on.
+The limit counts only the firings of the new stage. A report does not name its graph, so give
+the graph of the earlier play as GRAPH.
 
 Exit status: 0 no vertex can fire; 2 the limit stopped the vertices that the report lists
 under \"over\"; 1 a fault, which `chipfire explain N` explains.
@@ -381,13 +387,13 @@ static VERIFY: CommandRow = CommandRow {
     name: "verify",
     about: "Says whether a report is right for a game: its counts, chips and halted vertices",
     after_help: "\
-`verified` means that every play of this game within this limit fires each vertex as often in
-all, leaves the same chips, and halts the same vertices by the limit. If a stage was
-stopped, or a vertex fired more often than the limit in several stages, a report may be
-right and have fault 53.
+`verified` means that every play of this game within this limit agrees with the report: it
+fires each vertex as often in all, leaves the same chips, and halts the same vertices at the
+limit. `verify` may refuse a right report with fault 53 if a stage was stopped, or if a vertex
+fired more often in all stages together than the limit allows.
 
-Exit status: 0 the report is true; 1 a fault, which `chipfire explain N` explains: 53 if it
-differs.
+Exit status: 0 the report is right; 1 a fault, which `chipfire explain N` explains: 53 if the
+report differs.
 
 Example: chipfire verify graph.json chips.csv report.json",
     arguments: &[GRAPH, CHIPS, REPORT, LIMIT, LARGE, PROGRESS],
@@ -397,20 +403,21 @@ static JUDGE: CommandRow = CommandRow {
     name: "judge",
     about: "Says which claims of termination in a log of a distributed program are right",
     after_help: "\
-The log is of any program whose processes send messages and detect when their computation is
-over. A row of the kind `over` claims that. The claim is early exactly if in some possible order
-of the rows a message is in transit or a process is active, at the claim or later. Else it is
-right. The line of an early claim says what is left when it is made, in the order with the
-fewest rows before it. `end missed` says that all is over and no claim is right.
+LOG can come from any program whose processes send messages and detect when their computation
+is over. A row of the kind `over` claims that the computation is over. The claim is early
+exactly if, in some possible order of the rows, a message is in transit or a process is active,
+at the claim or later. Otherwise the claim is right. The line of an early claim says what is
+left at this claim, in an order with the fewest rows before the claim. `end missed` says that
+the computation is over, but no claim is right.
 
-The rows of each process are in its order, and may be mixed with those of others. The answer
-does not depend on how they are mixed.
+The rows of each process are in the order in which it acts. Rows of different processes may be
+mixed in any way: the output stays the same.
 
-With --first the lines of the first early claim are the only ones, and the last line is `end
-early`. If no claim is early, all are listed.
+With --first, `judge` writes the lines of the first early claim and then `end early`, and
+nothing else. If no claim is early, `judge` writes the lines of all claims.
 
 Exit status: 0 a claim is right, and none is early; 2 a claim is early; 3 there is no claim; 1 a
-fault, which `chipfire explain N` explains: 70 if the rows do not fit.
+fault, which `chipfire explain N` explains: 70 if the rows do not fit together.
 
 Example: (echo process,kind,channel; cat process-*.rows) | chipfire judge -",
     arguments: &[LOG, PAST, FIRST, PROCESSES, LARGE_LOG, CLAIM_PROGRESS],
@@ -418,9 +425,9 @@ Example: (echo process,kind,channel; cat process-*.rows) | chipfire judge -",
 
 static EXPLAIN: CommandRow = CommandRow {
     name: "explain",
-    about: "Explains a fault or a rule by its number, or lists all",
+    about: "Explains a fault or a rule by its number, or lists them all",
     after_help: "\
-If `simulate` reports `not-now N`, `chipfire explain rule N` explains it.
+If `simulate` reports `not-now N`, `chipfire explain rule N` explains rule N.
 
 Exit status: 0 done; 1 a fault: 91 if no fault or rule has this number.
 

@@ -33,7 +33,7 @@ pub fn burning_script(alloc: Global, graph: &mut Graph) -> Result<Burning, RowFa
     let start = start_to_burn(alloc, graph)?;
     let end = stabilize_on(alloc, graph, &start, &[], 0)?;
     let script = one_more(alloc, graph, &end.fired)?;
-    let chips = burning_chips(alloc, graph, &end.chips)?;
+    let chips = burning_chips(alloc, graph, &start, &end.chips)?;
     Ok(Burning { script, chips })
 }
 
@@ -67,8 +67,15 @@ fn one_more(alloc: Global, graph: &Graph, fired: &[u64]) -> Result<Vec<u64>, All
     Ok(script)
 }
 
-/// The chips of the script, from the end of the stabilization.
-fn burning_chips(alloc: Global, graph: &Graph, ends: &[u64]) -> Result<Vec<u64>, AllocError>
+/// The chips of the script, from the start of the stabilization and its end.
+fn burning_chips(
+    alloc: Global,
+    graph: &Graph,
+    starts: &[u64],
+    ends: &[u64],
+) -> Result<Vec<u64>, AllocError>
+    requires starts_each { length starts.now ≡ graph.now.vertices }
+    requires starts { (v : ℕ) → v < graph.now.vertices → slice_index starts.now v ≡ burning_start graph.now v }
     requires each { length ends.now ≡ graph.now.vertices }
     requires few { (v : ℕ) → v < graph.now.vertices → slice_index ends.now v < 2 ^ 63 }
     ensures each { IfOk result (λ chips. length chips.items ≡ graph.now.vertices) }
@@ -77,8 +84,21 @@ fn burning_chips(alloc: Global, graph: &Graph, ends: &[u64]) -> Result<Vec<u64>,
 {
     let mut chips = Vec::new(alloc);
     for vertex in 0..graph.vertices() {
-        let left = ends[vertex as usize] + in_degree(graph, vertex).min(1);
+        let left = ends[vertex as usize] + one_if_edges_lead_in(graph, starts, vertex);
         chips.push(graph.out_degree(vertex).saturating_sub(left))?;
     }
     Ok(chips)
+}
+
+/// 1 if an edge leads into a vertex, else 0. Where the start has chips, no edge needs to be read.
+fn one_if_edges_lead_in(graph: &Graph, starts: &[u64], vertex: u64) -> u64
+    requires is_vertex { vertex < graph.now.vertices }
+    requires starts_each { length starts.now ≡ graph.now.vertices }
+    requires start { slice_index starts.now vertex ≡ burning_start graph.now vertex }
+    ensures { result ≡ min (in_degree graph.now vertex) 1 }
+{
+    if starts[vertex as usize] > 0 {
+        return 1;
+    }
+    in_degree(graph, vertex).min(1)
 }

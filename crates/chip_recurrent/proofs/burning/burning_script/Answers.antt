@@ -26,17 +26,25 @@ one_more-requires-clause-each c =
     (λ v l ns. rw c.deref.ensures.value (omega (arith, c.in_ok-start.ensures.start v l))) in
     rw (c.deref-2.ensures.value, c.in_ok-end.ensures.graph) end.fired_each
 
+pub burning_chips-requires-clause-starts_each : goal.burning_chips-requires-clause-starts_each
+burning_chips-requires-clause-starts_each c =
+    rw (c.deref-3.ensures.value, c.in_ok-end.ensures.graph) c.in_ok-start.ensures.each
+
+pub burning_chips-requires-clause-starts : goal.burning_chips-requires-clause-starts
+burning_chips-requires-clause-starts c =
+    rw (c.deref-3.ensures.value, c.in_ok-end.ensures.graph) c.in_ok-start.ensures.start
+
 pub burning_chips-requires-clause-each : goal.burning_chips-requires-clause-each
 burning_chips-requires-clause-each c =
     let end = c.in_ok-end.ensures.end (burning_start c.args.graph.now)
     (λ v l ns. rw c.deref.ensures.value (omega (arith, c.in_ok-start.ensures.start v l))) in
-    rw (c.deref-3.ensures.value, c.in_ok-end.ensures.graph) end.chips_each
+    rw (c.deref-4.ensures.value, c.in_ok-end.ensures.graph) end.chips_each
 
 pub burning_chips-requires-clause-few : goal.burning_chips-requires-clause-few
 burning_chips-requires-clause-few c =
     let end = c.in_ok-end.ensures.end (burning_start c.args.graph.now)
     (λ v l ns. rw c.deref.ensures.value (omega (arith, c.in_ok-start.ensures.start v l))) in
-    rw (c.deref-3.ensures.value, c.in_ok-end.ensures.graph)
+    rw (c.deref-4.ensures.value, c.in_ok-end.ensures.graph)
     (λ v l. omega (arith, few_left c.args.graph.now end.is_graph end v l))
 
 pub returns-clause-burning : goal.returns-clause-burning
@@ -46,7 +54,7 @@ returns-clause-burning c =
     (λ v l ns. rw c.deref.ensures.value (omega (arith, c.in_ok-start.ensures.start v l))) in
     let is : IsStabilized G (burning_start G) c.in_ok-end.end.chips.items c.in_ok-end.end.fired.items = end in
     let script = rw (c.deref-2.ensures.value, c.in_ok-end.ensures.graph) at c.in_ok-script.ensures.script in
-    let chips = rw (c.deref-3.ensures.value, c.in_ok-end.ensures.graph) at c.in_ok-chips.ensures.chips in record {
+    let chips = rw (c.deref-4.ensures.value, c.in_ok-end.ensures.graph) at c.in_ok-chips.ensures.chips in record {
       is_graph = is.is_graph;
       script_each = rw c.in_ok-end.ensures.graph at c.in_ok-script.ensures.each;
       chips_each = rw c.in_ok-end.ensures.graph at c.in_ok-chips.ensures.each;

@@ -51,7 +51,7 @@ extern "C" {
 #endif
 
 /* The version of this header (the macro) and of the library (the function): 1000000 * major + 1000 * minor + patch. */
-#define CHIPFIRE_VERSION UINT64_C(13000)
+#define CHIPFIRE_VERSION UINT64_C(13001)
 uint64_t chipfire_version(void);
 
 /* What calls return: success, or a fault by its name in `chipfire explain`. */

@@ -1,7 +1,7 @@
 //! The version, and the end of the program's help.
 
 /// The version that `--version` prints. Packages, the Python package and the manual page read it here.
-pub const VERSION: &str = "0.13.0";
+pub const VERSION: &str = "0.13.1";
 
 pub const PROGRAM: &str = "\
 Exit status: 0 done, and no vertex was stopped; 1 a fault, in one line on standard error; 2 some

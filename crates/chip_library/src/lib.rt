@@ -26,4 +26,4 @@ mod stabilize;
 pub mod sums;
 
 /// The version of the library: 1,000,000 * major + 1,000 * minor + patch.
-pub const VERSION: u64 = 13_000;
+pub const VERSION: u64 = 13_001;

@@ -95,7 +95,7 @@ class Aarch64(Room):
             self.assertNotIn("ISA", self.runs("readelf", "-W", "--notes", f"{self.built}/{name}"))
         notes = self.runs("readelf", "-W", "--notes", f"{self.built}/chipfire")
         oldest = re.search(r"OS: Linux, ABI: (\d+\.\d+)", notes)[1]
-        self.assertIn(f"Linux 3.2 or newer, on aarch64 {oldest};", page)
+        self.assertIn(f"Linux 3.2 or newer, or on aarch64 Linux {oldest} or newer;", page)
 
 
 class OwnC(Room):

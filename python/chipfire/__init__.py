@@ -6,23 +6,23 @@
     report = chipfire.plain(grid, {190: 1000})
     print(report.chips, report.fired)
 
-Results are the program's, whose contracts are proved. Not proved: the package. It needs the standard library alone:
-`pip install ./python` installs it, and a copy of its folder works too. The program is the first of these:
+Results come from the program, whose contracts are proved. Not proved: the package. The package needs only the standard
+library: `pip install ./python` installs it, and a copy of its folder works too. It uses the first program of this list:
 
     the `program` that a call or a `Program` names
     the program that the environment variable CHIPFIRE names
     the program that an installed package carries
-    `target/chipfire` in the clone of the repository that has the package, or that pip installed it from
-    the program in `release` there, if `./chipfire` would take it
+    `target/chipfire` in the clone of the repository that has the package, or from which pip installed the package
+    the program in the folder `release` of this clone, if `./chipfire` would take it
     `chipfire` in a folder that the PATH names by an absolute path
 
-A clone that others than this user and root can change is ignored. An import that finds no program warns, unless the
-package carries the library alone, for a C library that is too old for the program: then plays, groups, books and the
-detector work. The library has the same functions and proofs as the program. If it lies beside the program, plays start
-no process: `chipfire.library` has the calls, and `find_library()` returns its file. A copy of the folder has no version
-to compare with the library's, and does not call it.
+A clone that users other than this user and root can change is ignored. An import that finds no program warns, with one
+exception: for a C library that is too old for the program, the package carries only chipfire's library. Then plays,
+groups, books and the detector work. The library has the same functions and proofs as the program. If the library lies
+beside the program, plays start no process. `chipfire.library` has the library's calls, and `find_library()` returns its
+file. A copy of the package's folder does not call the library: it has no version to compare with the library's version.
 
-The usual words of sandpiles are found under these names:
+The usual terms for sandpiles have these names here:
 
     sandpile graph             Graph; its sink is the global sink, edges have a multiplicity
     configuration              the chips of all vertices but the sink: Configuration, a mapping by vertex
@@ -49,21 +49,22 @@ The usual words of sandpiles are found under these names:
     mean sizes, resistances    green(graph), the inverse of the reduced Laplacian
     tables, files of results   Drops.to_dataframe(), Drops.save(file), Drops.load(file), and those of Chains
 
-`image` and `show` draw reports and configurations, `frames` draws plays. `page` makes a page on which one watches a run
-of the distributed machine, `wrong_page` one on which a wrong detector fails, `choice_page` one on which one picks each
-event; `chipfire.machine` has the machine's words (schedules, replies, books, traces). `explore`, `judge`, `play` and
-`random_schedule` compute on `chipfire.model`, all but `judge` also on a `Computation`: see `chipfire.computations`.
+`image` and `show` draw reports and configurations, and `frames` draws plays. `page` makes a page that shows a run of
+the distributed machine. `wrong_page` makes a page on which a wrong detector fails, and `choice_page` a page on which
+you pick each event. `chipfire.machine` has the machine's types: schedules, replies, books and traces. `explore`,
+`judge`, `play` and `random_schedule` compute on `chipfire.model`. All of these except `judge` also take a
+`Computation`: see `chipfire.computations`.
 
-`judge_log` checks the logs of any distributed program, with the program's verdicts. `read_json_lines` and `read_shiviz`
-read such logs, and `model_log` makes one of a schedule of the model.
+`judge_log` checks the log of any distributed program, and returns the verdicts of chipfire's program. `read_json_lines`
+and `read_shiviz` read such logs, and `model_log` makes a log from a schedule of the model.
 
-`Detector` knows when a program of one's own is over, on threads, in asyncio or by multiprocessing, and `Books` are the
-counters of one process, for programs that send by their own means.
+`Detector` detects when your own program is over, on threads, in asyncio or by multiprocessing. `Books` keeps the
+counters of one process, for programs that send messages by their own means.
 
-A graph, chips, a schedule, a trace or a report may be the name of its file. `Graph.chips` says in which forms chips
-come, and `Report.picture` what can be drawn. A vertex has a number from 0 on, and may have a name. Sequences and arrays
-go by numbers, dicts and Series of pandas by names. Numbers of chips and firings go up to 2^40. A graph has up to
-2,097,152 vertices and 8,388,608 edges.
+In place of a graph, chips, a schedule, a trace or a report, calls take the name of its file. `Graph.chips` lists the
+forms of chips, and `Report.picture` says what can be drawn. Each vertex has a number, counted from 0, and may have a
+name. Sequences and arrays are indexed by numbers, and dicts and Series of pandas by names. Numbers of chips and firings
+go up to 2^40. A graph has up to 2,097,152 vertices and 8,388,608 edges.
 """
 
 import sys as _sys
@@ -180,7 +181,7 @@ from chipfire.utils import (
 __version__ = version()
 warn_without_program()
 
-#: What is imported besides is reachable too; `chipfire.machine` describes it.
+#: Other imported names can be used too; `chipfire.machine` describes them.
 __all__ = [
     "Avalanche",
     "Books",

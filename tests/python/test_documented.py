@@ -49,7 +49,7 @@ class Sections(unittest.TestCase):
         for name in NAMES:
             sections = documented(name)[1]
             self.assertLessEqual({"Notes", "Examples", "See Also"}, {*sections}, name)
-            said = "Nothing of this is proved" in sections["Notes"]
+            said = "None of this is proved" in sections["Notes"]
             has_both = re.search(r"^Proved: [^\0]*Not\s+proved: ", sections["Notes"], re.MULTILINE)
             self.assertNotEqual(said, bool(has_both), name)
 

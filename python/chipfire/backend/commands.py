@@ -193,7 +193,7 @@ def check(graph: AnyGraph, *, program: AnyProgram = None) -> Check:
     graph : Graph or path
         The graph, or the name of its file.
     program : path, optional
-        The program to ask. By default the one that is found.
+        The program to run. By default, the program that the package finds.
 
     Returns
     -------
@@ -238,7 +238,7 @@ def plain(
 ) -> Report:
     """Stabilizes chips on one thread.
 
-    It plays until no vertex can fire, or each vertex that can has already fired `limit` times.
+    It plays until no vertex can fire, or until each vertex that can fire has already fired `limit` times.
 
     Parameters
     ----------
@@ -249,13 +249,13 @@ def plain(
     limit : int, optional
         How often each vertex may fire, from 0 to 2^40, which is the default.
     guess : Chips or Report, optional
-        An initial guess of how often each vertex fires. It changes no result, and a nearly right one saves most of the
-        play.
+        An initial guess of how often each vertex fires. It changes no result, but a guess that is nearly right saves
+        most of the play.
     progress : bool, optional
-        Whether progress is shown, by tqdm or in lines on `sys.stderr`: how often vertices have fired so far. With a
-        guess that is shown at the end.
+        Whether to show progress, by tqdm or in lines on `sys.stderr`: how often vertices have fired so far. With a
+        guess, this is shown only at the end.
     program : path, optional
-        The program to ask. By default the one that is found.
+        The program to run. By default, the program that the package finds.
 
     Returns
     -------
@@ -267,7 +267,7 @@ def plain(
     ValueError
         The graph or the chips are refused, by the package or by the program (`Fault`).
     KeyError
-        A name is that of no vertex.
+        No vertex has a given name.
 
     See Also
     --------
@@ -368,21 +368,22 @@ def verify(
     limit : int, optional
         How often each vertex may fire, from 0 to 2^40, which is the default.
     progress : bool, optional
-        Whether progress is shown, as by `plain`, if something is played.
+        Whether to show progress, as `plain` does, if the game has to be played.
     program : path, optional
-        The program to ask. By default the one that is found.
+        The program to run. By default, the program that the package finds.
 
     Returns
     -------
     bool
-        Whether it is. A report of a play that a smaller limit stopped is not verified, although it may be honest.
+        Whether the report or the odometer is right. If a smaller limit stopped the play of a report, this is False,
+        although the report may be correct.
 
     Raises
     ------
     ValueError
         The graph or the chips are refused, by the package or by the program (`Fault`).
     KeyError
-        A name is that of no vertex.
+        No vertex has a given name.
 
     See Also
     --------
@@ -390,8 +391,8 @@ def verify(
 
     Notes
     -----
-    Proved: the verdict on a file, and on the counts and chips of a report if the library returns it; else the play.
-    Not proved: what Python compares.
+    Proved: the verdict on a file, and the verdict of the library on the counts and chips of a report. Without that
+    verdict, the play is proved. Not proved: Python's comparisons.
 
     Examples
     --------
@@ -439,7 +440,8 @@ def drops(
 ) -> Drops:
     """Drops chips one after another, and returns the numbers of all avalanches in columns.
 
-    The chips at the start are stabilized before the first drop. Each drop falls on what the one before it left.
+    The chips at the start are stabilized before the first drop. Each drop falls on the chips that the drop before it
+    left.
 
     Parameters
     ----------
@@ -453,32 +455,34 @@ def drops(
     amounts : iterable of int, optional
         The number of chips of each drop. By default one.
     fired : bool, optional
-        Whether to return which vertices each drop fires, and how often. This takes the library and NumPy.
+        Whether to return which vertices each drop fires, and how often. This needs the library and NumPy.
     durations : bool, optional
-        Whether to return the duration of each drop: its number of rounds, in each of which every legal vertex fires
-        once. This takes the library. An interrupt during a long drop is raised within a second; a thread finishes the
-        drop, and its result is discarded.
+        Whether to return the duration of each drop: its number of rounds. In a round, every legal vertex fires once.
+        This needs the library. An interrupt during a long drop is raised within a second. A thread finishes the drop,
+        and the result is discarded.
     progress : bool or callable, optional
-        True shows how many of the drops are made, by tqdm or in lines on `sys.stderr`. A function is called with the
-        number made and of all. A program that is asked writes lines, and calls no function.
+        True shows how many drops have been made, by tqdm or in lines on `sys.stderr`. A function is called with the
+        number of drops made and the number of all drops. If the program makes the drops, it writes lines and calls no
+        function.
     partial : bool, optional
-        Whether an interrupt returns the drops that were made until then, in place of KeyboardInterrupt, as in `chains`.
-        This takes the library. The drops of the library's last call, about a tenth of a second of them, may be missing.
-        An interrupt while the chips at the start are stabilized is raised, and so is a second one.
+        Whether an interrupt returns the drops made until then, instead of raising KeyboardInterrupt, as in `chains`.
+        This needs the library. The drops of the library's last call, which takes about a tenth of a second, may be
+        missing. An interrupt while the chips at the start are stabilized is raised, and so is a second interrupt.
     program : path, optional
-        The program to ask. By default the one that is found.
+        The program to run. By default, the program that the package finds.
 
     Returns
     -------
     Drops
-        The columns `size`, `area` and `lost`, what was asked for, and the report of all together.
+        The columns `size`, `area` and `lost`, the other measures that were asked for, and one report for the start and
+        all drops.
 
     Raises
     ------
     ValueError
         The graph or the chips are refused, by the package or by the program (`Fault`).
     KeyError
-        A name is that of no vertex.
+        No vertex has a given name.
 
     See Also
     --------
@@ -585,25 +589,26 @@ def run(
     workers : int, optional
         The number of threads, from 1 to 64.
     dealt : bool, optional
-        Whether each thread keeps vertices of its own. By default all threads share one queue of vertices. Large
-        graphs are played quicker if they are dealt to as many threads as there are processors.
+        Whether each thread has its own vertices. By default, all threads share one queue of vertices. On large graphs,
+        it is faster to deal the vertices to as many threads as there are processors.
     turns : int, optional
-        How many turns each thread has.
+        How many turns each thread may make.
     feed : Chips, optional
-        Chips that the vertices get while they play. The report is that of a game that has all of them at the start.
+        Chips that the vertices get while they play. The report is the same as if all of these chips were there at the
+        start.
     trace : path, optional
-        A file to which each vertex's takes and firings are written.
+        A file into which the run writes what each vertex takes and fires.
     trace_rows : int, optional
-        How many rows the trace of a vertex has. If a vertex did more, the warning `TraceCut` says so.
+        How many rows of the trace each vertex has room for. If a vertex has more rows, the warning `TraceCut` says so.
     progress : bool, optional
-        Whether `sys.stderr` gets a line about once a second that says how far the play is.
+        Whether to write a line to `sys.stderr` about once a second that says how far the play has come.
     program : path, optional
-        The program to ask. By default the one that is found.
+        The program to run. By default, the program that the package finds.
 
     Returns
     -------
     Report
-        The same report as that of `plain`.
+        The report that `plain` returns.
 
     Raises
     ------
@@ -613,7 +618,7 @@ def run(
     Warns
     -----
     TraceCut
-        A vertex did more than its trace has rows.
+        A vertex has more rows than its trace has room for.
 
     See Also
     --------
@@ -621,7 +626,7 @@ def run(
 
     Notes
     -----
-    `plain` is quicker: `run` is for traces, for chips that are fed, and to watch the machine.
+    `plain` is faster. Use `run` to record traces, to feed chips, or to watch the machine.
 
     Proved: the report, for every schedule of the threads. Not proved: that a run ends, and that Python passes the
     report on.
@@ -675,13 +680,13 @@ def simulate(
     ring : int, optional
         How many messages each edge holds, from 1, which is the default, to 64.
     rounds : int, optional
-        How many rounds of turns come after the schedule, until the root is closed.
+        How many rounds of turns may follow the schedule. They end when the root is closed.
     books : bool, optional
         Whether to report the books of the detector after each event.
     fed : bool, optional
-        Whether the schedule may give the vertices more chips, on the root edges.
+        Whether the schedule may feed more chips to the vertices, on the root edges.
     program : path, optional
-        The program to ask. By default the one that is found.
+        The program to run. By default, the program that the package finds.
 
     Returns
     -------
@@ -752,17 +757,17 @@ def replay(
     limit : int, optional
         How often each vertex may fire, from 0 to 2^40, which is the default.
     program : path, optional
-        The program to ask. By default the one that is found.
+        The program to run. By default, the program that the package finds.
 
     Returns
     -------
     list of Firing
-        The firings, each of a vertex, by its number, and a count.
+        The firings. Each has the number of its vertex, and a count.
 
     Raises
     ------
     Fault
-        The rows fit together in no order (fault 70), or are refused.
+        The rows have no possible order (fault 70), or are refused.
 
     See Also
     --------
@@ -770,8 +775,8 @@ def replay(
 
     Notes
     -----
-    Proved: that all rows fit together in this order, and in none if fault 70 is raised. Not proved: that Python passes
-    it on.
+    Proved: that all rows fit together in this order and, on fault 70, in no order. Not proved: that Python passes the
+    order on.
 
     Examples
     --------
@@ -793,7 +798,7 @@ def resume(
     progress: bool = False,
     program: AnyProgram = None,
 ) -> Report:
-    """Goes on from a play that a limit or a seal stopped.
+    """Continues a play that a limit or a seal stopped.
 
     Parameters
     ----------
@@ -804,9 +809,9 @@ def resume(
     limit : int, optional
         How often each vertex may fire in this stage, from 0 to 2^40, which is the default.
     progress : bool, optional
-        Whether progress is shown, as by `plain`.
+        Whether to show progress, as `plain` does.
     program : path, optional
-        The program to ask. By default the one that is found.
+        The program to run. By default, the program that the package finds.
 
     Returns
     -------
@@ -818,7 +823,7 @@ def resume(
     Fault
         The program refuses the report.
     ValueError
-        The report is of another graph, or cannot be of this one.
+        The report is that of another graph, or is impossible on this graph.
 
     See Also
     --------
@@ -883,7 +888,7 @@ def explain(number: int | None = None, *, program: AnyProgram = None) -> str:
     number : int, optional
         The number of the fault. By default the table of all faults is returned.
     program : path, optional
-        The program to ask. By default the one that is found.
+        The program to run. By default, the program that the package finds.
 
     Returns
     -------
@@ -901,7 +906,7 @@ def explain(number: int | None = None, *, program: AnyProgram = None) -> str:
 
     Notes
     -----
-    Nothing of this is proved: texts are only tested.
+    None of this is proved: texts are only tested.
 
     Examples
     --------
@@ -915,14 +920,14 @@ def explain(number: int | None = None, *, program: AnyProgram = None) -> str:
 
 
 def identity(graph: AnyGraph, *, program: AnyProgram = None) -> Configuration:
-    """Returns the identity of the sandpile group: the recurrent configuration that adds nothing to any other.
+    """Returns the identity of the sandpile group: the recurrent configuration equivalent to zero.
 
     Parameters
     ----------
     graph : Graph or path
         The graph, or the name of its file.
     program : path, optional
-        The program to ask. By default the one that is found.
+        The program to run. By default, the program that the package finds.
 
     Returns
     -------
@@ -941,8 +946,8 @@ def identity(graph: AnyGraph, *, program: AnyProgram = None) -> Configuration:
     Notes
     -----
     Proved: the identity, if the library finds it in one call. For a long play, or without the library, the
-    stabilizations are proved. Not proved: that the identity is passed on, or else the difference between the
-    stabilizations.
+    stabilizations are proved. Not proved: that Python passes the identity on or, without such a call, the difference
+    between the stabilizations.
 
     Examples
     --------
@@ -977,7 +982,7 @@ def write_chips(file: FileName, graph: Graph, chips: Chips) -> None:
 
     Notes
     -----
-    Nothing of this is proved.
+    None of this is proved.
 
     Examples
     --------
@@ -998,7 +1003,7 @@ def read_chips(file: FileName, graph: Graph, *, program: AnyProgram = None) -> t
     graph : Graph
         The graph.
     program : path, optional
-        The program to ask. By default the one that is found.
+        The program to run. By default, the program that the package finds.
 
     Returns
     -------
@@ -1047,9 +1052,9 @@ def _method(function: Callable[P, T]) -> Callable[Concatenate[Program, P], T]:
 
 
 class Program:
-    """A program by its name, or the one that is found, with its commands as methods.
+    """The program with this name, or the program that the package finds, with its commands as methods.
 
-    Each call starts the program. An option that is None is left out, so the program's own value stands.
+    Each call starts the program. An option that is None is left out, so the program uses its default.
 
     Parameters
     ----------

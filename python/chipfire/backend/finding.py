@@ -64,7 +64,7 @@ class ProgramNotFound(FileNotFoundError):
 
     Notes
     -----
-    Nothing of this is proved.
+    None of this is proved.
 
     Examples
     --------

@@ -39,7 +39,7 @@ _SETPRIV = "setpriv", "--pdeathsig", "KILL", "--"
 
 
 class TraceCut(UserWarning):
-    """The warning of `run` that a vertex did more than its trace has rows. Such a trace may fail to replay.
+    """The warning of `run` that a vertex has more rows than its trace holds. `replay` may refuse such a trace.
 
     See Also
     --------
@@ -47,7 +47,7 @@ class TraceCut(UserWarning):
 
     Notes
     -----
-    Proved: that a trace is cut exactly if this is reported. Not proved: that Python passes it on.
+    Proved: that a trace is cut exactly if the program reports this. Not proved: that Python passes the report on.
 
     Examples
     --------
@@ -61,22 +61,22 @@ class TraceCut(UserWarning):
 
 
 class Fault(ValueError):
-    """The program or the library refuses what it was given, or what it was asked to do with it.
+    """The program or the library refuses its input, or what it was asked to do.
 
     Attributes
     ----------
     number : int
-        The number of the fault: 24 of ``fault 24 Row 3``.
+        The number of the fault: 24 in ``fault 24 Row 3``.
     name : str
-        Its name: "Row".
+        The name of the fault: "Row".
     place : tuple
-        The numbers after the name: (3,). In a log whose processes have names, the name of a process.
+        The numbers after the name: (3,). If the processes of a log have names, a process stands here by its name.
     explanation : str
-        What ``chipfire explain`` says of the number; empty if the program does not say.
+        What ``chipfire explain`` says of this number; empty if it says nothing.
     status : int
-        The exit status: 1, or 3 if a run was not finished.
+        The exit status: 1, or 3 if a run did not finish.
     words : str
-        Which file is meant, or what is wrong with the graph, by the names of its vertices.
+        Which file has the fault, or what is wrong with the graph, with the names of its vertices.
 
     See Also
     --------

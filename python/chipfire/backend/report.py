@@ -22,16 +22,16 @@ class Report(Drawn):
     Attributes
     ----------
     chips : tuple of int
-        The chips of each vertex, by numbers, also of the sink.
+        The chips of each vertex, including the sink, in the order of the numbers.
     fired : tuple of int
-        How often each vertex fired in this stage, by numbers: the firing vector.
+        How often each vertex fired in this stage, in the order of the numbers: the firing vector.
     over : tuple of int
-        The numbers of the vertices that can fire and fired as often as the limit allows. A call that takes names
-        refuses these numbers, if the graph has other names.
+        The numbers of the vertices that can fire but have fired as often as the limit allows. If vertices have other
+        names, calls that take names refuse these numbers.
     sealed : tuple of int
         The numbers of the other vertices that stopped because an edge was sealed.
     prior : tuple of int or None
-        How often each vertex fired in the stages before, by numbers, or None in a report of the first one.
+        How often each vertex fired in earlier stages, in the order of the numbers; None in a report of the first stage.
     graph : Graph or None
         The graph, if it is known. It is not part of the report's text.
 
@@ -41,7 +41,7 @@ class Report(Drawn):
 
     Notes
     -----
-    Two reports are equal if all their numbers are, and so are their graphs, if both are known.
+    Two reports are equal if all their numbers are equal and, if both graphs are known, the graphs are equal too.
 
     Proved: the numbers. Not proved: that Python passes them on.
 
@@ -95,17 +95,17 @@ class Report(Drawn):
 
     @property
     def total(self) -> tuple[int, ...]:
-        """How often each vertex fired in this stage and those before it."""
+        """How often each vertex fired in this and all earlier stages."""
         return tuple(map(operator.add, self.prior, self.fired)) if self.prior else self.fired
 
     @property
     def configuration(self) -> Configuration:
-        """The chips of all vertices but the sink, by names; if the report is `closed`, the stabilization."""
+        """The chips of all vertices but the sink, by names. If the report is `closed`, this is the stabilization."""
         return Configuration(self._known_graph(), self.chips)
 
     @property
     def odometer(self) -> Configuration:
-        """How often each vertex but the sink fired, by names, in this stage and those before it."""
+        """How often each vertex but the sink fired, by names, in this and all earlier stages."""
         return Configuration(self._known_graph(), self.total)
 
     def _known_graph(self) -> Graph:
@@ -152,7 +152,7 @@ class Report(Drawn):
         return min(start) >= 0 and legal <= {*self.over, graph.sink}
 
     def text(self) -> str:
-        """The text of the report, to the byte as the program writes it."""
+        """The text of the report, byte for byte as the program writes it."""
         told = {
             name: value
             for name, value in vars(self).items()
@@ -162,7 +162,7 @@ class Report(Drawn):
         return json.dumps(told, separators=(",", ":"), sort_keys=True) + "\n"
 
     def write(self, file: FileName) -> None:
-        """Writes the report, for `resume` to go on from."""
+        """Writes the report to a file, from which `resume` can continue."""
         write_text(file, self.text())
 
     def _values(self, of: str) -> Sequence[int]:

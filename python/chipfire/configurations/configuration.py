@@ -122,8 +122,8 @@ class Sums(Mapping[Hashable, int]):
 class Configuration(Drawn, Sums):
     """The chips of all vertices of a graph but the sink: a mapping from names to numbers, which may be below 0.
 
-    ``~c`` is the stabilization of c, and ``c & d`` that of the sum, as in SageMath; ``c + d`` is the sum itself. A
-    configuration is never changed.
+    ``~c`` is the stabilization of c, and ``c & d`` is the stabilization of the sum, as in SageMath. ``c + d`` is the
+    sum itself. A configuration never changes.
 
     Parameters
     ----------
@@ -137,7 +137,7 @@ class Configuration(Drawn, Sums):
     graph : Graph
         The graph.
     numbers : tuple of int
-        The chips by the numbers of the vertices, 0 for the sink.
+        The chips in the order of the vertices' numbers, 0 for the sink.
 
     Raises
     ------
@@ -150,7 +150,7 @@ class Configuration(Drawn, Sums):
 
     Notes
     -----
-    NumPy takes a configuration as the array of its picture, and pandas as a Series, or in a DataFrame as
+    NumPy takes a configuration as the array of its picture. pandas takes it as a Series, or in a DataFrame as
     ``dict(configuration)``.
 
     Proved: what is proved of the functions that its methods call. Not proved: sums and differences.
@@ -215,11 +215,11 @@ class Configuration(Drawn, Sums):
         return (self.graph.max_stable() - self).is_recurrent(program=program)
 
     def equivalent_recurrent(self, *, program: FileName | None = None) -> Configuration:
-        """The recurrent configuration that is equivalent: `chipfire.recurrent_representative`."""
+        """The recurrent configuration equivalent to this one: `chipfire.recurrent_representative`."""
         return representative("recurrent", self, program)
 
     def equivalent_superstable(self, *, program: FileName | None = None) -> Configuration:
-        """The superstable configuration that is equivalent: `chipfire.superstable_representative`."""
+        """The superstable configuration equivalent to this one: `chipfire.superstable_representative`."""
         return representative("superstable", self, program)
 
     def inverse(self, *, program: FileName | None = None) -> Configuration:
@@ -227,7 +227,7 @@ class Configuration(Drawn, Sums):
         return representative("inverse", self, program)
 
     def order(self) -> int:
-        """The least number of copies whose sum is equivalent to zero. Nothing of this is proved."""
+        """The least number of copies whose sum is equivalent to zero. None of this is proved."""
         return smith.order_of(smith.reduced(self.graph), dict(enumerate(self.values())))
 
     def _values(self, of: str) -> Sequence[int]:

@@ -23,7 +23,7 @@ class Group:
     Parameters
     ----------
     graph : Graph or path
-        The graph, of up to 401 vertices, the sink among them.
+        The graph, with up to 401 vertices including the sink.
 
     Attributes
     ----------
@@ -34,12 +34,12 @@ class Group:
     identity : Configuration
         The identity.
     generators : tuple of Configuration
-        A generator for each factor, recurrent.
+        A recurrent generator for each factor.
 
     Raises
     ------
     ValueError
-        The graph has more vertices, or is refused.
+        The graph has more than 401 vertices, or is refused.
 
     See Also
     --------
@@ -47,10 +47,10 @@ class Group:
 
     Notes
     -----
-    Generators are found in 0.1 s for 20 by 20 squares, and as configurations in 2 s; in 4 s for a random graph of 400
-    vertices and degree 4.
+    Finding the generators takes 0.1 s for 20 by 20 squares, and 2 s as configurations. It takes 4 s for a random graph
+    of 400 vertices and degree 4.
 
-    Nothing of this is proved but the plays of `element`.
+    None of this is proved except the plays of `element`.
 
     Examples
     --------
@@ -77,9 +77,9 @@ class Group:
         return f"<Group of {' x '.join(f'Z/{factor}' for factor in self.factors) or 'one element'}>"
 
     def coordinates(self, chips: Chips) -> tuple[int, ...]:
-        """The coordinates of chips, which may be below 0: a multiple of each generator, from 0 to its order minus 1.
-        Sums of chips have the sums, and two have the same exactly if they are equivalent.
-        This is the discrete logarithm."""
+        """The coordinates of chips: for each generator a multiple, from 0 to the generator's order minus 1. Chips may
+        be below 0. The coordinates of a sum are the sums of the coordinates, modulo the orders. Two configurations have
+        the same coordinates exactly if they are equivalent. This is the discrete logarithm."""
         counts = [*Configuration(self.graph, chips).values()]
         found = []
         for place, factor in enumerate(self.factors):
@@ -88,11 +88,11 @@ class Group:
         return tuple(found)
 
     def element(self, coordinates: Sequence[int], *, program: AnyProgram = None) -> Configuration:
-        """The recurrent configuration of these coordinates, of which there is a number for each factor.
+        """The recurrent configuration with these coordinates: a number for each factor.
 
-        Plays make it from the identity: each multiplies the chips by 4, adds some and stabilizes. There are as many
-        plays as the largest factor has digits in base 4.
-        Proved: the plays. Not proved: which chips are added."""
+        Plays compute it from the identity. Each play multiplies the chips by 4, adds chips and stabilizes. There are as
+        many plays as the largest factor has digits in base 4. Proved: the plays. Not proved: which chips are added.
+        """
         times = as_ints(
             listed(coordinates, "coordinates stand in a list"), lambda at: f"coordinate {at}", None
         )
@@ -113,12 +113,12 @@ class Group:
 
     @functools.cached_property
     def identity(self) -> Configuration:
-        """The element whose coordinates are all 0: `chipfire.identity`, and as much of it is proved."""
+        """The element whose coordinates are all 0. `chipfire.identity` says what is proved of it."""
         return self.graph.identity()
 
     @functools.cached_property
     def generators(self) -> tuple[Configuration, ...]:
-        """The recurrent configurations that generate the group: each has a coordinate 1, and else 0."""
+        """The recurrent configurations that generate the group: each has one coordinate 1, and all others 0."""
         places = range(len(self.factors))
         return tuple(self.element([int(at == place) for at in places]) for place in places)
 

@@ -37,7 +37,7 @@ def laplacian(graph: AnyGraph, *, sparse: bool = False) -> Any:
     Raises
     ------
     ImportError
-        SciPy is missing, and a sparse matrix is asked for.
+        SciPy is missing, and `sparse` is true.
     ValueError
         The graph is refused.
 
@@ -47,11 +47,12 @@ def laplacian(graph: AnyGraph, *, sparse: bool = False) -> Any:
 
     Notes
     -----
-    The sink never fires, but has a row. In an undirected graph (a family, `Graph.undirected`, one of NetworkX or
-    SageMath) it sends back what it gets, so the matrix is symmetric. In a directed graph of NetworkX or SageMath it
-    has the edges that it has there. In a `Graph` of rows, and in that of a file, it is 0.
+    The sink never fires, but has a row. In an undirected graph (a family, `Graph.undirected`, or a graph of NetworkX or
+    SageMath), the sink sends back what it gets, so the matrix is symmetric. In a directed graph of NetworkX or
+    SageMath, the sink has the edges that it has there. In a `Graph` made of rows or read from a file, the sink's row is
+    0.
 
-    Nothing of this is proved, and the program is not asked.
+    None of this is proved, and the program is not run.
 
     Examples
     --------
@@ -89,7 +90,7 @@ def reduced_laplacian(graph: AnyGraph, *, sparse: bool = False) -> Any:
     Raises
     ------
     ImportError
-        SciPy is missing, and a sparse matrix is asked for.
+        SciPy is missing, and `sparse` is true.
     ValueError
         The graph is refused.
 
@@ -99,7 +100,7 @@ def reduced_laplacian(graph: AnyGraph, *, sparse: bool = False) -> Any:
 
     Notes
     -----
-    Nothing of this is proved, and the program is not asked.
+    None of this is proved, and the program is not run.
 
     Examples
     --------
@@ -135,7 +136,7 @@ def invariant_factors(graph: AnyGraph) -> tuple[int, ...]:
     Returns
     -------
     tuple of int
-        The factors above 1, ascending: each divides the next. A group of one element has none.
+        The factors above 1, ascending: each divides the next. A group of one element has no such factors.
 
     Raises
     ------
@@ -148,9 +149,9 @@ def invariant_factors(graph: AnyGraph) -> tuple[int, ...]:
 
     Notes
     -----
-    A grid of 40 by 40 takes a second, one of 50 by 50 some four.
+    A grid of 40 by 40 squares takes about 1 s, and a grid of 50 by 50 squares about 4 s.
 
-    Nothing of this is proved, and the program is not asked.
+    None of this is proved, and the program is not run.
 
     Examples
     --------
@@ -165,8 +166,8 @@ def invariant_factors(graph: AnyGraph) -> tuple[int, ...]:
 def order(graph: AnyGraph) -> int:
     """Returns the order of the sandpile group.
 
-    It is the number of recurrent configurations, of superstable ones, and of spanning trees whose edges lead to the
-    sink, each edge counted as often as its multiplicity.
+    The order is the number of recurrent configurations, and of superstable configurations. It is also the number of
+    spanning trees whose edges lead to the sink, where each edge counts as often as its multiplicity says.
 
     Parameters
     ----------
@@ -189,7 +190,7 @@ def order(graph: AnyGraph) -> int:
 
     Notes
     -----
-    Nothing of this is proved, and the program is not asked.
+    None of this is proved, and the program is not run.
 
     Examples
     --------

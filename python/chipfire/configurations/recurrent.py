@@ -23,15 +23,15 @@ from chipfire.utils import import_optional, require_memory
 def burning_script(graph: AnyGraph, *, program: AnyProgram = None) -> Configuration:
     """Returns the least burning script: how often each vertex fires when a recurrent configuration burns.
 
-    The script fires each vertex but the sink at least once, and leaves none of these with more chips than before. On
-    an undirected graph each of them fires exactly once.
+    The script fires each vertex but the sink at least once, and leaves none of these with more chips than before. On an
+    undirected graph, each of these vertices fires exactly once.
 
     Parameters
     ----------
     graph : Graph or path
         The graph, or the name of its file.
     program : path, optional
-        The program to ask. By default the one that is found.
+        The program to run. By default, the program that the package finds.
 
     Returns
     -------
@@ -49,11 +49,11 @@ def burning_script(graph: AnyGraph, *, program: AnyProgram = None) -> Configurat
 
     Notes
     -----
-    The script is due to Speer [1]_. It is one more than the odometer of the play that begins with one chip less on
-    each vertex than edges lead into it.
+    The script is due to Speer [1]_. It is the odometer, plus 1 on each vertex, of the play in which each vertex begins
+    with its in-degree minus 1 chips.
 
     Proved: the script, if the library finds it in one call. For a long play, or without the library, the counts of a
-    play are proved. Not proved: that the script is passed on.
+    play are proved. Not proved: that Python passes the script on.
 
     References
     ----------
@@ -71,14 +71,14 @@ def burning_script(graph: AnyGraph, *, program: AnyProgram = None) -> Configurat
 def burning_configuration(graph: AnyGraph, *, program: AnyProgram = None) -> Configuration:
     """Returns the chips that the burning script takes away.
 
-    Its sum with a recurrent configuration stabilizes to that configuration.
+    The sum of these chips and a recurrent configuration stabilizes to that configuration.
 
     Parameters
     ----------
     graph : Graph or path
         The graph, or the name of its file.
     program : path, optional
-        The program to ask. By default the one that is found.
+        The program to run. By default, the program that the package finds.
 
     Returns
     -------
@@ -97,7 +97,7 @@ def burning_configuration(graph: AnyGraph, *, program: AnyProgram = None) -> Con
     Notes
     -----
     Proved: the chips, if the library returns them in one call; else the counts of the script's play. Not proved: that
-    the chips are passed on, or else that they follow from the script.
+    Python passes the chips on or, without such a call, computes them from the script.
 
     Examples
     --------
@@ -112,7 +112,7 @@ def burning_configuration(graph: AnyGraph, *, program: AnyProgram = None) -> Con
 def is_recurrent(graph: AnyGraph, chips: Chips, *, program: AnyProgram = None) -> bool:
     """Returns whether a configuration is recurrent.
 
-    It is recurrent if it is stable and can be reached from each configuration by adding chips and firing.
+    A configuration is recurrent if it is stable and can be reached from every configuration by adding chips and firing.
 
     Parameters
     ----------
@@ -121,7 +121,7 @@ def is_recurrent(graph: AnyGraph, chips: Chips, *, program: AnyProgram = None) -
     chips : Chips
         The configuration, in any form that `Graph.chips` takes.
     program : path, optional
-        The program to ask. By default the one that is found.
+        The program to run. By default, the program that the package finds.
 
     Returns
     -------
@@ -133,7 +133,7 @@ def is_recurrent(graph: AnyGraph, chips: Chips, *, program: AnyProgram = None) -
     ValueError
         The graph or the chips are refused, by the package or by the program (`Fault`).
     KeyError
-        A name is that of no vertex.
+        No vertex has a given name.
 
     See Also
     --------
@@ -141,12 +141,12 @@ def is_recurrent(graph: AnyGraph, chips: Chips, *, program: AnyProgram = None) -
 
     Notes
     -----
-    This is the burning test of Dhar [1]_, also for directed multigraphs: a configuration is recurrent exactly if it
-    comes back when `burning_configuration` is added to it and the sum is stabilized.
+    This is the burning test of Dhar [1]_, also for directed multigraphs: a configuration is recurrent exactly if its
+    sum with `burning_configuration` stabilizes to the configuration itself.
 
-    Proved: the result, if the library returns it in one call. If the graph has no short burning script, or without
-    the library, the stabilizations are proved, and that the test is right. Not proved: that the result is passed on,
-    or else the comparison.
+    Proved: the result, if the library returns it in one call. If the graph has no short burning script, or without the
+    library, it is proved that the stabilizations and the test are right. Not proved: that Python passes the result on
+    or, without such a call, compares correctly.
 
     References
     ----------
@@ -173,19 +173,19 @@ def are_recurrent(
         The configurations, each in any form of chips, or as the rows of an array, with or without a column for the
         sink.
     program : path, optional
-        The program to ask. By default the one that is found.
+        The program to run. By default, the program that the package finds.
 
     Returns
     -------
     list of bool
-        One value for each configuration, in their order.
+        One value for each configuration, in the order of the configurations.
 
     Raises
     ------
     ValueError
         The graph or the chips are refused, by the package or by the program (`Fault`).
     KeyError
-        A name is that of no vertex.
+        No vertex has a given name.
 
     See Also
     --------
@@ -208,9 +208,9 @@ def are_recurrent(
 def recurrent_representative(
     graph: AnyGraph, chips: Chips, *, program: AnyProgram = None
 ) -> Configuration:
-    """Returns the recurrent configuration that is equivalent to this one.
+    """Returns the recurrent configuration equivalent to this one.
 
-    Two configurations are equivalent if firings, also backward, lead from one to the other.
+    Two configurations are equivalent if firings, forward or backward, lead from one to the other.
 
     Parameters
     ----------
@@ -219,7 +219,7 @@ def recurrent_representative(
     chips : Chips
         The configuration, in any form that `Graph.chips` takes. Numbers may be below 0.
     program : path, optional
-        The program to ask. By default the one that is found.
+        The program to run. By default, the program that the package finds.
 
     Returns
     -------
@@ -231,7 +231,7 @@ def recurrent_representative(
     ValueError
         The graph or the chips are refused, by the package or by the program (`Fault`).
     KeyError
-        A name is that of no vertex.
+        No vertex has a given name.
 
     See Also
     --------
@@ -239,11 +239,11 @@ def recurrent_representative(
 
     Notes
     -----
-    While some chips are below 0, Python adds a configuration equivalent to zero.
+    As long as some chips are below 0, Python adds a configuration equivalent to zero.
 
-    Proved: the rest, if the library finds it in one call. For a long play, or without the library, the identity is
-    added, the stable sum is tested, and the stabilizations are proved. Not proved: that the chips are lifted right, and
-    passed on.
+    Proved: the rest, if the library computes it in one call. For a long play, or without the library, Python adds the
+    identity and tests the stable sum; then the stabilizations are proved. Not proved: that Python adds and passes on
+    the right chips.
 
     Examples
     --------
@@ -256,7 +256,7 @@ def recurrent_representative(
 def superstable_representative(
     graph: AnyGraph, chips: Chips, *, program: AnyProgram = None
 ) -> Configuration:
-    """Returns the superstable configuration that is equivalent to this one: the q-reduced one.
+    """Returns the superstable (q-reduced) configuration equivalent to this one.
 
     Parameters
     ----------
@@ -265,7 +265,7 @@ def superstable_representative(
     chips : Chips
         The configuration, in any form that `Graph.chips` takes. Numbers may be below 0.
     program : path, optional
-        The program to ask. By default the one that is found.
+        The program to run. By default, the program that the package finds.
 
     Returns
     -------
@@ -277,7 +277,7 @@ def superstable_representative(
     ValueError
         The graph or the chips are refused, by the package or by the program (`Fault`).
     KeyError
-        A name is that of no vertex.
+        No vertex has a given name.
 
     See Also
     --------
@@ -285,10 +285,11 @@ def superstable_representative(
 
     Notes
     -----
-    With `m` the maximal stable configuration, it is `m` minus the recurrent representative of `m` minus this one.
+    Let `m` be the maximal stable configuration, and `c` this one. The result is `m` minus the recurrent representative
+    of `m - c`.
 
-    Proved: what is proved of `recurrent_representative`. Not proved: that the chips are lifted right, and passed on;
-    and where the library does not find it in one call, the two differences.
+    Proved: what is proved of `recurrent_representative`. Not proved: that Python adds and passes on the right chips
+    and, unless the library finds the result in one call, the two differences.
 
     Examples
     --------
@@ -301,8 +302,8 @@ def superstable_representative(
 def inverse(graph: AnyGraph, chips: Chips, *, program: AnyProgram = None) -> Configuration:
     """Returns the inverse of a configuration in the sandpile group.
 
-    It is the recurrent configuration whose stable sum with this one is the identity. Of a configuration that is not
-    recurrent, it is the inverse of its recurrent representative.
+    The inverse of a recurrent configuration is the recurrent configuration whose stable sum with it is the identity.
+    The inverse of any other configuration is the inverse of its recurrent representative.
 
     Parameters
     ----------
@@ -311,7 +312,7 @@ def inverse(graph: AnyGraph, chips: Chips, *, program: AnyProgram = None) -> Con
     chips : Chips
         The configuration, in any form that `Graph.chips` takes. Numbers may be below 0.
     program : path, optional
-        The program to ask. By default the one that is found.
+        The program to run. By default, the program that the package finds.
 
     Returns
     -------
@@ -323,7 +324,7 @@ def inverse(graph: AnyGraph, chips: Chips, *, program: AnyProgram = None) -> Con
     ValueError
         The graph or the chips are refused, by the package or by the program (`Fault`).
     KeyError
-        A name is that of no vertex.
+        No vertex has a given name.
 
     See Also
     --------
@@ -332,8 +333,8 @@ def inverse(graph: AnyGraph, chips: Chips, *, program: AnyProgram = None) -> Con
     Notes
     -----
     Proved: the inverse, if no chips are below 0 and the library finds it in one call. For a long play, or without the
-    library, it is the representative of 0 minus the chips, and the stabilizations are proved. Not proved: that chips
-    below 0 are lifted right, and that the inverse is passed on.
+    library, the inverse is the recurrent representative of minus the chips, and only the stabilizations are proved.
+    Not proved: what Python does with chips below 0, and that it passes the inverse on.
 
     Examples
     --------
@@ -359,7 +360,7 @@ def is_superstable(graph: AnyGraph, chips: Chips, *, program: AnyProgram = None)
     chips : Chips
         The configuration, in any form that `Graph.chips` takes.
     program : path, optional
-        The program to ask. By default the one that is found.
+        The program to run. By default, the program that the package finds.
 
     Returns
     -------
@@ -371,7 +372,7 @@ def is_superstable(graph: AnyGraph, chips: Chips, *, program: AnyProgram = None)
     ValueError
         The graph or the chips are refused, by the package or by the program (`Fault`).
     KeyError
-        A name is that of no vertex.
+        No vertex has a given name.
 
     See Also
     --------
@@ -379,7 +380,7 @@ def is_superstable(graph: AnyGraph, chips: Chips, *, program: AnyProgram = None)
 
     Notes
     -----
-    A configuration is superstable exactly if the maximal stable one minus this one is recurrent.
+    A configuration is superstable exactly if the maximal stable configuration minus it is recurrent.
 
     Proved: what is proved of `is_recurrent`. Not proved: what is not proved there, and the difference.
 
@@ -411,15 +412,15 @@ def superstables(graph: AnyGraph, *, as_array: bool = False, program: AnyProgram
     graph : Graph or path
         The graph, or the name of its file.
     as_array : bool, optional
-        Whether to return one array in place of an iterator.
+        Whether to return one array instead of an iterator.
     program : path, optional
-        The program to ask. By default the one that is found.
+        The program to run. By default, the program that the package finds.
 
     Returns
     -------
     iterator of Configuration, or array of shape (order, vertices)
-        The configurations. A column of the array is a vertex by its number, 0 for the sink. The array is one of NumPy
-        if that is installed, else a list of rows.
+        The configurations. The array has a column for each vertex, in the order of the numbers; the sink's column is 0.
+        Without NumPy, the array is a list of rows.
 
     Raises
     ------
@@ -434,7 +435,7 @@ def superstables(graph: AnyGraph, *, as_array: bool = False, program: AnyProgram
 
     Notes
     -----
-    Nothing of this is proved but the burning script: Python burns each configuration itself.
+    None of this is proved except the burning script: Python burns each configuration itself.
 
     Examples
     --------
@@ -517,15 +518,15 @@ def recurrents(graph: AnyGraph, *, as_array: bool = False, program: AnyProgram =
     graph : Graph or path
         The graph, or the name of its file.
     as_array : bool, optional
-        Whether to return one array in place of an iterator.
+        Whether to return one array instead of an iterator.
     program : path, optional
-        The program to ask. By default the one that is found.
+        The program to run. By default, the program that the package finds.
 
     Returns
     -------
     iterator of Configuration, or array of shape (order, vertices)
-        The configurations. A column of the array is a vertex by its number, 0 for the sink. The array is one of NumPy
-        if that is installed, else a list of rows.
+        The configurations. The array has a column for each vertex, in the order of the numbers; the sink's column is 0.
+        Without NumPy, the array is a list of rows.
 
     Raises
     ------
@@ -540,9 +541,9 @@ def recurrents(graph: AnyGraph, *, as_array: bool = False, program: AnyProgram =
 
     Notes
     -----
-    They are the differences between the maximal stable configuration and the superstable ones.
+    The recurrent configurations are the maximal stable configuration minus each superstable configuration.
 
-    Nothing of this is proved but the burning script.
+    None of this is proved except the burning script.
 
     Examples
     --------

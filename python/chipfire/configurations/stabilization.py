@@ -47,7 +47,7 @@ def stabilize(graph: AnyGraph, chips: Chips, *, program: AnyProgram = None) -> C
     chips : Chips
         The chips at the start, in any form that `Graph.chips` takes, or the name of a chips file.
     program : path, optional
-        The program to ask. By default the one that is found.
+        The program to run. By default, the program that the package finds.
 
     Returns
     -------
@@ -59,7 +59,7 @@ def stabilize(graph: AnyGraph, chips: Chips, *, program: AnyProgram = None) -> C
     ValueError
         The graph or the chips are refused, by the package or by the program (`Fault`).
     KeyError
-        A name is that of no vertex.
+        No vertex has a given name.
     ValueError
         A vertex would fire more than 2^40 times.
 
@@ -69,7 +69,7 @@ def stabilize(graph: AnyGraph, chips: Chips, *, program: AnyProgram = None) -> C
 
     Notes
     -----
-    Proved: the chips, which are those of every play to the end, in any order. Not proved: that they are passed on.
+    Proved: the chips, which are those of every play to the end, in any order. Not proved: that Python passes them on.
 
     Examples
     --------
@@ -82,7 +82,7 @@ def stabilize(graph: AnyGraph, chips: Chips, *, program: AnyProgram = None) -> C
 def add(
     graph: AnyGraph, first: Chips, second: Chips, *, program: AnyProgram = None
 ) -> Configuration:
-    """Returns the stable sum of two configurations: both added, then stabilized.
+    """Returns the stable sum of two configurations: the stabilization of their sum.
 
     Parameters
     ----------
@@ -91,19 +91,19 @@ def add(
     first, second : Chips
         The two configurations, in any form that `Graph.chips` takes.
     program : path, optional
-        The program to ask. By default the one that is found.
+        The program to run. By default, the program that the package finds.
 
     Returns
     -------
     Configuration
-        The stabilization of the sum. The recurrent configurations are a group under it.
+        The stabilization of the sum. With this operation, the recurrent configurations form a group.
 
     Raises
     ------
     ValueError
         The graph or the chips are refused, by the package or by the program (`Fault`).
     KeyError
-        A name is that of no vertex.
+        No vertex has a given name.
 
     See Also
     --------
@@ -111,7 +111,7 @@ def add(
 
     Notes
     -----
-    Proved: the stabilization. Not proved: that Python adds.
+    Proved: the stabilization. Not proved: Python's addition.
 
     Examples
     --------
@@ -137,14 +137,14 @@ def is_stable(graph: AnyGraph, chips: Chips) -> bool:
     Returns
     -------
     bool
-        Whether each vertex but the sink has fewer chips than edges lead out of it.
+        Whether each vertex but the sink has fewer chips than its out-degree.
 
     Raises
     ------
     ValueError
         The graph or the chips are refused, by the package or by the program (`Fault`).
     KeyError
-        A name is that of no vertex.
+        No vertex has a given name.
 
     See Also
     --------
@@ -152,7 +152,7 @@ def is_stable(graph: AnyGraph, chips: Chips) -> bool:
 
     Notes
     -----
-    Nothing of this is proved: Python compares each number with the vertex's degree.
+    None of this is proved: Python compares each number with the vertex's degree.
 
     Examples
     --------
@@ -216,19 +216,20 @@ def stabilize_many(
     workers : int, optional
         The number of threads. By default one.
     program : path, optional
-        The program to ask. By default the one that is found.
+        The program to run. By default, the program that the package finds.
 
     Returns
     -------
     numpy.ndarray of shape (n, vertices), or list of rows
-        The chips at the end, with a column for each vertex by its number, also for the sink. Without NumPy a list.
+        The chips at the end, with a column for each vertex, including the sink, in the order of the numbers. Without
+        NumPy, this is a list of rows.
 
     Raises
     ------
     ValueError
         The graph or the chips are refused, by the package or by the program (`Fault`).
     KeyError
-        A name is that of no vertex.
+        No vertex has a given name.
 
     See Also
     --------

@@ -20,16 +20,17 @@ MOST = 100_000
 
 
 class Divisor(AsArray, Sums):
-    """The chips of all vertices of an undirected graph, the sink among them: a mapping from names to numbers.
+    """The chips of all vertices of an undirected graph, including the sink: a mapping from names to numbers.
 
-    The numbers may be below 0. A divisor is added, subtracted and multiplied by numbers, and never changed.
+    The numbers may be below 0. Divisors can be added and subtracted, and multiplied by numbers. A divisor never
+    changes.
 
     Parameters
     ----------
     graph : Graph or path
-        The graph, each edge of which leads both ways: a family, `Graph.undirected`, or one of another tool.
+        An undirected graph: a family, `Graph.undirected`, or a graph of another tool.
     chips : Chips
-        The chips, in any form that `Graph.chips` takes, but with a number for the sink. One number is for all
+        The chips, in any form that `Graph.chips` takes, but with a number for the sink too. A single number is for all
         vertices.
 
     Attributes
@@ -54,7 +55,7 @@ class Divisor(AsArray, Sums):
     -----
     NumPy takes a divisor as the array of its numbers, and pandas as a Series.
 
-    Proved: the stabilizations that its methods ask for. Not proved: the sums between them, and the rank.
+    Proved: the stabilizations that its methods need. Not proved: the sums between them, and the rank.
 
     Examples
     --------
@@ -88,7 +89,8 @@ class Divisor(AsArray, Sums):
         return min(self.numbers) >= 0
 
     def fire(self, counts: Chips) -> Divisor:
-        """The divisor after these firings of the vertices, the sink too, legal or not; counts below 0 borrow."""
+        """The divisor after these firings of the vertices, including the sink, legal or not. Counts below 0 undo
+        firings."""
         left = list(self.numbers)
         for count, row in zip(Divisor(self.graph, counts).numbers, smith.undirected(self.graph)):
             for vertex, less in row.items():
@@ -96,9 +98,9 @@ class Divisor(AsArray, Sums):
         return Divisor(self.graph, left)
 
     def reduced(self, vertex: Hashable = None, *, program: AnyProgram = None) -> Divisor:
-        """The equivalent divisor that is q-reduced, with q the vertex, or the sink if none is named: no vertex but q is
-        below 0, and if any set of vertices without q fires together, one of them falls below 0.
-        Proved: the stabilizations. Not proved: the sums between them."""
+        """The equivalent divisor that is q-reduced, where q is the given vertex, or by default the sink. No vertex but
+        q is below 0. If any set of vertices without q fires together, one of these vertices falls below 0. Proved: the
+        stabilizations. Not proved: the sums between them."""
         graph = self.graph
         if vertex is not None:
             sink = graph.number(vertex)
@@ -112,26 +114,26 @@ class Divisor(AsArray, Sums):
         return Divisor(self.graph, left)
 
     def is_equivalent(self, other: Chips, *, program: AnyProgram = None) -> bool:
-        """Whether firings, also of the sink and backward, lead from this divisor to the other: linear equivalence.
-        Proved and not proved: as for `reduced`."""
+        """Whether firings, forward or backward and also of the sink, lead from this divisor to the other (linear
+        equivalence). Proved and not proved: as for `reduced`."""
         return not any((self - other).reduced(program=program).numbers)
 
     def effective(self, *, program: AnyProgram = None) -> Divisor | None:
-        """The equivalent divisor that is effective and reduced at the sink; None if none is effective.
+        """The equivalent divisor that is effective and reduced at the sink; None if no equivalent divisor is effective.
         Proved and not proved: as for `reduced`."""
         found = self.reduced(program=program)
         return found if found.is_effective() else None
 
     def rank(self, *, most: int = MOST) -> int:
-        """The rank, by Baker and Norine: the greatest r so that, whichever r chips are taken away, the rest is
-        equivalent to an effective divisor; -1 if this divisor is equivalent to none.
+        """The rank of Baker and Norine: the greatest r such that, whichever r chips are taken away, the rest is
+        equivalent to an effective divisor. It is -1 if this divisor is equivalent to no effective divisor.
 
-        By Riemann and Roch, r(D) - r(K - D) = degree - genus + 1 with K the canonical divisor. The search begins at D
-        or K - D, of which it takes the one of lower degree. It takes away one chip after another, and visits what is
-        left, up to equivalence: at most `order(graph)` divisors of each degree. More than `most` in all are a
-        ValueError. The default of 100,000 takes some 15 s on 5 by 5 squares, and suffices for each graph of up to
-        10,000 spanning trees and genus 10.
-        Nothing of this is proved, and the program is not asked."""
+        By the theorem of Riemann and Roch, r(D) - r(K - D) = degree - genus + 1, where K is the canonical divisor. The
+        search begins at D or K - D, whichever has the lower degree. It takes chips away one by one, and visits the
+        divisors that are left, up to equivalence: at most `order(graph)` of each degree. More than `most` in all raise
+        a ValueError. The default of 100,000 takes about 15 s on 5 by 5 squares, and suffices for each graph with up to
+        10,000 spanning trees and a genus up to 10. None of this is proved, and the program is not run.
+        """
         most = as_int(most, "the most divisors", 1)
         other = canonical_divisor(self.graph) - self
         if other.degree < self.degree:
@@ -140,7 +142,7 @@ class Divisor(AsArray, Sums):
 
 
 def genus(graph: AnyGraph) -> int:
-    """Returns the genus of an undirected graph: its edges, less its vertices, plus 1.
+    """Returns the genus of an undirected graph: the number of edges minus the number of vertices, plus 1.
 
     Parameters
     ----------
@@ -163,7 +165,7 @@ def genus(graph: AnyGraph) -> int:
 
     Notes
     -----
-    Nothing of this is proved: Python counts edges.
+    None of this is proved: Python counts edges.
 
     Examples
     --------
@@ -175,7 +177,7 @@ def genus(graph: AnyGraph) -> int:
 
 
 def canonical_divisor(graph: AnyGraph) -> Divisor:
-    """Returns the canonical divisor of an undirected graph: the degree of each vertex, less 2.
+    """Returns the canonical divisor of an undirected graph: the degree of each vertex minus 2.
 
     Parameters
     ----------
@@ -198,7 +200,7 @@ def canonical_divisor(graph: AnyGraph) -> Divisor:
 
     Notes
     -----
-    Nothing of this is proved: Python counts edges.
+    None of this is proved: Python counts edges.
 
     Examples
     --------

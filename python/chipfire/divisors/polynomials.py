@@ -43,11 +43,11 @@ def tutte_polynomial(
     graph : Graph or path
         An undirected graph, or the name of its file.
     most : int, optional
-        The most different minors with the same number of vertices to allow. They are counted first, which takes
-        seconds.
+        The greatest allowed number of different minors with the same number of vertices. The minors are counted first,
+        which takes seconds.
     progress : bool or callable, optional
-        True shows how many minors are done, by tqdm or in lines. A function is called with the number done and of
-        all.
+        True shows how many minors are done, by tqdm or in lines. A function is called with the number done and the
+        number of all.
 
     Returns
     -------
@@ -65,12 +65,12 @@ def tutte_polynomial(
 
     Notes
     -----
-    The edges of one vertex after the other are deleted and contracted, and equal minors are merged. A complete graph of
-    8 vertices takes 0.01 s, and 4 by 4 squares 1 s.
+    The edges are deleted and contracted, vertex by vertex, and equal minors are merged. A complete graph of 8 vertices
+    takes 0.01 s, and a grid of 4 by 4 squares takes 1 s.
 
-    Ctrl-C ends a call at once. The next call on the same graph goes on after the last vertex that was taken out.
+    Ctrl-C ends a call at once. The next call on the same graph continues after the last vertex that was finished.
 
-    Nothing of this is proved, and the program is not asked.
+    None of this is proved, and the program is not run.
 
     Examples
     --------
@@ -91,19 +91,21 @@ def level_polynomial(
 ) -> dict[int, int]:
     """Returns how many recurrent configurations have each level.
 
-    The level of a configuration is the number of its chips, minus the least number that a recurrent one has.
+    The level of a configuration is the number of its chips, minus the least number of chips of a recurrent
+    configuration.
 
     Parameters
     ----------
     graph : Graph or path
         The graph, or the name of its file.
     most : int, optional
-        The most recurrent configurations of a directed graph, or minors of an undirected one, to allow.
+        The greatest allowed number of recurrent configurations of a directed graph, or of minors of an undirected
+        graph.
     program : path, optional
-        The program to ask. By default the one that is found.
+        The program to run. By default, the program that the package finds.
     progress : bool or callable, optional
-        True shows how many minors are done, by tqdm or in lines. A function is called with the number done and of
-        all.
+        True shows how many minors are done, by tqdm or in lines. A function is called with the number done and the
+        number of all.
 
     Returns
     -------
@@ -113,7 +115,7 @@ def level_polynomial(
     Raises
     ------
     ValueError
-        There are more than `most`.
+        There are more configurations or minors than `most`.
 
     See Also
     --------
@@ -121,10 +123,10 @@ def level_polynomial(
 
     Notes
     -----
-    On an undirected graph it is the Tutte polynomial at x = 1, by Merino [1]_, and is found by deletion and
-    contraction. On others all recurrent configurations are visited. Loops are left out.
+    On an undirected graph, the result is the Tutte polynomial at x = 1, by a theorem of Merino [1]_. It is computed by
+    deletion and contraction. On a directed graph, all recurrent configurations are visited. Loops are left out.
 
-    Nothing of this is proved but the burning script of a directed graph.
+    None of this is proved except the burning script of a directed graph.
 
     References
     ----------
@@ -184,11 +186,11 @@ def avalanche_polynomial(
     graph : Graph or path
         The graph, or the name of its file.
     multivariable : bool, optional
-        Whether to count avalanches by their odometers in place of their sizes.
+        Whether to count avalanches by their odometers instead of their sizes.
     most : int, optional
-        The most recurrent configurations to allow.
+        The greatest allowed number of recurrent configurations.
     program : path, optional
-        The program to ask. By default the one that is found.
+        The program to run. By default, the program that the package finds.
 
     Returns
     -------

@@ -21,7 +21,7 @@ from chipfire.utils import as_int, random_generator, WithArea
 def random_drops(
     graph: AnyGraph, count: int, seed: Any, *, program: AnyProgram = None
 ) -> Iterator[Hashable]:
-    """Yields the names of random vertices but the sink, drawn evenly.
+    """Yields the names of random vertices, drawn uniformly from all vertices but the sink.
 
     Parameters
     ----------
@@ -30,11 +30,11 @@ def random_drops(
     count : int
         The number of names.
     seed : int, float, str, bytes, None, numpy.random.Generator or numpy.random.SeedSequence
-        The seed of a `random.Random`. A float like 3.0 is the same seed as 3, and the text "3" is another one. With
-        None no two calls draw the same. A Generator gives one number of 64 bits, and the next call gets its next one.
-        A SeedSequence gives each call the same.
+        The seed of a `random.Random`. A float like 3.0 is the same seed as 3, but the text "3" is a different seed.
+        With None, each call draws other names. A Generator gives each call its next number of 64 bits. A SeedSequence
+        gives every call the same number.
     program : path, optional
-        The program to ask. By default the one that is found.
+        The program to run. By default, the program that the package finds.
 
     Returns
     -------
@@ -54,7 +54,7 @@ def random_drops(
 
     Notes
     -----
-    Nothing of this is proved: Python draws the vertices.
+    None of this is proved: Python draws the vertices.
 
     Examples
     --------
@@ -84,9 +84,9 @@ class Avalanche(WithArea):
     extent, area : int
         The number of different vertices that fired.
     lost : int
-        The number of chips that firings brought to the sink: the dissipated ones.
+        The number of chips that firings sent to the sink (dissipated).
     fired : dict of hashable to int
-        How often each vertex fired, of those that did, by names.
+        How often each vertex fired, by names, without the vertices that did not fire.
     configuration : Configuration
         The chips after the avalanche.
 
@@ -136,7 +136,7 @@ def avalanche(
     vertex : hashable
         The name of the vertex that gets the chip.
     program : path, optional
-        The program to ask. By default the one that is found.
+        The program to run. By default, the program that the package finds.
 
     Returns
     -------
@@ -179,14 +179,14 @@ def avalanches(
     chips : Chips
         A stable configuration, on which the first chip falls.
     vertices : iterable of hashable
-        The names of the vertices on which chips fall. Each is read when its avalanche is asked for.
+        The names of the vertices on which chips fall. Each name is read when its avalanche is asked for.
     program : path, optional
-        The program to ask. By default the one that is found.
+        The program to run. By default, the program that the package finds.
 
     Returns
     -------
     iterator of Avalanche
-        One for each chip. Each chip falls on what the avalanche before it left.
+        An avalanche for each chip. Each chip falls on the configuration that the avalanche before it left.
 
     Raises
     ------

@@ -58,33 +58,34 @@ _OTHERS = ("made", "chips")
 class Chains(WithArea):
     """What `chains` returns: arrays with a row for each chain, of NumPy if it is installed, else lists of rows.
 
-    Two results add up to one, whose rows are those of the first and then those of the second. If these go on where
-    the first ends, the sum is what one call for all returns.
+    The sum of two results has the rows of the first, and then those of the second. If the second begins where the first
+    ends, the sum is what one call for all chains returns.
 
     Attributes
     ----------
     seeds : sequence of str
-        The seed of each chain: ``random_drops(graph, drops, seeds[k])`` yields the vertices of chain k. With ``on=`` these
-        are ``random.Random(seeds[k]).choices(names, weights, k=drops)``, with the names and the weights of `on` in its
-        order, and None for weights if it has only names.
+        The seed of each chain: ``random_drops(graph, drops, seeds[k])`` yields the vertices of chain k. With ``on=``,
+        they are ``random.Random(seeds[k]).choices(names, weights, k=drops)``, with the names and weights of `on` in its
+        order. If `on` has only names, the weights are None.
     size : array of shape (n, drops)
-        The number of firings of each drop, 0 for those that were not made.
+        The number of firings of each drop, 0 for drops that were not made.
     extent, area : array of shape (n, drops)
         The number of different vertices that fired.
     lost : array of shape (n, drops)
-        The number of chips that firings brought to the sink: the dissipated ones.
+        The number of chips that firings sent to the sink (dissipated).
     made : array of shape (n,)
         How many drops each chain made.
     chips : array of shape (n, vertices)
-        The chips after the last drop, with a column for each vertex by its number. The sink has what it got in all.
+        The chips after the last drop, with a column for each vertex, in the order of the numbers. The sink has all
+        chips that it got.
     fired : Firings or None
         Which vertices each drop fired, if that was asked for.
     seed : int, float, str, bytes or None
-        The seed from which `chains` plays the same again; None of chains of several seeds.
+        The seed from which `chains` plays the same again; None for chains of several seeds.
     first : int
         The number of the first chain of that seed.
     duration : array of shape (n, drops) or None
-        The number of rounds of each drop, in each of which every legal vertex fires once, if that was asked for.
+        The number of rounds of each drop, if that was asked for. In a round, every legal vertex fires once.
     burn_in : int
         How many chips were dropped on each start before the first drop; 0 if starts were given or drawn.
 
@@ -95,7 +96,7 @@ class Chains(WithArea):
     Notes
     -----
     Proved: sizes, areas, dissipated chips, durations, what fired, and the chips at the end. Not proved: that Python
-    passes them on, and adds results.
+    passes them on, and sums of results.
 
     Examples
     --------
@@ -139,15 +140,15 @@ class Chains(WithArea):
         return sizes_figure(self.size, f"Chains: {self._title()}")
 
     def histogram(self, of: str = "size") -> dict[int, int]:
-        """How many drops of all chains have each size that occurs, ascending; or each `area`, `lost`, or `duration`. Drops
-        that were not made do not count."""
+        """How many drops of all chains have each size that occurs, in ascending order of sizes; or the same for `area`,
+        `lost` or `duration`. Drops that were not made do not count."""
         rows = zip(column_of(self, of), self.made)
         return histogram_of(row[:made] for row, made in rows)
 
     def to_dataframe(self) -> Any:
-        """The columns `size`, `extent`, `lost` and, if it is there, `duration` as a DataFrame of pandas, of 64 bits,
-        with a row for each drop that was made. Its index has the numbers of the `chain` and of its `drop`, from 0 on.
-        Raises ImportError without pandas."""
+        """A DataFrame of pandas with the 64-bit columns `size`, `extent`, `lost` and, if it was measured, `duration`.
+        It has a row for each drop that was made. Its index has the numbers of the `chain` and of the `drop`, both from
+        0. Raises ImportError without pandas."""
         pandas = import_optional("pandas", "a table is one of pandas")
         numpy = import_optional("numpy", "a table of pandas takes NumPy")
         names = [*COLUMNS] + ["duration"] * (self.duration is not None)
@@ -158,7 +159,7 @@ class Chains(WithArea):
         return pandas.DataFrame({name: it[is_made] for name, it in columns.items()}, index)
 
     def save(self, file: FileName) -> None:
-        """Writes all of it to a file of arrays (`.npz`) of NumPy, which `Chains.load` reads, as `Drops.save` does."""
+        """Writes the chains to an `.npz` file of NumPy, as `Drops.save` does. `Chains.load` reads this file."""
         numpy = archive.numpy_of_files()
         seed = archive.plain(self.seed, "the seed")
         said = {"seeds": self.seeds, "seed": seed, "first": self.first, "names": None}
@@ -173,7 +174,7 @@ class Chains(WithArea):
 
     @classmethod
     def load(cls, file: FileName) -> Chains:
-        """The chains of a file that `save` wrote; others are refused as by `Drops.load`."""
+        """Returns the chains of a file that `save` wrote. Other files are refused, as by `Drops.load`."""
         return archive.load(file, "Chains", _chains_of)
 
 
@@ -282,9 +283,9 @@ def chains(
 ) -> Chains | Histograms:
     """Drops chips on random vertices in many independent chains.
 
-    Each chain has a seed of its own and `drops` drops, each on what the avalanche of the one before it left. Chains
-    have numbers from `first` on. A chain depends on `seed` and its number alone: not on other chains, nor on the
-    threads that play it.
+    Each chain has its own seed and `drops` drops. Each drop falls on the chips that the drop before it left. Chains are
+    numbered from `first`. A chain depends only on `seed` and its number, not on other chains or on the threads that
+    play it.
 
     Parameters
     ----------
@@ -295,52 +296,55 @@ def chains(
     drops : int
         The number of drops of each chain.
     seed : int, float, str, bytes, None, numpy.random.Generator or numpy.random.SeedSequence
-        The seed from which the seeds of the chains are made, as in `random_drops`. The result has the seed that was
-        drawn if this is None or a Generator.
+        The seed from which the seeds of the chains are made, as in `random_drops`. If this is None or a Generator, the
+        result has the seed that was drawn.
     first : int, optional
         The number of the first chain.
     chips : Chips, or array of shape (n, vertices) or (n, vertices - 1), optional
-        The start of all chains, or of each of them. By default each begins with a `random_recurrent` configuration of
-        its own, from which on the drops are stationary. On a directed graph none can be drawn: each chain begins there
-        with the maximal stable configuration, which is recurrent, and a burn-in.
+        One start for all chains, or a start for each chain. By default, each chain begins with its own
+        `random_recurrent` configuration, so that its drops are stationary. On a directed graph, no such configuration
+        can be drawn. There, each chain begins with the maximal stable configuration, which is recurrent, and a burn-in.
     burn_in : int, optional
-        How many chips are dropped on each start before the first drop, each on any vertex, the sink too, drawn evenly:
-        ``random.Random(seeds[k] + " burn-in").choices(range(graph.vertices), k=burn_in)`` has their numbers in chain k.
-        By default 0; on a directed graph without `chips`, twice the number of vertices times the square of the largest
-        degree. By a bound on the eigenvalues of such drops, each part of the difference between the distribution of
-        starts and the uniform one shrinks to less than 0.0004 of itself.
+        How many chips are dropped on each start before the first drop. Each falls on a vertex drawn uniformly from all
+        vertices, including the sink. In chain k, the numbers of these vertices are
+        ``random.Random(seeds[k] + " burn-in").choices(range(graph.vertices), k=burn_in)``. By default 0; on a directed
+        graph without `chips`, twice the number of vertices times the square of the largest degree. By a bound on the
+        eigenvalues of such drops, this default shrinks each component of the difference between the distribution of
+        starts and the uniform distribution to less than 0.0004 of itself.
     on : iterable of hashable, or mapping of names to weights, optional
-        The vertices on which chips fall. By default all but the sink, alike.
+        The vertices on which chips fall. By default, all vertices but the sink, with equal probability.
     amounts : int or sequence of int, optional
         The number of chips of each drop. By default one.
     workers : int, optional
         The number of threads. By default one for each processor of this process.
     executor : concurrent.futures.Executor, optional
-        What plays in place of threads: an executor of `concurrent.futures`, Dask or mpi4py, whose processes have this
+        An executor of `concurrent.futures`, Dask or mpi4py, which plays instead of threads. Its processes have this
         package and its library.
     fired : bool, optional
-        Whether to return which vertices each drop fires. This takes NumPy.
+        Whether to return which vertices each drop fires. This needs NumPy.
     durations : bool, optional
-        Whether to return the number of rounds of each drop. Drops are then played in rounds, in each of which every
-        legal vertex fires once.
+        Whether to return the number of rounds of each drop. Drops are then played in rounds: in a round, every legal
+        vertex fires once.
     until : {"loss", "spans"}, optional
-        Ends a chain with the first drop that loses a chip to the sink, or whose firings touch two opposite borders of
-        a grid of two directions. This takes NumPy. "spans" does not know which borders are joined.
+        Where a chain ends. With "loss", it ends after the first drop that loses a chip to the sink. With "spans", it
+        ends after the first drop whose firings touch two opposite borders of a two-dimensional grid, joined or not.
+        This needs NumPy.
     collect : {"columns", "histogram"}, optional
-        Whether to return a number for each drop, or histograms alone, whose memory does not grow with the drops, unless
-        `amounts` has a number for each. Histograms go with none of `fired`, `until` and `checkpoint`.
+        Whether to return a number for each drop, or only histograms. The memory of histograms does not grow with the
+        number of drops, unless `amounts` has a number for each drop. Histograms cannot be combined with `fired`,
+        `until` or `checkpoint`.
     progress : bool or callable, optional
-        True shows progress by tqdm or in lines. A function is called with the number of drops made and of all. At the
-        end all count as made, also those that `until` left out.
+        True shows progress by tqdm or in lines. A function is called with the number of drops made and the number of
+        all drops. At the end, all drops count as made, including those that `until` left out.
     checkpoint : path, optional
-        A file to which parts are written as they are done. Another call with the same arguments, or with more chains,
-        goes on from it. Its numbers are trusted, so nobody else should be able to write to it.
+        A file to which each part is written when it is done. A later call with the same arguments, or with more chains,
+        continues from this file. The numbers in the file are trusted, so nobody else should be able to write to it.
     partial : bool, optional
-        Whether an interrupt returns what was made until then, in place of KeyboardInterrupt. Both come within about a
-        second. A long drop, and others of the same call of the library, are missing if they have not ended by then: a
-        thread finishes them, and their results are discarded. Chains that had not begun have the chips of their starts,
-        without a burn-in, or 0 chips beside those of loops if their starts had not been drawn. A second interrupt is
-        raised.
+        Whether an interrupt returns the drops made until then, instead of raising KeyboardInterrupt. Either happens
+        within about a second. A long drop that has not ended by then is missing, and so are the other drops of the same
+        call of the library: a thread finishes them, and their results are discarded. Chains that had not begun have the
+        chips of their starts, without a burn-in. If their starts had not been drawn, they have only the chips of loops.
+        A second interrupt is raised.
 
     Returns
     -------
@@ -357,7 +361,7 @@ def chains(
     ValueError
         Arguments do not fit together, or a checkpoint is that of another call.
     FileNotFoundError
-        The folder of a checkpoint is not there.
+        The folder of the checkpoint does not exist.
 
     See Also
     --------
@@ -365,8 +369,8 @@ def chains(
 
     Notes
     -----
-    Proved: sizes, areas, dissipated chips, durations and counts of the drops, and, but for drops of many chips, which
-    one ends a chain. Not proved: that vertices are evenly drawn, and which of them are at borders.
+    Proved: sizes, areas, dissipated chips, durations and counts of the drops and, except for drops of many chips, which
+    drop ends a chain. Not proved: that vertices are drawn uniformly, and which vertices are at borders.
 
     Examples
     --------

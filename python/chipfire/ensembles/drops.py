@@ -44,7 +44,7 @@ _BYTES = 2**20
 
 @dataclass(frozen=True, repr=False, eq=False)
 class Drops(WithArea):
-    """What drops caused, in columns with a number for each drop, in their order.
+    """The avalanches of drops, in columns with a number for each drop, in the order of the drops.
 
     The columns are arrays of NumPy if it is installed, else of the standard library.
 
@@ -55,13 +55,13 @@ class Drops(WithArea):
     extent, area : array of shape (n,)
         The number of different vertices that fired.
     lost : array of shape (n,)
-        The number of chips that firings brought to the sink: the dissipated ones.
+        The number of chips that firings sent to the sink (dissipated).
     report : Report
-        The report of a play from all chips together, those at the start and those that were dropped.
+        The report of one play of all chips: those at the start and those that were dropped.
     fired : Firings or None
         Which vertices each drop fired, if that was asked for.
     duration : array of shape (n,) or None
-        The number of rounds of each drop, in each of which every legal vertex fires once, if that was asked for.
+        The number of rounds of each drop, if that was asked for. In a round, every legal vertex fires once.
 
     See Also
     --------
@@ -69,8 +69,8 @@ class Drops(WithArea):
 
     Notes
     -----
-    A vertex that has fired 2^40 times in all stops the play of a drop. This drop is the last, and has no row;
-    `report.closed` is then false.
+    A vertex that has fired 2^40 times in all stops the play of a drop. This drop is the last, and has no row. Then
+    `report.closed` is false.
 
     Proved: each row, and the report. Not proved: that Python passes them on, and the histogram.
 
@@ -126,12 +126,13 @@ class Drops(WithArea):
         return self.report.configuration
 
     def histogram(self, of: str = "size") -> dict[int, int]:
-        """How many drops have each size that occurs, ascending; or each `area`, `lost`, or `duration`."""
+        """How many drops have each size that occurs, in ascending order of sizes; or the same for `area`, `lost` or
+        `duration`."""
         return histogram_of([column_of(self, of)])
 
     def to_dataframe(self) -> Any:
-        """The columns `size`, `extent`, `lost` and, if it is there, `duration` as a DataFrame of pandas, of 64 bits. Its
-        index `drop` is the number of each, from 0 on. Raises ImportError without pandas."""
+        """A DataFrame of pandas with the 64-bit columns `size`, `extent`, `lost` and, if it was measured, `duration`.
+        Its index `drop` has the numbers of the drops, from 0. Raises ImportError without pandas."""
         pandas = import_optional("pandas", "a table is one of pandas")
         columns = {name: getattr(self, name) for name in self._names()}
         return pandas.DataFrame(columns, pandas.RangeIndex(len(self), name="drop"), dtype="int64")
@@ -141,9 +142,9 @@ class Drops(WithArea):
         return [*COLUMNS] + ["duration"] * (self.duration is not None)
 
     def save(self, file: FileName) -> None:
-        """Writes all of it, the graph too, to a file of arrays (`.npz`) of NumPy, which `Drops.load` reads. An existing
-        file is replaced once the new one is whole, and stays if an error comes before. Names of vertices are numbers,
-        texts, bytes, None, and tuples of them; others are a TypeError. Without NumPy that is an ImportError.
+        """Writes the drops and the graph to an `.npz` file of NumPy, which `Drops.load` reads. An existing file is
+        replaced when the new file is complete, and stays if an error comes before that. Names of vertices may be
+        numbers, texts, bytes, None, and tuples of these; other names raise TypeError. Raises ImportError without NumPy.
         """
         numpy = archive.numpy_of_files()
         report = self.report
@@ -162,8 +163,8 @@ class Drops(WithArea):
 
     @classmethod
     def load(cls, file: FileName) -> Drops:
-        """The drops of a file that `save` wrote. Other files, and those of a later version, are a ValueError that says
-        so. Nothing in a file is run."""
+        """Returns the drops of a file that `save` wrote. Other files, and files of a later version, raise a ValueError
+        that says so. No code in a file is run."""
         return archive.load(file, "Drops", _drops_of)
 
 

@@ -28,18 +28,18 @@ Piece = tuple[int, Parts]
 class Firings(NamedTuple):
     """Which vertices each drop fired, as the rows of a sparse matrix.
 
-    The entries of drop d are those from ``offsets[d]`` to ``offsets[d + 1]``. Those of drop d of chain k have the number
-    ``k * drops + d`` in place of d.
+    The entries of drop d begin at ``offsets[d]``, and end before ``offsets[d + 1]``. For drop d of chain k, use ``k *
+    drops + d`` instead of d.
 
     Attributes
     ----------
     offsets : array of shape (n + 1,)
         Where the entries of each of n drops begin.
     vertices : array
-        The names of the vertices that fired, of each drop in the order of their numbers. Names that are no whole
-        numbers stand in an array of objects.
+        The names of the vertices that fired: those of each drop are in the order of the vertices' numbers. Names that
+        are not whole numbers are in an array of objects.
     counts : array
-        How often they fired.
+        How often each of these vertices fired.
 
     See Also
     --------
@@ -47,7 +47,8 @@ class Firings(NamedTuple):
 
     Notes
     -----
-    A vertex that fires takes 12 bytes, or 16 in a graph with names, and up to 24 or 32 before all are in one array.
+    A vertex that fires takes 12 bytes, or 16 bytes in a graph with names. Before all are in one array, it takes up to
+    24 bytes, or 32 bytes with names.
 
     Proved: which vertices fired, and the counts. Not proved: that Python passes them on, and puts them in order.
 
@@ -63,17 +64,17 @@ class Firings(NamedTuple):
     counts: Any
 
     def to_scipy(self, graph: Graph) -> Any:
-        """The counts as a sparse matrix of SciPy (`csr_array`), with a row for each drop and a column for each vertex, by
-        its number. Raises ImportError without SciPy."""
+        """The counts as a sparse matrix of SciPy (`csr_array`), with a row for each drop and a column for each vertex,
+        in the order of the numbers. Raises ImportError without SciPy."""
         sparse = import_optional("scipy.sparse", "a sparse matrix is one of SciPy")
         shape = (len(self.offsets) - 1, graph.vertices)
         return sparse.csr_array((self.counts, self._numbers(graph), self.offsets), shape)
 
     def radii(self, graph: Graph, vertices: Any) -> tuple[Any, Any]:
-        """Two radii of each drop on a square grid of two directions with open borders, or on a region of one, in the
-        lengths of an edge, and 0 if nothing fired. Other graphs are a ValueError. The radius is the greatest distance
-        of a vertex that fired from the vertex of the drop, which `vertices` has. The gyration radius is the root of the
-        mean square distance of the vertices that fired from their centre."""
+        """Two radii of each drop, where an edge has length 1; 0 if nothing fired. The graph is a two-dimensional square
+        grid with open borders, or a region of one; other graphs raise ValueError. The radius is the greatest distance
+        of a vertex that fired from the vertex of the drop, which `vertices` has. The gyration radius is the root mean
+        square distance of the vertices that fired from their centre."""
         numpy = import_optional("numpy")
         places = _open_places(numpy, graph)
         origins = places[[graph.number(name) for name in vertices]]

@@ -16,7 +16,7 @@ from chipfire.utils import as_int, FileName, import_optional, WithArea
 
 @dataclass(frozen=True, repr=False, eq=False)
 class Histograms(WithArea):
-    """What `chains` returns with ``collect="histogram"``, with a place for each chain. Results add up as `Chains` do.
+    """Histograms for each chain, which `chains` returns with ``collect="histogram"``. They add up as `Chains` do.
 
     Attributes
     ----------
@@ -25,21 +25,23 @@ class Histograms(WithArea):
     size : list of Counter
         For each chain how many drops have each size that occurs.
     extent, area : list of Counter
-        The same of the numbers of different vertices that fired.
+        The same for the number of different vertices that fired.
     lost : list of Counter
-        The same of the dissipated chips.
+        The same for the number of dissipated chips.
     sums : dict of (str, str) to list of int
-        The sums of products over the drops of each chain, by two columns: ``sums["size", "lost"]``.
+        For each two columns, the sum of their products over the drops of each chain: ``sums["size", "lost"]``.
     made : array of shape (n,)
         How many drops each chain made.
     chips : array of shape (n, vertices)
-        The chips after the last drop, with a column for each vertex by its number. The sink has what it got in all.
+        The chips after the last drop, with a column for each vertex, in the order of the numbers. The sink has all
+        chips that it got.
     seed : int, float, str, bytes or None
-        The seed from which `chains` plays the same again; None of chains of several seeds.
+        The seed from which `chains` plays the same again; None for chains of several seeds.
     first : int
         The number of the first chain of that seed.
     duration : list of Counter or None
-        For each chain how many drops last for each number of rounds, if durations were asked for. `sums` have them too.
+        For each chain how many drops last for each number of rounds, if durations were asked for. Then `sums` has
+        durations too.
     burn_in : int
         How many chips were dropped on each start before the first drop, as in `Chains`.
 
@@ -49,7 +51,7 @@ class Histograms(WithArea):
 
     Notes
     -----
-    Proved: the numbers of each drop. Not proved: that Python counts and adds.
+    Proved: the numbers of each drop. Not proved: Python's counts and sums.
 
     Examples
     --------
@@ -93,7 +95,8 @@ class Histograms(WithArea):
         return self
 
     def save(self, file: FileName) -> None:
-        """Writes all of it to a file of arrays (``.npz``) of NumPy, which `Histograms.load` reads, as `Drops.save` does."""
+        """Writes the histograms to an ``.npz`` file of NumPy, as `Drops.save` does. `Histograms.load` reads this
+        file."""
         numpy = archive.numpy_of_files()
         arrays = {name: numpy.array(getattr(self, name), "i8") for name in ("made", "chips")}
         for name in self._names():
@@ -106,12 +109,12 @@ class Histograms(WithArea):
 
     @classmethod
     def load(cls, file: FileName) -> Histograms:
-        """The histograms of a file that `save` wrote; others are refused as by `Drops.load`."""
+        """Returns the histograms of a file that `save` wrote. Other files are refused, as by `Drops.load`."""
         return archive.load(file, "Histograms", _histograms_of)
 
     def total(self, of: str = "size") -> dict[int, int]:
-        """How many drops of all chains have each size that occurs, ascending; or each `area`, `lost`, or `duration`, which
-        is also named `durations`, as the option is."""
+        """How many drops of all chains have each size that occurs, in ascending order of sizes; or the same for `area`,
+        `lost` or `duration`. The option's name `durations` works too."""
         counts: Counter[int] = Counter()
         for its in column_of(self, of):
             counts.update(its)

@@ -21,8 +21,8 @@ from chipfire.utils import as_int, FILE, MAX_CHIPS, MAX_LIMIT
 
 
 class Drop(NamedTuple):
-    """What one drop on a pile caused: the number of firings, that of different vertices that fired, and that of chips
-    which the firings brought to the sink."""
+    """What one drop on a pile caused: the number of firings, the number of different vertices that fired, and the
+    number of chips that firings sent to the sink."""
 
     size: int
     extent: int
@@ -49,10 +49,10 @@ if hasattr(os, "register_at_fork"):
 
 
 class Pile:
-    """Chips on a graph that are kept stable, and on which more are dropped.
+    """Chips on a graph that are kept stable, and on which you drop more chips.
 
-    The graph is made once, so a drop costs its firings alone. A pile is a context manager: its end, or `close`, gives
-    the memory back.
+    The graph is made once, so a drop costs only its firings. A pile is a context manager: the end of its block, or
+    `close`, frees the memory.
 
     Parameters
     ----------
@@ -61,10 +61,10 @@ class Pile:
     chips : Chips, optional
         The chips at the start, which are stabilized. By default none.
     limit : int, optional
-        How often each vertex may fire in all plays together, from 0 to 2^40, which is the default. If it stops a
-        play, `is_stopped` is true, and each later drop is a `Fault` with number 13, until `put`.
+        How often each vertex may fire in all plays together, from 0 to 2^40, which is the default. If the limit stops a
+        play, `is_stopped` is true, and each later drop raises a `Fault` with number 13, until `put`.
     program : path, optional
-        The program to ask. By default the one that is found.
+        The program to run. By default, the program that the package finds.
 
     Raises
     ------
@@ -77,12 +77,12 @@ class Pile:
 
     Notes
     -----
-    The library, if it is there, keeps the pile in this process and plays in portions. An interrupt is seen between two,
-    and leaves the pile as it was before the call. Without the library the program plays, with the same results. Threads
-    may share a pile: one call waits for another. A forked child goes on with a pile of its own. A copy and a pickle
-    have graph, chips, counts and limit.
+    If the library is there, it keeps the pile in this process and plays in portions. An interrupt takes effect between
+    two portions, and leaves the pile as it was before the call. Without the library, the program plays, with the same
+    results. Threads may share a pile: one call waits for another. A forked child continues with its own pile. A copy or
+    a pickle has the graph, the chips, the counts and the limit.
 
-    Proved: the chips, the counts and the numbers of each drop. Not proved: that Python passes them on, and adds.
+    Proved: the chips, the counts and the numbers of each drop. Not proved: that Python passes them on, and its sums.
 
     Examples
     --------
@@ -135,19 +135,19 @@ class Pile:
 
     @property
     def chips(self) -> tuple[int, ...]:
-        """The chips that lie there, by the numbers of the vertices."""
+        """The chips of each vertex, in the order of the numbers."""
         with self._alone():
             return tuple(self.graph.with_loops(self._ends()[0]))
 
     @property
     def fired(self) -> tuple[int, ...]:
-        """How often each vertex has fired since chips were put there, by the vertices' numbers."""
+        """How often each vertex has fired since the pile was made or `put` was called, in the order of the numbers."""
         with self._alone():
             return tuple(self._ends()[1])
 
     @property
     def configuration(self) -> Configuration:
-        """The chips that lie there, by names."""
+        """The chips of all vertices but the sink, by names."""
         return Configuration(self.graph, self.chips)
 
     @property
@@ -157,8 +157,8 @@ class Pile:
             return self._report()
 
     def put(self, chips: Chips, limit: int | None = None) -> None:
-        """Replaces all chips by others, which are stabilized, with counts from 0. Without a limit the one before stays.
-        Chips that are refused change nothing."""
+        """Replaces all chips by others, stabilizes them, and counts firings from 0. Without a limit, the old limit
+        stays. Chips that are refused change nothing."""
         start = self._start_of(chips)
         with self._alone():
             _refuse_more(start, self.graph)
@@ -195,9 +195,9 @@ class Pile:
         fired: bool = False,
         durations: bool = False,
     ) -> Drops:
-        """Drops one chip after another on these vertices, or as many at a time as `amounts` say, as `chipfire.drops` does,
-        with what fired and durations if that is asked for, which takes the library. If the limit stops a play, the drop
-        is the last, and has no row; `report.closed` is false then.
+        """Makes drops on these vertices one after another, as `chipfire.drops` does: one chip each, or as many as
+        `amounts` say. `fired` and `durations` need the library. If the limit stops the play of a drop, this drop is the
+        last, and has no row. Then `report.closed` is false.
         """
         at, many = dropped_on(self.graph, vertices, amounts)
         with self._alone():
@@ -209,7 +209,7 @@ class Pile:
             return self._by_program(at, many)
 
     def close(self) -> None:
-        """Gives the memory back. The pile cannot be used any more."""
+        """Frees the memory. After this, the pile cannot be used."""
         with self._alone(is_open=False):
             self._is_closed = True
             pile = self._kept

@@ -39,15 +39,15 @@ class PowerLaw(NamedTuple):
     Attributes
     ----------
     exponent : float
-        The exponent by which the observed sizes are the most probable.
+        The exponent for which the observed sizes are most probable.
     error : float
-        Its standard error, if sizes do not depend on one another.
+        The standard error of the exponent, if the sizes are independent.
     least, most : int
         The range of sizes.
     used : int
-        How many sizes lay in the range.
+        How many sizes lie in the range.
     distance : float or None
-        The distance of Kolmogorov and Smirnov between the sizes and the law, if it was asked for.
+        The Kolmogorov-Smirnov distance between the sizes and the law, if it was asked for.
     p_value : float or None
         The share of samples from the law whose distance is at least as large, if there were trials.
 
@@ -57,7 +57,7 @@ class PowerLaw(NamedTuple):
 
     Notes
     -----
-    Nothing of this is proved.
+    None of this is proved.
 
     Examples
     --------
@@ -87,15 +87,16 @@ def power_law(
     Parameters
     ----------
     sizes : iterable of int, or mapping of int to int
-        The sizes one by one, or a histogram. Sizes of 0 and out of the range are left out. At least two differ.
+        The sizes one by one, or a histogram. Sizes that are 0 or out of the range are left out. At least two sizes must
+        differ.
     least : int or "best", optional
-        The least size of the range, 1 or more. With "best" up to 64 of the observed sizes are tried, and the one whose
-        law has the least Kolmogorov-Smirnov distance is taken. The range of each is at least a decade, if there is one.
-        This takes NumPy.
+        The least size of the range, 1 or more. With "best", up to 64 of the observed sizes are tried, and the size
+        whose law has the least Kolmogorov-Smirnov distance is taken. The range above each size tried is at least a
+        decade, if possible. This needs NumPy.
     most : int, optional
         The largest size of the range. By default the largest observed one. The range has up to 10,000,000 sizes.
     trials : int, optional
-        How many samples are drawn from the law, and fitted in the same way, for a p-value. This takes NumPy.
+        How many samples are drawn from the law, and fitted in the same way, for a p-value. This needs NumPy.
     seed : int, optional
         The seed of the samples.
 
@@ -107,7 +108,7 @@ def power_law(
     Raises
     ------
     ImportError
-        NumPy is missing, and a best least size or trials are asked for.
+        NumPy is missing, and `least` is "best" or `trials` is above 0.
     ValueError
         No two sizes in the range differ, or the range is too long.
 
@@ -117,14 +118,14 @@ def power_law(
 
     Notes
     -----
-    The border of a grid ends the law of avalanches, so `most` is best far below the largest size. A p-value below 0.1
-    speaks against the law, if there are 100 trials or more [1]_. Below a best least size, samples are drawn from the
-    sizes observed there.
+    The border of a grid cuts the power law of avalanches off, so choose `most` far below the largest size. A p-value
+    below 0.1 speaks against the law, if there are 100 trials or more [1]_. Below a best least size, samples are drawn
+    from the sizes observed there.
 
-    Error and p-value are those of sizes that do not depend on one another. Drops of one chain do, so the scatter of the
+    The error and the p-value assume independent sizes. Drops of one chain are not independent, so the scatter of the
     exponents of several chains is a better error.
 
-    Nothing of this is proved.
+    None of this is proved.
 
     References
     ----------
@@ -275,7 +276,7 @@ def plot_sizes(
     most: int | None = None,
     axes: Any = None,
 ) -> Any:
-    """Draws by Matplotlib how many avalanches have each size, and their power law.
+    """Draws with Matplotlib how many avalanches have each size, and their power law.
 
     Parameters
     ----------
@@ -289,7 +290,7 @@ def plot_sizes(
     Returns
     -------
     matplotlib.axes.Axes
-        The axes. Each point stands for the sizes from a power of 2 up to the next, at their mean number.
+        The axes. Each point stands for the sizes from a power of 2 up to the next one, at their mean number.
 
     Raises
     ------
@@ -304,7 +305,7 @@ def plot_sizes(
 
     Notes
     -----
-    Nothing of this is proved.
+    None of this is proved.
 
     Examples
     --------

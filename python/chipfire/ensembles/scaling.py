@@ -35,7 +35,7 @@ class Moments(NamedTuple):
 
     Notes
     -----
-    Nothing of this is proved.
+    None of this is proved.
 
     Examples
     --------
@@ -92,7 +92,7 @@ def moments(
     The bootstrap [1]_ draws whole chains, as many as there are, with replacement. So drops of one chain may depend on
     one another.
 
-    Nothing of this is proved.
+    None of this is proved.
 
     References
     ----------
@@ -142,11 +142,11 @@ class Collapse:
     dimension : float
         The dimension D of avalanches.
     errors : (float, float)
-        The standard errors of both, by the scatter of the moments about the fit.
+        The standard errors of the exponent and the dimension, by the scatter of the moments about the fit.
     orders : array of shape (q,)
         The orders of the moments that were used.
     slopes : array of shape (q,)
-        The power of the length by which each moment grows.
+        For each moment, the power of the length with which it grows.
 
     See Also
     --------
@@ -154,7 +154,7 @@ class Collapse:
 
     Notes
     -----
-    Nothing of this is proved.
+    None of this is proved.
 
     Examples
     --------
@@ -170,9 +170,10 @@ class Collapse:
     _counts: Mapping[float, Mapping[int, int]]
 
     def plot(self, axes: Any = None) -> Any:
-        """Draws by Matplotlib, into axes or new ones, which it returns: `size ** exponent` times the probability of each
-        size over `size / length ** dimension`. Where the law holds the points of all lengths lie on one curve. Each
-        point has the sizes from a power of 2 up to the next."""
+        """Draws with Matplotlib `size ** exponent` times the probability of each size against `size / length **
+        dimension`. Draws into the given axes or new ones, and returns them. Where the law holds, the points of all
+        lengths lie on one curve. Each point stands for the sizes from a power of 2 up to the next one.
+        """
         pyplot = import_optional("matplotlib.pyplot", "a plot is one of Matplotlib")
         axes = pyplot.subplots()[1] if axes is None else axes
         for length, counts in sorted(self._counts.items()):
@@ -197,8 +198,8 @@ def collapse(
     Parameters
     ----------
     sizes : mapping of float to sizes
-        For each length its avalanches: sizes one by one, rows of them, or a histogram. Sizes of 0 are left out. There
-        are at least two lengths.
+        For each length its avalanches: sizes one by one, rows of sizes, or a histogram. Sizes of 0 are left out. At
+        least two lengths are needed.
     orders : sequence of float, optional
         The orders q of the moments.
 
@@ -220,10 +221,10 @@ def collapse(
 
     Notes
     -----
-    Lines are fitted by least squares to the logarithms of the moments, and one line to their slopes [1]_. Corrections
-    to scaling are not fitted, so leave small systems out.
+    Lines are fitted by least squares to the logarithms of the moments, and another line to the slopes of these lines
+    [1]_. Corrections to scaling are not fitted, so leave small systems out.
 
-    Nothing of this is proved.
+    None of this is proved.
 
     References
     ----------

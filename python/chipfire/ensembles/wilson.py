@@ -51,7 +51,7 @@ def random_recurrent(
     progress: AnyProgress = None,
     partial: bool = False,
 ) -> Configuration | list[Configuration]:
-    """Returns random recurrent configurations of an undirected graph, each equally probable.
+    """Returns random recurrent configurations of an undirected graph, drawn uniformly.
 
     Parameters
     ----------
@@ -60,13 +60,13 @@ def random_recurrent(
     seed : int, float, str, bytes, None, numpy.random.Generator or numpy.random.SeedSequence
         The seed, as in `random_drops`.
     count : int, optional
-        How many configurations to return, as a list. By default one, by itself.
+        How many configurations to return, as a list. By default, one configuration, not in a list.
     progress : bool or callable, optional
-        True to show how many are drawn, by a bar of tqdm if it is installed, else by lines on standard error. A function
-        gets how many are drawn, and how many there are.
+        True shows how many configurations have been drawn, by a bar of tqdm if it is installed, else by lines on
+        standard error. A function is called with the number drawn and the number of all.
     partial : bool, optional
-        Whether an interrupt returns the list of those that were drawn until then, in place of KeyboardInterrupt, as in
-        `chains`. Without `count` there is no list, and it is raised.
+        Whether an interrupt returns the list of the configurations drawn until then, instead of raising
+        KeyboardInterrupt, as in `chains`. Without `count` there is no list, so KeyboardInterrupt is raised.
 
     Returns
     -------
@@ -76,7 +76,7 @@ def random_recurrent(
     Raises
     ------
     ValueError
-        The graph is directed. Edges into the sink need none back.
+        The graph is directed. Edges into the sink need no reverse edges.
 
     See Also
     --------
@@ -84,10 +84,11 @@ def random_recurrent(
 
     Notes
     -----
-    Wilson's algorithm [1]_ draws a spanning tree, and the burning bijection of Majumdar and Dhar [2]_ makes chips of
-    it. The library draws them. Without it Python draws the same, slower.
+    Wilson's algorithm [1]_ draws a spanning tree, and the burning bijection of Majumdar and Dhar [2]_ turns the tree
+    into chips. The library draws the configurations. Without the library, Python draws the same ones, but slower.
 
-    Proved: each is recurrent, if the library draws it. Not proved: that they are evenly drawn.
+    Proved: each configuration that the library draws is recurrent. Not proved: that the configurations are drawn
+    uniformly.
 
     References
     ----------

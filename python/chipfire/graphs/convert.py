@@ -29,15 +29,16 @@ def from_networkx(
     graph : networkx.Graph, DiGraph, MultiGraph or MultiDiGraph
         The graph. Vertices keep their names, and an undirected edge becomes one edge each way.
     sink : hashable, or list or set of hashable
-        The sink, by name. Several become one vertex, the last, whose name is "sink". Edges out of the sink are in the
-        Laplacian alone.
+        The name of the sink. Several sinks become one vertex, the last, whose name is "sink". Edges out of the sink are
+        only in the Laplacian.
     weight : str or None, optional
-        The attribute of an edge that says how many chips it sends, a whole number above 0. Without the attribute, or
-        if this is None, an edge sends one.
+        The attribute that says how many chips an edge sends: a whole number above 0. An edge without this attribute
+        sends one chip. If `weight` is None, every edge sends one chip.
     loops : {"drop", "sage"}, optional
-        Leaves loops out, or takes them as SageMath does. By default they are refused when something is played.
+        Whether to leave loops out, or to treat them as SageMath does. By default, plays refuse a graph with loops.
     weight_scale : int, optional
-        The factor by which weights are multiplied: 4 takes 0.25 and ``Fraction(3, 4)``, and a chip is a quarter then.
+        The factor by which weights are multiplied. With 4, weights may be 0.25 or ``Fraction(3, 4)``, and a chip stands
+        for a quarter.
 
     Returns
     -------
@@ -55,12 +56,12 @@ def from_networkx(
 
     Notes
     -----
-    With ``loops="sage"`` a vertex needs one chip more to fire for each loop, or two for an undirected one, and keeps
-    these. The game is then the one without loops, with that many chips less on each vertex. Plays, drops and what is
-    stable or recurrent are those of that game; sums, orders, the identity and what is superstable are not. Nothing is
-    played on fewer chips than loops.
+    With ``loops="sage"``, a vertex needs one more chip to fire for each loop, or two more for an undirected loop. The
+    vertex keeps these chips. So each play is that of the game without loops, with this number of chips taken from each
+    vertex. Plays, drops, stable and recurrent configurations are those of the game without loops. Sums, orders, the
+    identity and superstable configurations are not. Plays refuse a vertex with fewer chips than it keeps.
 
-    Nothing of this is proved: Python makes the graph, and each play checks that it is one.
+    None of this is proved: Python makes the graph, and each play checks that it is valid.
 
     Examples
     --------
@@ -96,22 +97,23 @@ def from_edges(
     table : pandas.DataFrame or dict of columns
         The table.
     sink : hashable, or list or set of hashable
-        The sink, by name. Several become one vertex.
+        The name of the sink. Several sinks become one vertex.
     source, target : hashable, optional
         The columns of the ends of the edges.
     weight : hashable, optional
-        The column of the number of chips that an edge sends. Without it an edge sends one.
+        The column that says how many chips each edge sends. Without it, each edge sends one chip.
     directed : bool, optional
-        Whether an edge leads one way alone. By default it leads both ways.
+        Whether edges are directed. By default, each edge leads both ways.
     loops : {"drop", "sage"}, optional
-        Leaves loops out, or takes them as SageMath does, as in `from_networkx`. By default they are refused by plays.
+        Whether to leave loops out, or to treat them as SageMath does: see `from_networkx`. By default, plays refuse a
+        graph with loops.
     weight_scale : int, optional
-        The factor by which weights are multiplied, for rational ones.
+        The factor by which weights are multiplied, to allow rational weights.
 
     Returns
     -------
     Graph
-        The graph. Names are numbered in their order if they have one, and else as they come.
+        The graph. Names that can be sorted are numbered in sorted order, and others in the order in which they come.
 
     Raises
     ------
@@ -124,7 +126,7 @@ def from_edges(
 
     Notes
     -----
-    Nothing of this is proved: Python makes the graph, and each play checks that it is one.
+    None of this is proved: Python makes the graph, and each play checks that it is valid.
 
     Examples
     --------
@@ -170,7 +172,7 @@ def from_sage(
     ----------
     graph : Sandpile, DiGraph or Graph of SageMath
         The graph. Vertices have the order of Sage's ``vertices()``. An edge sends as many chips as its label says, or
-        one if it has none; an edge of label 0 is left out.
+        one chip without a label. An edge with label 0 is left out.
     sink : hashable, optional
         The sink. A `Sandpile` has its own.
     loops : {"drop", "sage"}, optional
@@ -194,7 +196,7 @@ def from_sage(
 
     Notes
     -----
-    Nothing of this is proved: Python makes the graph, and each play checks that it is one.
+    None of this is proved: Python makes the graph, and each play checks that it is valid.
 
     Examples
     --------
@@ -251,7 +253,7 @@ def to_scipy(graph: AnyGraph) -> Any:
 
     Notes
     -----
-    Nothing of this is proved.
+    None of this is proved.
 
     Examples
     --------
@@ -262,7 +264,7 @@ def to_scipy(graph: AnyGraph) -> Any:
 
 
 def to_networkx(graph: AnyGraph) -> Any:
-    """Returns the graph as one of NetworkX.
+    """Returns the graph as a graph of NetworkX.
 
     Parameters
     ----------
@@ -272,9 +274,8 @@ def to_networkx(graph: AnyGraph) -> Any:
     Returns
     -------
     networkx.Graph or networkx.DiGraph
-        A `Graph` if each edge leads both ways, and else a `DiGraph`. Vertices have their names. The attribute
-        "weight" of an edge is its multiplicity, parallel edges are one, and the graph's attribute "sink" names the
-        sink.
+        A `Graph` if each edge leads both ways, else a `DiGraph`. Vertices keep their names, and parallel edges become
+        one. The attribute "weight" of an edge is its multiplicity, and the graph's attribute "sink" names the sink.
 
     Raises
     ------
@@ -289,10 +290,10 @@ def to_networkx(graph: AnyGraph) -> Any:
 
     Notes
     -----
-    ``from_networkx(it, it.graph["sink"])`` plays the same. Its edges stand in the order of NetworkX: it `is_like` a
-    graph without parallel edges, and need not equal it.
+    ``from_networkx(it, it.graph["sink"])`` has the same plays as the graph. Its edges are in the order of NetworkX, so
+    it need not equal the graph; but it `is_like` a graph without parallel edges.
 
-    Nothing of this is proved.
+    None of this is proved.
 
     Examples
     --------

@@ -23,12 +23,12 @@ def _both_ways(
 
 
 def path(length: int) -> Graph:
-    """Returns a path whose two ends lose a chip to the sink.
+    """Returns a path in which each of the two ends has an edge to the sink.
 
     Parameters
     ----------
     length : int
-        The number of vertices but the sink, 1 or more.
+        The number of vertices without the sink, 1 or more.
 
     Returns
     -------
@@ -46,7 +46,7 @@ def path(length: int) -> Graph:
 
     Notes
     -----
-    Nothing of this is proved: Python makes the graph, and each play checks that it is one.
+    None of this is proved: Python makes the graph, and each play checks that it is valid.
 
     Examples
     --------
@@ -83,7 +83,7 @@ def cycle(length: int) -> Graph:
 
     Notes
     -----
-    Nothing of this is proved: Python makes the graph, and each play checks that it is one.
+    None of this is proved: Python makes the graph, and each play checks that it is valid.
 
     Examples
     --------
@@ -95,7 +95,7 @@ def cycle(length: int) -> Graph:
 
 
 def wheel(vertices: int) -> Graph:
-    """Returns a wheel: a cycle, each of whose vertices is also beside the hub.
+    """Returns a wheel: a cycle, and a hub that is joined to each of its vertices.
 
     Parameters
     ----------
@@ -118,7 +118,7 @@ def wheel(vertices: int) -> Graph:
 
     Notes
     -----
-    Nothing of this is proved: Python makes the graph, and each play checks that it is one.
+    None of this is proved: Python makes the graph, and each play checks that it is valid.
 
     Examples
     --------
@@ -171,7 +171,7 @@ def torus(
 
     Notes
     -----
-    Nothing of this is proved: Python makes the graph, and each play checks that it is one.
+    None of this is proved: Python makes the graph, and each play checks that it is valid.
 
     Examples
     --------
@@ -187,7 +187,7 @@ def torus(
 
 
 def complete(vertices: int) -> Graph:
-    """Returns the complete graph, in which an edge leads from each vertex to each other one.
+    """Returns the complete graph, in which an edge leads from each vertex to every other vertex.
 
     Parameters
     ----------
@@ -210,7 +210,7 @@ def complete(vertices: int) -> Graph:
 
     Notes
     -----
-    Nothing of this is proved: Python makes the graph, and each play checks that it is one.
+    None of this is proved: Python makes the graph, and each play checks that it is valid.
 
     Examples
     --------

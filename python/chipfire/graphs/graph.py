@@ -111,37 +111,38 @@ def _checked_loops(loops: Sequence[int], vertices: int, sink: int) -> Sequence[i
 class Graph:
     """A directed multigraph with a sink: the sandpile graph.
 
-    A graph is never changed. A copy and a pickle have its parameters, and no cached results.
+    A graph never changes. A copy or a pickle has its parameters, but no cached results.
 
     Parameters
     ----------
     vertices : int
-        The number of vertices, which have the numbers from 0 on.
+        The number of vertices. Vertices are numbered from 0.
     sink : int
         The number of the vertex that never fires.
     edges : iterable of (tail, head) or (tail, head, mult), or array of shape (m, 2) or (m, 3)
-        The edges. A firing of the tail sends `mult` chips to the head, or one.
+        The edges. A firing of the tail sends `mult` chips to the head, or one chip without `mult`.
     names : sequence of hashable, optional
-        What the vertices are called in dicts, by number. By default their numbers.
+        The names of the vertices in dicts, in the order of their numbers. By default, the names are the numbers.
     shape : (int, int), optional
         The numbers of rows and columns of a picture.
     squares : sequence of int, optional
-        The place of each vertex in the picture, by rows. By default its number. A sink that is the last vertex has
-        none.
+        The square of each vertex in the picture, counted by rows. By default, this is the vertex's number. A sink that
+        is the last vertex has no square.
     from_sink : sequence of (head, mult) or None, optional
-        The edges out of the sink, which only `laplacian` shows. None stands for one back for each edge into it.
+        The edges out of the sink, which only `laplacian` shows. None means a reverse edge for each edge into the sink.
     loops : sequence of int, optional
-        How many chips each vertex keeps, and needs to fire beyond those that it sends.
+        For each vertex, the number of chips that it keeps when it fires. To fire, the vertex needs these in addition to
+        the chips that it sends.
 
     Attributes
     ----------
     edges : tuple of (int, int, int)
-        The edges, by the numbers of their tails and heads, with their multiplicities. An edge's number is its place.
+        The edges, by the numbers of their tails and heads, with their multiplicities. An edge's number is its index.
 
     Raises
     ------
     ValueError
-        A number is out of its range, or the names are not different, one for each vertex.
+        A number is out of range, or the names are not one different name for each vertex.
 
     See Also
     --------
@@ -149,9 +150,9 @@ class Graph:
 
     Notes
     -----
-    The program checks what chipfire takes: see `check`.
+    The program checks whether chipfire takes a graph: see `check`.
 
-    Nothing of this is proved: Python keeps the graph, and each play checks that it is one.
+    None of this is proved: Python keeps the graph, and each play checks that it is valid.
 
     Examples
     --------
@@ -229,7 +230,7 @@ class Graph:
 
     @functools.cached_property
     def long_columns(self) -> Columns:
-        """The edges by columns of 64-bit numbers, as the library takes them."""
+        """The columns of the edges as 64-bit numbers, which the library takes."""
         self.refuse_loops()
         return Columns(*(recoded(column, "Q") for column in self.columns))
 
@@ -245,9 +246,10 @@ class Graph:
 
     @classmethod
     def undirected(cls, edges: Iterable[Sequence[Any]], sink: Any) -> Graph:
-        """The graph of edges (name, name) or (name, name, mult), each of which is one edge each way; or of the edges of
-        a graph of NetworkX, each with its "weight" if that is among what its row has.
-        The order of the names, or else that in which they come, gives the numbers. Sinks are as in `from_networkx`.
+        """The graph of undirected edges (name, name) or (name, name, mult), or of the edges of a graph of NetworkX.
+        Each of them becomes one edge each way. A row of NetworkX that contains a "weight" has it as its multiplicity.
+        Names that can be sorted are numbered in sorted order, and others in the order in which they come. Sinks are as
+        in `from_networkx`.
         """
         rows = edge_rows(edges, False)
         return Graph(**parts_of_named(names_of_ends(rows), sink, rows, False))
@@ -299,8 +301,9 @@ class Graph:
         yield f'],"sink":{self.sink},"version":1,"vertices":{self.vertices}}}\n'.encode()
 
     def number(self, name: Hashable) -> int:
-        """The number of the vertex with this name or, without names, on this square (row, column); else a KeyError. A
-        vertex's number in a result is a TypeError, if that vertex has another name."""
+        """The number of the vertex with this name or, if the graph has no names, on this square (row, column). Raises
+        KeyError if there is no such vertex, and TypeError for a vertex's number from a result if that vertex has
+        another name."""
         if isinstance(name, int) and isinstance(self.names, range) and 0 <= name < self.vertices:
             return int(name)
         if isinstance(name, VertexNumber) and not isinstance(self.names, range):
@@ -338,7 +341,7 @@ class Graph:
         return dict(zip(self.names, itertools.count()))
 
     def degrees(self) -> tuple[int, ...]:
-        """How many chips each vertex sends away when it fires, by numbers; 0 for the sink."""
+        """How many chips each vertex sends when it fires, in the order of the numbers; 0 for the sink."""
         return self._degrees
 
     @functools.cached_property
@@ -356,8 +359,8 @@ class Graph:
         return tuple(found)
 
     def position_after(self, chips: Any, counts: Any) -> list[int]:
-        """The chips of each vertex after these counts of firings, legal or not; counts below 0 take firings back.
-        Both come in the forms of chips."""
+        """The chips of each vertex after these counts of firings, legal or not. Counts below 0 undo firings. Chips and
+        counts may have any form that `chips` takes."""
         chips = self.numbers(chips)
         counts = self.numbers(counts, of="firings")
         found = [
@@ -376,7 +379,7 @@ class Graph:
         return [edge for edge, head in enumerate(self.columns.heads) if head == vertex]
 
     def root_edge(self, vertex: int) -> int:
-        """The number of the edge over which a vertex gets the chips that it starts with, in schedules and traces."""
+        """The number of the edge on which a vertex gets the chips that it starts with, in schedules and traces."""
         return len(self.columns.tails) + vertex
 
     def is_like(self, other: Graph) -> bool:
@@ -392,7 +395,7 @@ class Graph:
 
     @functools.cached_property
     def wrong(self) -> str:
-        """What makes it no graph to play on, by the names of its vertices; an empty text if it is one."""
+        """Why chipfire cannot play on this graph, with the names of its vertices; an empty text if it can."""
         return "" if _is_accepted(self) else self.why_refused
 
     @functools.cached_property
@@ -487,11 +490,11 @@ class Graph:
         return smith.order(smith.reduced(self))
 
     def chips(self, chips: Chips) -> tuple[int, ...]:
-        """Chips as one number for each vertex, 0 or more.
+        """Returns chips as one number for each vertex, 0 or more.
 
-        The forms are a mapping by names, as a dict, a Series of pandas or a configuration; an array of the graph's
-        shape, or rows of one; a sequence with a number for each vertex, or for each but the sink; one number for each
-        but the sink; and a report. Configurations and reports of another graph are refused.
+        Chips may be a mapping by names, such as a dict, a Series of pandas or a configuration; an array of the graph's
+        shape, or its rows; a sequence with a number for each vertex, or for each vertex but the sink; one number, for
+        every vertex but the sink; or a report. Configurations and reports of another graph are refused.
         """
         return self.numbers(chips, least=0)
 

@@ -79,25 +79,25 @@ def grid(
     width, height : int
         The numbers of columns and of rows.
     *more : int
-        The sizes in further directions. With a third one there are layers, and vertex
-        ``width * (height * layer + row) + column``.
+        The sizes in further directions. With a third size there are layers, and a square is vertex ``width * (height *
+        layer + row) + column``.
     rows, columns : int, optional
         The same sizes by other names: ``grid(rows=height, columns=width)``.
     periodic : bool or sequence of bool, optional
         The directions whose borders are joined: True for all, or a value for each, the width first. Such a direction
         has at least two vertices.
     loss : int or Chips, optional
-        How many more chips a firing dissipates: one number for all vertices, or one for each. If all directions are
-        periodic, some vertex needs one.
+        How many more chips each firing dissipates: one number for all vertices, or one number for each. If all
+        directions are periodic, some vertex needs a number above 0.
     lattice : {"square", "triangular", "hexagonal"}, optional
-        The neighbours of a vertex, as in `region`. A hexagonal lattice has an even size in a periodic direction.
+        The neighbours of a vertex, as in `region`. A hexagonal lattice needs an even size in each periodic direction.
 
     Returns
     -------
     Graph
-        The graph. Vertex ``width * row + column`` is also called ``(row, column)``, and the sink comes after all. On
-        the border a vertex loses a chip to the sink on each side without a neighbour. SageMath calls this
-        ``sandpiles.Grid(height, width)``.
+        The graph. Vertex ``width * row + column`` is also called ``(row, column)``, and the sink is the last vertex.
+        When a vertex on the border fires, it loses a chip to the sink for each side without a neighbour. SageMath calls
+        this graph ``sandpiles.Grid(height, width)``.
 
     Raises
     ------
@@ -110,7 +110,7 @@ def grid(
 
     Notes
     -----
-    Nothing of this is proved: Python makes the graph, and each play checks that it is one.
+    None of this is proved: Python makes the graph, and each play checks that it is valid.
 
     Examples
     --------
@@ -199,7 +199,7 @@ def _moved(extents: Sequence[int], joined: Sequence[bool], way: Sequence[int]) -
 
 
 def grid_for(chips: int) -> Graph:
-    """Returns a square grid that this many chips on its middle do not leave.
+    """Returns a square grid large enough to stabilize this many chips on its middle without loss.
 
     Parameters
     ----------
@@ -222,11 +222,11 @@ def grid_for(chips: int) -> Graph:
 
     Notes
     -----
-    By Levine and Peres [1]_ chips stay in a circle of radius ``(1 / sqrt(2) + e) * r + c`` if there are ``pi * r **
-    2`` of them, for each e above 0 and some c. Here e is 0 and c is 2. This was tried for all piles of up to 9,000
-    chips and some greater ones. A million chips get 801 by 801 squares, and need 729.
+    By a theorem of Levine and Peres [1]_, ``pi * r ** 2`` chips stay in a circle of radius ``(1 / sqrt(2) + e) * r +
+    c``, for each e above 0 and some c. Here e is 0 and c is 2. This was tried for all piles of up to 9,000 chips, and
+    for some larger piles. A million chips get 801 by 801 squares, and need 729 by 729.
 
-    Nothing of this is proved. If a report's sink has no chip, the grid was large enough.
+    None of this is proved. If a report's sink has no chip, the grid was large enough.
 
     References
     ----------
@@ -282,16 +282,17 @@ def region(mask: Iterable[Iterable[Any]], lattice: str = "square") -> Graph:
     Parameters
     ----------
     mask : array or iterable of rows of bool
-        Which squares are vertices. They are numbered by rows.
+        Which squares are vertices. The vertices are numbered row by row.
     lattice : {"square", "triangular", "hexagonal"}, optional
-        The neighbours of a vertex: 4; 6, with those above to the right and below to the left; or 3: left, right, and
-        below if ``row + column`` is even, else above.
+        The neighbours of a vertex. A square lattice has 4. A triangular one has 6: these 4, the one above to the right
+        and the one below to the left. A hexagonal one has 3: left, right, and below if ``row + column`` is even, else
+        above.
 
     Returns
     -------
     Graph
-        The graph, with the sink as its last vertex. A vertex loses a chip to the sink for each neighbour that it
-        lacks.
+        The graph, with the sink as its last vertex. When a vertex fires, it loses a chip to the sink for each neighbour
+        that it lacks.
 
     Raises
     ------
@@ -304,7 +305,7 @@ def region(mask: Iterable[Iterable[Any]], lattice: str = "square") -> Graph:
 
     Notes
     -----
-    Nothing of this is proved: Python makes the graph, and each play checks that it is one.
+    None of this is proved: Python makes the graph, and each play checks that it is valid.
 
     Examples
     --------
@@ -355,8 +356,8 @@ def aztec(size: int) -> Graph:
     Returns
     -------
     Graph
-        The graph, with the sink as its last vertex. A square loses a chip to the sink on each side without a
-        neighbour.
+        The graph, with the sink as its last vertex. When a square fires, it loses a chip to the sink for each side
+        without a neighbour.
 
     Raises
     ------
@@ -369,7 +370,7 @@ def aztec(size: int) -> Graph:
 
     Notes
     -----
-    Nothing of this is proved: Python makes the graph, and each play checks that it is one.
+    None of this is proved: Python makes the graph, and each play checks that it is valid.
 
     Examples
     --------

@@ -64,11 +64,11 @@ _NOTHING = array("Q", [0])
 
 
 class Books:
-    """The counters of one process for the detector of Dijkstra and Scholten, over calls of the library.
+    """The counters of one process for the detector of Dijkstra and Scholten, kept by calls of the library.
 
-    Use it in a program that sends by its own means; `Detector` sends for you. The process calls `sent` before a
-    message can be got, `got` with the message before it is worked on, and `acknowledge` and `settled` at any time.
-    The root calls `is_over`. One thread at a time may call.
+    Use `Books` in a program that sends messages by its own means; `Detector` sends messages for you. The process calls
+    `sent` before a message can be received, `got` when a message arrives and before the work on it, and `acknowledge`
+    and `settled` at any time. Only the root calls `is_over`. Only one thread may call at a time.
 
     Parameters
     ----------
@@ -85,8 +85,8 @@ class Books:
     Raises
     ------
     Fault
-        A call is refused, and changes nothing: with 46 for an edge or a count, with 32 if the process sends while it
-        is passive.
+        A call is refused, and changes nothing. The fault is 46 for a wrong edge or count, and 32 if the process sends
+        while it is passive.
     ProgramNotFound
         There is no library.
 
@@ -98,9 +98,9 @@ class Books:
     -----
     Books can be pickled; a log that is a list is copied.
 
-    Proved: each call notes exactly its step on sound counters. If the calls of all processes make a legal log,
-    `is_over` returns true only when all is over. Not proved: that your program calls at the right moments, and what
-    Python adds.
+    Proved: each call notes exactly its step on sound counters. If the calls of all processes form a legal log,
+    `is_over` returns true only when the computation is over. Not proved: that your program calls at the right moments,
+    and what Python adds.
 
     Examples
     --------
@@ -170,14 +170,14 @@ class Books:
         return None if parent == _NEUTRAL else parent
 
     def add_in(self, edge: int) -> None:
-        """Adds an edge into the process, as if it had been there with counts 0 from the start."""
+        """Adds an edge into the process, as if the edge had been there from the start, with counts 0."""
         if self.is_root:
             raise ValueError("no edge leads to the root")
         self._ins.add(_as_edge(edge))
         self._point()
 
     def add_out(self, edge: int) -> None:
-        """Adds an edge out of the process, as if it had been there with counts 0 from the start."""
+        """Adds an edge out of the process, as if the edge had been there from the start, with counts 0."""
         self._outs.add(_as_edge(edge))
         self._point()
 
@@ -186,7 +186,7 @@ class Books:
         return edge in self._ins
 
     def sent(self, edge: int) -> None:
-        """Notes a message out of the process, before anybody can get it."""
+        """Notes a message that the process sends, before any process can receive it."""
         edge = _as_edge(edge)
         if not self.is_active:
             raise _fault(_PASSIVE, self.process, f"it sends on edge {edge} while it is passive")
@@ -194,7 +194,7 @@ class Books:
         self._note("send", edge)
 
     def got(self, edge: int) -> None:
-        """Notes a message into the process, when it comes and before it is worked on."""
+        """Notes a message that the process receives, before the work on it begins."""
         edge = _as_edge(edge)
         self._call("got", f"no message can be got on edge {edge}", edge)
         self._owed.add(edge)
@@ -202,18 +202,20 @@ class Books:
         self._note("receive", edge)
 
     def acknowledge(self, passive: bool) -> list[tuple[int, int]]:
-        """Acknowledges all that it may, and returns pairs of an edge and its number of acknowledged messages so far.
+        """Acknowledges all messages that it may, and returns pairs of an edge and the number of its messages
+        acknowledged so far.
 
-        Each goes to the tail of its edge, for `settled`; a later pair of an edge replaces an earlier one. `passive`
-        says that the process sends nothing, and that only a message makes it work again."""
+        Pass each pair to the tail of its edge, for `settled`. A later pair of an edge replaces an earlier pair.
+        `passive` says that the process sends nothing, and that only a message makes it work again.
+        """
         if passive:
             self._rest()
         pairs = [self._acknowledged(edge, passive) for edge in sorted(self._owed, key=self._last)]
         return [(edge, count) for edge, more, count in pairs if more]
 
     def settled(self, edge: int, count: int) -> int:
-        """Notes how many messages of an edge are acknowledged so far, as its head says or said before. Returns how many
-        of these are new."""
+        """Notes how many messages of an edge its head has acknowledged, by its latest count or an earlier one. Returns
+        how many of these are new."""
         edge, count = _as_edge(edge), as_int(count, "a count", 0, _NEUTRAL)
         more = ctypes.c_uint64()
         why = f"{count} acknowledgements on edge {edge} are more than its messages"
@@ -222,7 +224,8 @@ class Books:
         return more.value
 
     def is_over(self, ended: bool = True) -> bool:
-        """Whether all is over, as the root sees it. It has `ended` if it sends no more; that stays so."""
+        """Whether the computation is over. Only the root calls this. `ended` says that the root sends no more, and
+        remains true for later calls."""
         if not self.is_root:
             raise ValueError(f"process {self.process} is not the root, which alone can know")
         if ended:
@@ -236,7 +239,7 @@ class Books:
         return bool(over.value)
 
     def close(self) -> None:
-        """Closes the file of the log, if it is open. Each row that comes later opens it for itself."""
+        """Closes the file of the log, if it is open. Each later row opens the file again, and closes it."""
         self._keeps_file = False
         if self._file is not None:
             self._file.close()

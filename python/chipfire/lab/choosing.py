@@ -32,11 +32,12 @@ def choice_page(
     Parameters
     ----------
     detector : str or type
-        A name of `chipfire.detectors.DETECTORS`, or a class. The page has no words for events of its own.
+        A name of `chipfire.detectors.DETECTORS`, or a class. The page has no words for events that the detector itself
+        defines.
     file : path
-        The page to write, one HTML file that loads nothing.
+        The page to write, one HTML file that loads nothing else.
     setting : Setting, optional
-        The game, of at most 2,000 states. By default the one that `DETECTORS` has for the detector.
+        The game, with at most 2,000 states. By default the one that `DETECTORS` has for the detector.
     title : str, optional
         The title of the page.
     positions : mapping of names to (right, down), optional
@@ -53,7 +54,7 @@ def choice_page(
 
     Notes
     -----
-    A send is one event on this page. Nothing of this is proved: all replies are those of the model in Python.
+    A send is one event on this page. None of this is proved: all replies are those of the model in Python.
 
     Examples
     --------

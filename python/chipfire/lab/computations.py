@@ -20,15 +20,16 @@ Sends = Iterable[tuple[int, Any]]
 class Computation:
     """What the vertices of a graph compute: a base class for computations of your own.
 
-    A vertex is passive until a message comes. It returns messages for its own edges, and may stay at work: once all is
-    sent it goes on by itself, each time in one of several ways. A state is a vertex of the model. All that the
-    computation knows is in the state's attributes, as plain values, and so are loads. A state has the vertex's
-    `number`, and in `outs` its edges; `chips`, `fired`, `halt` and `parent` are the model's.
+    A vertex is passive until a message comes. Then it returns messages for its own edges, and may stay at work: once
+    all these messages are sent, it goes on by itself, each time in one of several ways. Each vertex has a state, which
+    is a vertex of the model. The computation keeps all its knowledge in the attributes of the states. These attributes,
+    and the loads of messages, are plain values. A state has the vertex's `number`, and its edges in `outs`. Its
+    `chips`, `fired`, `halt` and `parent` belong to the model.
 
     Parameters
     ----------
     graph : Graph
-        The graph. A message of the root can go to each vertex.
+        The graph. The root can send messages to every vertex.
 
     Attributes
     ----------
@@ -41,7 +42,7 @@ class Computation:
 
     Notes
     -----
-    Nothing of this is proved.
+    None of this is proved.
 
     Examples
     --------
@@ -65,11 +66,11 @@ class Computation:
         self.graph = graph
 
     def on_start(self) -> Sends:
-        """The messages of the root: vertices and payloads."""
+        """The messages of the root: pairs of a vertex and a load."""
         raise NotImplementedError
 
     def on_message(self, state: Any, edge: int, load: Any) -> Sends:
-        """Handles a message from an edge, and returns what the vertex sends: edges and payloads."""
+        """Handles a message from an edge, and returns what the vertex sends: pairs of an edge and a load."""
         raise NotImplementedError
 
     def is_passive(self, state: Any) -> bool:
@@ -77,11 +78,11 @@ class Computation:
         return True
 
     def ways(self, state: Any) -> int:
-        """In how many ways a vertex that is at work may go on."""
+        """The number of ways in which a vertex at work may go on."""
         return 1
 
     def on_work(self, state: Any, way: int) -> Sends:
-        """Goes on at a vertex in one of the ways, which have numbers from 0 on, and returns what it sends."""
+        """Lets a vertex go on in one of its ways, numbered from 0, and returns what the vertex sends."""
         raise NotImplementedError
 
     def show(self, state: Any) -> str:
@@ -204,7 +205,7 @@ class Flooding(Computation):
 
 
 class ShortestPaths(Flooding):
-    """Finds how far it is to each vertex from the nearest start, if the multiplicity of an edge is its length."""
+    """Finds the distance to each vertex from the nearest start. The length of an edge is its multiplicity."""
 
     begins: ClassVar[Mapping[str, Any]] = {"distance": None}
 
@@ -216,7 +217,8 @@ class ShortestPaths(Flooding):
 
 
 class RandomWalk(Computation):
-    """Tokens go from vertex to vertex, each on any edge and as many hops as it has: `tokens` has them by vertices."""
+    """Tokens go from vertex to vertex, on any edges. `tokens` has, for a vertex, the number of hops of the token that
+    begins there."""
 
     begins: ClassVar[Mapping[str, Any]] = {"hops": ()}
 

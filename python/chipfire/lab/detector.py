@@ -101,11 +101,11 @@ class _Backend(NamedTuple):
 
 
 class Process:
-    """One process of a detector. `Detector` has it under its name.
+    """One process of a detector: ``detector[name]``.
 
-    A loop over it gets its messages, one after another, and ends when all is over. Several threads, or coroutines, may
-    loop over one process. With `receive` in place of the loop, `done` has to be called once for each message, when
-    nothing that it set off is at work any more.
+    A loop over a process gets its messages, one after another, and ends when the computation is over. Several threads,
+    or coroutines, may loop over one process. If you use `receive` instead of the loop, call `done` once for each
+    message, when all work that the message caused has ended.
     """
 
     def __init__(
@@ -133,7 +133,7 @@ class Process:
         return f"<Process {self.name!r}, at work on {self._busy}>"
 
     def send(self, to: Hashable, content: Any = None) -> None:
-        """Sends a message to a process, by one that is at work on a message."""
+        """Sends a message to a process. The sender must be at work on a message."""
         if to not in self._inboxes or to == ROOT:
             raise KeyError(f"there is no process {to!r} to send to")
         packed = self._backend.pack(content)
@@ -143,7 +143,8 @@ class Process:
         self._inboxes[to].put_nowait(Message(edge, self.name, packed))
 
     def receive(self, timeout: float | None = None) -> Message | None:
-        """The next message; None when all is over. The process is at work on it until `done`."""
+        """The next message, or None when the computation is over. The process is at work on the message until
+        `done`."""
         if self._backend.is_async:
             raise TypeError("in asyncio one loops by `async for`, or awaits receive_async()")
         while True:
@@ -159,7 +160,8 @@ class Process:
                 return self._unpacked(item)
 
     def done(self) -> None:
-        """Says that a message, and all that it set off here, is worked on. With the last one the process is passive."""
+        """Says that the work on a message, and all that the message caused here, has ended. When all messages are done,
+        the process is passive."""
         with self._lock:
             if self._busy == 0:
                 raise RuntimeError(f"process {self.name!r} is done with more messages than it got")
@@ -239,30 +241,30 @@ class Process:
 
 
 class Detector:
-    """Detects that processes of your own are over, and sends their messages.
+    """Detects when the computation of your processes is over, and sends their messages.
 
-    Each process has one inbox, which never fills up; edges are made as they are needed. Each process loops over its
-    messages, and sends others. `begin` sends the first messages, from a root of the detector's own. `wait`, or
-    ``await`` in asyncio, returns when all is over. A refusal is raised in the process, and by `wait` too, if that has
-    not returned yet. In asyncio the detector is made inside the running loop.
+    Each process has one inbox, which never fills up. Edges are made when they are needed. Each process loops over its
+    messages, and sends others. `begin` sends the first messages, from the detector's root. `wait`, or ``await`` in
+    asyncio, returns when the computation is over. A fault is raised in the process and, if `wait` has not returned yet,
+    by `wait` too. In asyncio, make the detector inside the running loop.
 
-    Files of a log are closed when all is over, those of a process of the system when its loop ends. A detector is a
-    context manager: its end, or `close`, closes them sooner.
+    The files of a log are closed when the computation is over; the file of an operating-system process is closed when
+    its loop ends. A detector is a context manager: the end of its block, or `close`, closes the files sooner.
 
     Parameters
     ----------
     processes : iterable of hashable
         The names of the processes.
     backend : {"threading", "asyncio", "multiprocessing"} or context, optional
-        How processes run. With "multiprocessing", or a context of that module, ``detector[name]`` goes to a process
-        of the system as an argument, before it is used.
+        How processes run. With "multiprocessing", or a context of that module, pass ``detector[name]`` to an
+        operating-system process as an argument, before it is used.
     log : path, optional
-        A folder to make, in which each process writes a file of rows; `check` judges them.
+        The folder to make for the log. Each process writes a file of rows into it, and `check` judges the rows.
 
     Raises
     ------
     Fault
-        A process does what it may not do, such as to send while it is passive.
+        A process does something that is not allowed, such as sending while it is passive.
     ProgramNotFound
         There is no library.
 
@@ -272,8 +274,8 @@ class Detector:
 
     Notes
     -----
-    Proved: the counters of each process, and that the root does not see an end too early if the calls make a legal
-    log. Not proved: that the inboxes and loops of Python make a legal log.
+    Proved: the counters of each process, and that the root does not report the end too early if the calls form a legal
+    log. Not proved: that the inboxes and loops of Python produce a legal log.
 
     Examples
     --------
@@ -326,7 +328,7 @@ class Detector:
         return self._added(name)
 
     def begin(self, name: Hashable, content: Any = None) -> None:
-        """Wakes a process by a message. A process that is not woken so works only when another one sends to it."""
+        """Starts a process by a message. Any other process works only when a process sends to it."""
         self._root.send(name, content)
 
     def wait(self, timeout: float | None = None) -> None:
@@ -345,7 +347,7 @@ class Detector:
             self._hear(item)
 
     def close(self) -> None:
-        """Closes the files of the log that are open here. Each later row opens its file for itself."""
+        """Closes the files of the log that are open here. Each later row opens its file again, and closes it."""
         with self._lock:
             processes = [*self._processes.values()]
         for process in processes:

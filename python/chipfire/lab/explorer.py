@@ -48,7 +48,7 @@ def explore(
 ) -> Explored:
     """Tries a detector in all schedules of a small game.
 
-    It visits the states breadth first, until the root is closed while something is left.
+    It visits the states breadth first, until it finds the root closed while something is left.
 
     Parameters
     ----------
@@ -57,29 +57,30 @@ def explore(
     detector : str or type, optional
         A name of `chipfire.detectors.DETECTORS`, or a class.
     most : int, optional
-        How many states are visited. If there are more, the result says what was found among these.
+        The greatest number of states to visit. If there are more states, the result says what was found among those
+        visited.
     whole_sends : bool, optional
-        Whether a send is one step. By default it is three: clear, claim and put, as on threads. With one step there
-        are fewer states, and a detector that is wrong between two of the three is not found.
+        Whether a send is one step. By default, a send is three steps: clear, claim and put, as on threads. With one
+        step there are fewer states, but an error between two of the three steps is not found.
     feeds : iterable of (int, int), optional
-        What the root feeds, in this order: root edges and numbers of chips. The setting has to be `fed`. The root may
-        note the end of feeding at any time, and feeds no more after that.
+        What the root feeds, in this order: pairs of a root edge and a number of chips. The setting must be `fed`. The
+        root may note the end of feeding at any time, and feeds no more after that.
     seals : iterable of int, optional
         The edges of the graph that may be sealed, each at any time.
 
     Returns
     -------
     Explored
-        What was found. Its `status` is 0 if the detector is right in this game, 2 if it closes the root too early, 3
-        if it can miss the end, 4 if there were too many states, and 5 if it closes the root though no message reported
-        some act to it; `schedule` leads there.
+        What was found. Its `status` is 0 if the detector is right in this game, 2 if it closes the root too early, 3 if
+        it can miss the end, 4 if there were too many states, and 5 if it closes the root although no message reported
+        some act to the root. `schedule` is a schedule that leads there.
 
     Raises
     ------
     ValueError
-        The detector cannot be tried: an attribute cannot be compared; it does not repeat its steps on a game of its
-        own; it raises an exception, changes the game, or opens a closed root; or `tells` lacks one of its events. The
-        error's `schedule` leads there.
+        The detector cannot be tried: one of its attributes cannot be compared; or it does not repeat its steps on a
+        second game; or it raises an exception, changes the game, or opens a closed root; or its `tells` lacks one of
+        its events. The error's `schedule` leads there.
 
     See Also
     --------
@@ -87,14 +88,14 @@ def explore(
 
     Notes
     -----
-    Other chips, feeds, seals, limits and rings are not tried, nor messages that are lost, doubled or overtaken. The
-    logs of the shortest schedule to each closed root, and of up to 1,000 random ones, show whether messages reported
-    each act to the root. A read of other vertices that never helps to close the root is not found.
+    Other chips, feeds, seals, limits and rings are not tried. Nor are messages that are lost, duplicated or overtaken.
+    The logs of the shortest schedule to each closed root, and of up to 1,000 random schedules, show whether messages
+    reported each act to the root. A read of other vertices that never helps to close the root is not found.
 
-    The state is all attributes of the game, its edges and its vertices, except those that the class names in
-    `not_state`. The schedules found, and 200 random ones, are played a second time.
+    The state consists of all attributes of the game, its edges and its vertices, except those that the class names in
+    `not_state`. The schedules found, and 200 random schedules, are played a second time.
 
-    Nothing of this is proved.
+    None of this is proved.
 
     Examples
     --------

@@ -95,18 +95,18 @@ class Judged:
 def judge(
     setting: Setting, log: Iterable[Sequence[Any]] | FileName, *, also: Collection[str] = ()
 ) -> Judged:
-    """Checks the log of a machine of your own that plays a game against the model.
+    """Checks the log of your own machine, which played a game, against the model.
 
     Parameters
     ----------
     setting : Setting
         The game.
     log : iterable of rows, or path
-        Rows of an event, where it was, a count and its reply; or a file of them with the header
-        ``event,at,count,reply``. A row ``root,0,0,closed`` claims that the root is closed, and one with ``open`` that
-        it is not.
+        Rows of an event, its place, a count and its reply; or a file of such rows with the header
+        ``event,at,count,reply``. A row ``root,0,0,closed`` claims that the root is closed, and a row ``root,0,0,open``
+        that it is open.
     also : collection of str, optional
-        Events of the machine's own detector, such as those of a token. They are passed over.
+        Events of the machine's own detector, such as those of a token. `judge` ignores them.
 
     Returns
     -------
@@ -125,12 +125,13 @@ def judge(
 
     Notes
     -----
-    A claim is judged at its row and by the game alone: by what was taken, fired and sent. So a detector that
-    acknowledges otherwise than the right one has a row that differs, and may be right. A log that ends with an open
-    root missed the end if nothing is left, so log until your machine rests. Messages may be acknowledged and settled
-    one by one. An edge holds as many messages as the log puts there, and may be said to be full when it holds one.
+    A claim is judged at its row, and only by the game: by what was taken, fired and sent. So a detector that
+    acknowledges in another way than the right detector has a row that differs, but its claims may be right. If a log
+    ends with an open root and nothing is left, it missed the end, so log until your machine rests. Messages may be
+    acknowledged and settled one by one. An edge holds as many messages as the log puts there. The log may report an
+    edge as full when it holds one message.
 
-    Nothing of this is proved, and the program is not asked.
+    None of this is proved, and the program is not run.
 
     Examples
     --------

@@ -93,21 +93,22 @@ def judge_log(
         Whether to report the causal past of each early claim: how many rows of each process come before it in every
         order.
     first : bool, optional
-        Whether to stop at the first early claim, by process and row, and to report that one alone, if there is one.
+        Whether to report only the first early claim (the lowest process, then the lowest row), if there is one.
     processes : int or iterable of hashable, optional
-        The processes that need to have a row, or their number, if they are 0, 1 and so on. If all rows of one that
+        The processes that must have a row, or their number if they are 0, 1 and so on. If all rows of a process that
         began active are lost, an early claim might be called right.
     reactive : bool, optional
-        For processes that do not log when they become passive. A process that gets a message is then active until its
-        last ``send`` before it gets the next one, and one that sends before it gets any begins active. If it is
-        active for longer, an early claim may be called right; in a trial this happened to 2 of 90.
+        For processes that do not log when they become passive. A process that gets a message then counts as active
+        until its last ``send`` before it gets the next message. A process that sends before it gets any message begins
+        active. If a process is active for longer, an early claim may be called right; in a trial, this happened to 2 of
+        90.
     cut : bool, optional
-        For logs that are cut off. If the rows fit together in no order, those that wait after maximal progress are
-        left out, with all after them.
+        For logs that are cut off. If the rows have no possible order, the rows that still wait after maximal progress
+        are left out, and so are all rows after them.
     progress : bool, optional
-        Whether `sys.stderr` gets a line about once a second that says which claim is checked.
+        Whether to write a line to `sys.stderr` about once a second that says which claim is being checked.
     program : path, optional
-        The program to ask. By default the one that is found.
+        The program to run. By default, the program that the package finds.
 
     Returns
     -------
@@ -117,8 +118,8 @@ def judge_log(
     Raises
     ------
     Fault
-        A row is refused, or the rows fit together in no order. The fault's place is a row, or a process and its row,
-        by the names given. Its words follow the waits from there.
+        A row is refused, or the rows have no possible order. The fault's place is a row, or a process (by its name) and
+        one of its rows. The fault's `words` say where the waits from there end.
 
     See Also
     --------
@@ -382,9 +383,10 @@ def read_json_lines(
     files : path or iterable of path
         The files, with an object in each line.
     process : str, callable or None, optional
-        The key of the process, or a function that finds it in an object. With None each file is a process, by its name.
+        The key of the process, or a function that finds it in an object. With None, each file is a process, named by
+        the file.
     kind : str or callable, optional
-        The key of the kind, or a function that finds it. A line whose kind is None is passed over.
+        The key of the kind, or a function that finds it. A line whose kind is None is skipped.
     channel : str or callable, optional
         The key of the channel, or a function that finds it. Lists become tuples.
 
@@ -404,7 +406,7 @@ def read_json_lines(
 
     Notes
     -----
-    Nothing of this is proved.
+    None of this is proved.
 
     Examples
     --------
@@ -472,21 +474,22 @@ def read_shiviz(
     log : str or path
         The text of the log, or the name of its file.
     kind_of : callable
-        Returns the kind of an event by its text, or None if the event is passed over.
+        Returns the kind of an event from its text, or None to skip the event.
     message_of : callable, optional
-        Returns the message that an event sends or gets by its text, or None if the clocks say it. They cannot name
-        the sender of a message that brings nothing new.
+        Returns, from the text of an event, the message that the event sends or gets, or None if the clocks are to say
+        it. The clocks cannot name the sender of a message that brings nothing new.
     expression : str, optional
-        The expression of ShiViz, by default that for GoVector. Where the event stands above its clock it is
+        The regular expression of ShiViz, by default the one for GoVector. If each event stands above its clock, use
         ``(?<event>.*)\n(?<host>\S*) (?<clock>{.*})``.
     gaps : bool, optional
-        Whether to take a log without some of the events that its clocks count, as a logger with levels writes it. If
-        a ``send``, an ``active``, or a ``tell`` that was heard is missing, an early claim may be called right.
+        Whether to take a log that lacks some of the events that its clocks count, such as the log of a logger with
+        levels. If a ``send``, an ``active``, or a ``tell`` that was heard is missing, an early claim may be called
+        right.
 
     Returns
     -------
     list of (process, kind, channel)
-        The rows. A message has a channel for each process that gets it; no others are seen.
+        The rows. A message has a channel for each process that gets it. A message that nobody gets is not seen.
 
     Raises
     ------
@@ -499,7 +502,7 @@ def read_shiviz(
 
     Notes
     -----
-    Nothing of this is proved.
+    None of this is proved.
 
     Examples
     --------

@@ -72,17 +72,17 @@ def page(
     Parameters
     ----------
     simulation : Simulation or Play
-        What `simulate`, `recorded` or `play` returned, of at most 10,000 rows. The program simulates once more, with
-        books and with the events of rounds; for a `Play` it is not asked.
+        What `simulate`, `recorded` or `play` returned, with at most 10,000 rows. The program runs a simulation again,
+        with books and with the events of rounds. For a `Play`, the program is not run.
     file : path
-        The page to write, one HTML file that loads nothing.
+        The page to write, one HTML file that loads nothing else.
     title : str, optional
         The title of the page.
     positions : mapping of names to (right, down), optional
-        Where the vertices are drawn. By default a grid is drawn as one, and other graphs by the distances of their
-        vertices.
+        Where the vertices are drawn. By default, a grid is drawn as a grid, and any other graph by the distances of its
+        vertices to the sink.
     program : path, optional
-        The program to ask. By default the one that is found.
+        The program to run. By default, the program that the package finds.
 
     Raises
     ------
@@ -95,8 +95,8 @@ def page(
 
     Notes
     -----
-    Proved: the replies and the books of a simulation. Not proved: chips and messages, which are those of the model in
-    Python, and the page.
+    Proved: the replies and the books of a simulation. Not proved: the page, and its chips and messages, which come from
+    the model in Python.
 
     Examples
     --------
@@ -259,7 +259,7 @@ def recorded(
     ring: int | None = None,
     program: AnyProgram = None,
 ) -> Simulation:
-    """Returns a run on threads, by its trace, as a simulation with books.
+    """Returns a run on threads, rebuilt from its trace, as a simulation with books.
 
     Parameters
     ----------
@@ -274,7 +274,7 @@ def recorded(
     ring : int, optional
         The length of the rings of the run. By default the least of 1, 2, 4 and so on that plays all rows.
     program : path, optional
-        The program to ask. By default the one that is found.
+        The program to run. By default, the program that the package finds.
 
     Returns
     -------
@@ -284,7 +284,7 @@ def recorded(
     Raises
     ------
     Fault
-        The rows fit together in no order (fault 70), or are refused.
+        The rows have no possible order (fault 70), or are refused.
 
     See Also
     --------
@@ -292,8 +292,8 @@ def recorded(
 
     Notes
     -----
-    No trace says when a vertex sent and acknowledged, nor how the rows of different vertices interleave. Such events
-    are added as early as possible.
+    A trace does not say when a vertex sent or acknowledged messages, or how the rows of different vertices interleave.
+    The missing events are added as early as possible.
 
     Proved: the replies and the books. Not proved: which events are added.
 

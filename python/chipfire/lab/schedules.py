@@ -117,13 +117,13 @@ def random_schedule(
     detector : str or type, optional
         A name of `chipfire.detectors.DETECTORS`, or a class.
     most : int, optional
-        After how many events the schedule is cut.
+        The number of events after which the schedule is cut.
 
     Returns
     -------
     Schedule
-        The schedule. Its `ended` is False if it was cut, as when the events of a detector go round for ever. With a
-        wrong detector it may also end because nothing can happen any more.
+        The schedule. Its `ended` is False if the schedule was cut, for example because the events of a detector repeat
+        for ever. With a wrong detector, the schedule may also end because no event is possible.
 
     Raises
     ------
@@ -138,7 +138,7 @@ def random_schedule(
     -----
     The right detector closes the root in each such schedule.
 
-    Nothing of this is proved, and the program is not asked.
+    None of this is proved, and the program is not run.
 
     Examples
     --------
@@ -204,7 +204,7 @@ def play(setting: Game, events: Iterable[Sequence[Any]], detector: Detector = "r
 
     Notes
     -----
-    Nothing of this is proved, and the program is not asked.
+    None of this is proved, and the program is not run.
 
     Examples
     --------
@@ -235,7 +235,7 @@ def shrink(
     events: Iterable[Sequence[Any]],
     is_bad: Callable[[Core], bool] = is_early,
 ) -> Schedule:
-    """Leaves out events of a schedule as long as the game stays bad after it.
+    """Leaves out events of a schedule as long as the game is bad after the rest.
 
     Parameters
     ----------
@@ -251,7 +251,7 @@ def shrink(
     Returns
     -------
     Schedule
-        A schedule after which the game is bad, and no longer so if any one of its events is left out.
+        A schedule after which the game is bad. If any one of its events is left out, the game is not bad.
 
     Raises
     ------
@@ -264,7 +264,7 @@ def shrink(
 
     Notes
     -----
-    Nothing of this is proved.
+    None of this is proved.
 
     Examples
     --------
@@ -303,13 +303,13 @@ def shiviz(setting: Game, events: Iterable[Sequence[Any]], detector: Detector = 
     Returns
     -------
     str
-        Two lines for each event: its part with the vector clock, and what happened. ShiViz reads them with the
-        expression ``(?<host>\S*) (?<clock>{.*})\n(?<event>.*)``.
+        Two lines for each event: the part that makes it, with the vector clock; and what happened. ShiViz reads them
+        with the expression ``(?<host>\S*) (?<clock>{.*})\n(?<event>.*)``.
 
     Raises
     ------
     ValueError
-        The detector has events of its own, whose clocks are not known.
+        The detector defines events, whose clocks are not known.
 
     See Also
     --------
@@ -317,7 +317,7 @@ def shiviz(setting: Game, events: Iterable[Sequence[Any]], detector: Detector = 
 
     Notes
     -----
-    Nothing of this is proved.
+    None of this is proved.
 
     Examples
     --------
@@ -372,7 +372,7 @@ def model_log(
     setting : Setting or Computation
         The game.
     detector : str or type
-        A name of `chipfire.detectors.DETECTORS`, or a class. With events of its own it says in `tells` who sends
+        A name of `chipfire.detectors.DETECTORS`, or a class. If the detector defines events, its `tells` says who sends
         to whom.
     events : iterable of (kind, at, count)
         The schedule.
@@ -380,8 +380,8 @@ def model_log(
     Returns
     -------
     list of (int, str, int)
-        Rows (process, kind, channel). Vertices are processes, and the root is the one after them. It claims that all
-        is over when it first closes.
+        Rows (process, kind, channel). The vertices are processes, and the root is the process after them. The root
+        claims that the computation is over when it first closes.
 
     Raises
     ------
@@ -394,10 +394,11 @@ def model_log(
 
     Notes
     -----
-    Messages of edge e are on channel e, and its acknowledgements go back there. With m edges, those of the root among
-    them, channel m + e has what the tail of e reads of its cells, and 2m + e what it reads of a seal.
+    Messages of edge e are on channel e, and so are their acknowledgements. Let m be the number of edges, including root
+    edges. Then channel m + e has what the tail of edge e reads of the edge's cells, and channel 2m + e what the tail
+    reads of a seal.
 
-    Nothing of this is proved.
+    None of this is proved.
 
     Examples
     --------

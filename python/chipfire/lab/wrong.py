@@ -25,14 +25,14 @@ def wrong_page(
     positions: Mapping[Any, Point] | None = None,
     program: AnyProgram = None,
 ) -> None:
-    """Writes a page of the shortest schedule after which a wrong detector says too early that all is over.
+    """Writes a page of the shortest schedule after which a wrong detector says too early that the computation is over.
 
     Parameters
     ----------
     detector : str or type
         A name of `chipfire.detectors.DETECTORS`, or a class.
     file : path
-        The page to write, one HTML file that loads nothing. It shows the right detector too.
+        The page to write, one HTML file that loads nothing else. It shows the right detector too.
     setting : Setting or Computation, optional
         The game to search. By default the one that `DETECTORS` has for the detector.
     title : str, optional
@@ -40,7 +40,7 @@ def wrong_page(
     positions : mapping of names to (right, down), optional
         Where the vertices are drawn.
     program : path, optional
-        The program to ask. By default the one that is found.
+        The program to run. By default, the program that the package finds.
 
     Raises
     ------
@@ -53,7 +53,7 @@ def wrong_page(
 
     Notes
     -----
-    Nothing of this is proved but the replies of the right detector in a game of chips.
+    None of this is proved except the replies of the right detector in a game of chips.
 
     Examples
     --------

@@ -31,9 +31,9 @@ class Frames:
     limits : tuple of int
         For each picture how often each vertex may fire, or how many chips were dropped.
     reports : tuple of Report
-        The result at each of them.
+        The report of each picture.
     pictures : tuple of Picture
-        The pictures of these results.
+        The pictures of these reports.
     unit : str
         What the limits are called below a picture.
 
@@ -121,11 +121,11 @@ def frames(
         How often each vertex may fire at most, for each picture. By default up to 24 limits are spread evenly from 0
         to the end of the play.
     columns : int, optional
-        How many vertices stand in a row of the pictures, for a graph without a shape.
+        How many vertices are in a row of the pictures, for a graph without a shape.
     palette : str or sequence of str, optional
         The colours, as in `Report.picture`.
     program : path, optional
-        The program to ask. By default the one that is found.
+        The program to run. By default, the program that the package finds.
 
     Returns
     -------
@@ -137,7 +137,7 @@ def frames(
     ValueError
         The graph or the chips are refused, by the package or by the program (`Fault`).
     KeyError
-        A name is that of no vertex.
+        No vertex has a given name.
 
     See Also
     --------
@@ -145,7 +145,7 @@ def frames(
 
     Notes
     -----
-    Each limit is a play of its own.
+    The picture at each limit comes from a separate play.
 
     Proved: the position at each limit, which no order of the firings changes. Not proved: that the pictures show it.
 
@@ -182,7 +182,7 @@ def frames_by_chips(
     palette: Palette | None = None,
     program: AnyProgram = None,
 ) -> Frames:
-    """Returns pictures of what becomes of growing numbers of chips on one vertex.
+    """Returns pictures of growing numbers of chips on one vertex, each stabilized.
 
     Parameters
     ----------
@@ -193,11 +193,11 @@ def frames_by_chips(
     counts : iterable of int
         The numbers of chips, growing.
     columns : int, optional
-        How many vertices stand in a row of the pictures, for a graph without a shape.
+        How many vertices are in a row of the pictures, for a graph without a shape.
     palette : str or sequence of str, optional
         The colours, as in `Report.picture`.
     program : path, optional
-        The program to ask. By default the one that is found.
+        The program to run. By default, the program that the package finds.
 
     Returns
     -------
@@ -209,7 +209,7 @@ def frames_by_chips(
     ValueError
         The graph or the chips are refused, by the package or by the program (`Fault`).
     KeyError
-        A name is that of no vertex.
+        No vertex has a given name.
 
     See Also
     --------

@@ -89,7 +89,7 @@ class Picture:
 
     Notes
     -----
-    Nothing of this is proved.
+    None of this is proved.
 
     Examples
     --------
@@ -285,12 +285,13 @@ class Drawn(AsArray):
         scale: str | None = None,
         positions: Positions | None = None,
     ) -> Picture:
-        """The picture of the chips, or `of` the "odometer": how often each vertex fired. It is tested, and not proved.
+        """The picture of the chips, or `of` the "odometer": how often each vertex fired. Tested, not proved.
 
-        `columns` is how many squares stand in a row; a graph with a shape knows that. `positions` has the places of
-        vertices by names instead, (to the right, down), each of which becomes a square. `palette` names colours,
-        "colours", "greys" or "viridis", or has them, each as `#rrggbb`: of 0, 1, 2 .. chips, and the last one of all
-        larger numbers. With a `scale`, "linear" (of an odometer) or "log", they are spread from 0 to the largest.
+        `columns` is the number of squares in a row; a graph with a shape does not need it. `positions` instead gives
+        the places of vertices by names, as (to the right, down); each vertex becomes a square. `palette` is the name of
+        a palette, "colours", "greys" or "viridis", or a sequence of colours `#rrggbb`: one each for 0, 1, 2 .. chips,
+        and the last for all larger numbers. With a `scale`, "linear" (for an odometer) or "log", the colours are spread
+        from 0 to the largest number.
         """
         values = self._values(of)
         sink = None if self.graph is None else self.graph.sink
@@ -365,8 +366,8 @@ class Drawn(AsArray):
         positions: Positions | None = None,
         bar: bool = False,
     ) -> Any:
-        """Draws the picture by Matplotlib into axes, or into new ones, which it returns. A colour `bar` stands beside
-        it if that is wanted; all else is as in `picture`."""
+        """Draws the picture with Matplotlib into the given axes or into new ones, and returns them. If `bar` is true, a
+        colour bar stands beside the picture. All else is as in `picture`."""
         colors, pyplot = (
             import_optional(f"matplotlib.{it}", "a plot is one of Matplotlib")
             for it in ("colors", "pyplot")

@@ -84,9 +84,9 @@ static inline const char *chipfire_strerror(uint64_t status)
     switch (status) {
     case CHIPFIRE_OK: return "success";
     case CHIPFIRE_FAULT_VERTICES: return "the graph has no vertices, or more than 2097152";
-    case CHIPFIRE_FAULT_SINK: return "the sink is no vertex";
+    case CHIPFIRE_FAULT_SINK: return "the sink is not a vertex";
     case CHIPFIRE_FAULT_EDGE_COUNT: return "the graph has more than 8388608 edges";
-    case CHIPFIRE_FAULT_ENDPOINT: return "an end of the edge is no vertex";
+    case CHIPFIRE_FAULT_ENDPOINT: return "an end of the edge is not a vertex";
     case CHIPFIRE_FAULT_MULT: return "the edge sends no chips, or more than 1048576";
     case CHIPFIRE_FAULT_LOOP: return "the edge is a loop";
     case CHIPFIRE_FAULT_FROM_SINK: return "the edge leaves the sink";

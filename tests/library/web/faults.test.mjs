@@ -31,9 +31,9 @@ function freed() {
 // Each fault, its place, words of its text, and a call that has it.
 const CASES = [
   [1, 0, "no vertices, or more than 2097152", play(Graph.fromEdges(0, 0, []), [])],
-  [2, 0, "the sink is no vertex", play(Graph.fromEdges(3, 3, []))],
+  [2, 0, "the sink is not a vertex", play(Graph.fromEdges(3, 3, []))],
   [3, 0, "more than 8388608 edges", play(edges(MOST_EDGES + 1))],
-  [4, 4, "an end of edge 4 is no vertex", play(withEdge(0, 3))],
+  [4, 4, "an end of edge 4 is not a vertex", play(withEdge(0, 3))],
   [5, 4, "edge 4 sends no chips", play(withEdge(0, 1, 0))],
   [6, 4, "edge 4 is a loop", play(withEdge(1, 1))],
   [7, 4, "edge 4 leaves the sink", play(withEdge(SINK, 1))],

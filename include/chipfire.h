@@ -13,7 +13,8 @@
  *     limit        how often each vertex may fire, 0 to 2^40
  *
  * Each call returns a status: 0 for success, else the number of the first fault, which `chipfire explain NUMBER`
- * explains. On a fault, all arrays are unchanged. *place says where the fault is, or is 0 if the fault has no place.
+ * explains. On a fault, all arrays are unchanged, except on fault 13 of some calls on a pile. *place says where the
+ * fault is, or is 0 if the fault has no place.
  *
  *     1 vertices, 2 sink, 3 number of edges                              no place
  *     4 end of an edge, 5 mult, 6 loop, 7 edge out of the sink           the edge, from 0

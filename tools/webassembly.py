@@ -106,7 +106,7 @@ def faults_for_js():
     rows = {number: row for number, row in faults.rows().items() if number not in OTHERS}
     for number, (name, letters, _, meaning, advice) in rows.items():
         # (a call takes as many as a command with --large)
-        most = re.search(r"With `--large` each command takes\s+up to (\d+)", advice)
+        most = re.search(r"With\s+`--large`\s+each\s+command\s+takes\s+up\s+to\s+(\d+)", advice)
         wrong = re.sub(r"more than \d+", f"more than {most[1]}", meaning) if most else meaning
         letter = letters.strip()
         found[number] = [name, re.sub(rf"\b{letter}\b", "{}", wrong) if letter else wrong]

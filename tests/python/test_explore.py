@@ -35,7 +35,7 @@ HELP = {
     "0": ("right in this game", "is right in all schedules of this game"),
     "2": ("too early", "closes the root too early"),
     "3": ("can miss the end", "can miss the end"),
-    "4": ("too many states", "there are more than `--most`"),
+    "4": ("too many states", "has more than `--most` states"),
     "5": ("reads other vertices", "reads other vertices"),
 }
 #: Refused classes of which a whole search shows it, on a small game here.

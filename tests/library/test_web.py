@@ -273,7 +273,7 @@ class Web(Room):
             tried = {int(it) for it in re.findall(r"(?m)^  \[(\d+), \d+, \"", file.read())}
         with open(library.HEADER, encoding="ascii") as file:
             header = file.read()
-        table = header.partition("all arrays are unchanged.")[2].partition("The first fault")[0]
+        table = header.partition("if the fault has no place.")[2].partition("The first fault")[0]
         listed = re.findall(r"(?<![\^\d])([1-9]\d*) [a-z]", table) + re.findall(r"(?m)^ \*     (4\d)  ", header)
         self.assertEqual(numbers | {47}, {*map(int, listed)})
         self.assertEqual(tried | {90}, numbers)

@@ -396,7 +396,7 @@ class Detector(WithFolder):
         took, early = chipfire.simulate(TRIANGLE, {0: 4}, events).replies
         self.assertEqual((took.kind, took.numbers, took.is_done, took.rule), ("got", (0, 4), True, None))
         self.assertEqual((str(early), early.is_done), ("not-now 15", False))
-        self.assertEqual(early.rule, "something may be acknowledged on it now")
+        self.assertEqual(early.rule, "a message of the edge may be acknowledged now")
         self.assertEqual((took.name, took.why, early.name), (None, None, "Engaged"))
         self.assertEqual(early.why, "the message that engaged the vertex may not be acknowledged yet")
 

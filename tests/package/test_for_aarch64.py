@@ -69,7 +69,7 @@ class Packed(Linked):
         oldest = WITH_PROGRAM.replace("_", ".")
         self.assertEqual(shown, f"Architecture: {DEBIAN}\nDepends: libc6 (>= {oldest})\n")
 
-    def test_lintian_says_what_the_page_explains(self):
+    def test_lintian_says_nothing_unexplained(self):
         self.is_explained(path_of(f"_{DEBIAN}.deb"))
 
     def test_pip_takes_the_wheel_that_fits(self):

@@ -423,7 +423,7 @@ class Detector(WithFolder):
         self.assertEqual(" ".join(map(str, simulation.replies[:4])), "done 0 sent 0 3 done 3 got 0 3")
         self.assertEqual((simulation.report.chips, simulation.report.fired), ((1, 0, 3), (2, 1, 0)))
         late = chipfire.simulate(TRIANGLE, {}, chipfire.Schedule().end().feed(4, 1), fed=True).replies
-        self.assertEqual(late[1].rule, "the end of feeding is not noted")
+        self.assertEqual(late[1].rule, "no event has ended the feeding yet")
         self.assertFalse(chipfire.simulate(TRIANGLE, {}, [], fed=True, rounds=10).root_closed)
 
     def test_an_empty_schedule_of_an_empty_game_closes(self):
